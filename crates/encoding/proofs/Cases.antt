@@ -1,0 +1,66 @@
+-- The starred cases of document 01, all of them, as one check of the definitions by computing.
+use mathlib.Core.Path.{_≡_, refl}
+use mathlib.Core.List.{List, [], _∷_, map}
+use Prim.Native.Nat.{ℕ, zero, suc}
+use Prim.Native.String.{String}
+use Rattle.laws.specs.Text.{bytes}
+use Rattle.settings.specs.Grounds.{Outcome, given, refused}
+use Rattle.settings.specs.Settings.{isCapital, isIn, differentCapitals, goodLetters, capitalOf, placeFrom, isOdd, halfUp, classes, badSize, settingsGround}
+use Rattle.encoding.specs.Words.{mirrorRank, mirror, plain, canonical}
+use Rattle.encoding.specs.Codes.{pairRank, digits, differingPair, shift, oddShift, codeOfCanonical, code}
+use Rattle.encoding.specs.WordsOfCodes.{wordOfPlain, pairOfRank, middleOfCode, wordOf}
+use Rattle.encoding.specs.Calls.{ranksOf, inCapitals, foreignFrom, codeGround, readGround, coding, reading, wordBytes}
+
+-- 0, 1, .. and so on, n numbers from i.
+abbrev numbers : ℕ → ℕ → List ℕ
+numbers i zero = []
+numbers i (suc n) = i ∷ numbers (suc i) n
+
+-- What coding a word answers, and what reading a code writes.
+abbrev codeOf : String → ℕ → ℕ → String → Outcome ℕ
+codeOf letters k mirror word = coding (bytes letters) k mirror (bytes word)
+
+abbrev codesOf : String → ℕ → ℕ → List String → List (Outcome ℕ)
+codesOf letters k mirror words = map (codeOf letters k mirror) words
+
+abbrev wordsOf : String → ℕ → ℕ → ℕ → List (List ℕ)
+wordsOf letters k mirror n = map (wordBytes (bytes letters) k mirror) (numbers 0 n)
+
+-- Each code from 0 up is given to just one of these words.
+abbrev InOrder : String → ℕ → ℕ → ℕ → List String → Type 0
+InOrder letters k mirror n words = (wordsOf letters k mirror n ≡ map bytes words) × (codesOf letters k mirror words ≡ map given (numbers 0 n))
+
+pub starred-cases : record {
+  -- ACGT, reversal, k 6: AAAACA 160, TTGTTT 159.
+  reversal-6 : codesOf "ACGT" 6 0 ("AAAACA" ∷ "TTGTTT" ∷ []) ≡ (given 160 ∷ given 159 ∷ []);
+  -- ACGT, complement: k 5 AACTT 0; k 8 TACGGCTA and TAGCCGTA 1571.
+  complement-5 : codeOf "ACGT" 5 1 "AACTT" ≡ given 0;
+  complement-8 : codesOf "ACGT" 8 1 ("TACGGCTA" ∷ "TAGCCGTA" ∷ []) ≡ (given 1571 ∷ given 1571 ∷ []);
+  -- ACGT, complement, k 1: C and G 0, A and T 1.
+  complement-1 : codesOf "ACGT" 1 1 ("C" ∷ "G" ∷ "A" ∷ "T" ∷ []) ≡ (given 0 ∷ given 0 ∷ given 1 ∷ given 1 ∷ []);
+  -- ACGT, complement, k 2, codes 0 to 9: AT CG GC TA AG AC AA CC CA GA.
+  complement-2 : InOrder "ACGT" 2 1 10 ("AT" ∷ "CG" ∷ "GC" ∷ "TA" ∷ "AG" ∷ "AC" ∷ "AA" ∷ "CC" ∷ "CA" ∷ "GA" ∷ []);
+  -- AB, reversal, k 3, codes 0 to 5: AAA BAB ABA BBB AAB ABB.
+  reversal-3 : InOrder "AB" 3 0 6 ("AAA" ∷ "BAB" ∷ "ABA" ∷ "BBB" ∷ "AAB" ∷ "ABB" ∷ []);
+  -- ABC, reversal, k 2, codes 0 to 5: AA BB CC AB AC BC.
+  reversal-2 : InOrder "ABC" 2 0 6 ("AA" ∷ "BB" ∷ "CC" ∷ "AB" ∷ "AC" ∷ "BC" ∷ []);
+  -- ACGT, complement, k 31: code 2,305,843,009,213,693,951 is G, 29 T, A; the next is refused 8.
+  complement-31 : wordBytes (bytes "ACGT") 31 1 2305843009213693951 ≡ bytes "GTTTTTTTTTTTTTTTTTTTTTTTTTTTTTA";
+  complement-31-code : codeOf "ACGT" 31 1 "GTTTTTTTTTTTTTTTTTTTTTTTTTTTTTA" ≡ given 2305843009213693951;
+  complement-31-read : reading (bytes "ACGT") 31 1 2305843009213693951 31 ≡ given 31;
+  complement-31-next : reading (bytes "ACGT") 31 1 2305843009213693952 31 ≡ refused (8, 0);
+}
+unfolding isCapital isIn differentCapitals goodLetters capitalOf placeFrom isOdd halfUp classes badSize settingsGround mirrorRank mirror plain canonical pairRank digits differingPair shift oddShift codeOfCanonical code wordOfPlain pairOfRank middleOfCode wordOf ranksOf inCapitals foreignFrom codeGround readGround coding reading wordBytes
+starred-cases = record {
+  reversal-6 = refl;
+  complement-5 = refl;
+  complement-8 = refl;
+  complement-1 = refl;
+  complement-2 = (refl, refl);
+  reversal-3 = (refl, refl);
+  reversal-2 = (refl, refl);
+  complement-31 = refl;
+  complement-31-code = refl;
+  complement-31-read = refl;
+  complement-31-next = refl;
+}

@@ -1,0 +1,92 @@
+-- The code of any word, canonical or not, from its ends: a ∷ (u ++ (b ∷ [])) with r the last letter as the mirror shows it. Where a = r, s times the
+-- code within plus a; where a < r or a > r, what the pair and the plain rank of u, or of its mirror, give. No whole words are compared.
+use mathlib.Core.Path.{_≡_, refl, sym, ap, _∙_}
+use mathlib.Core.List.{List, [], _∷_, _++_}
+use Prim.Native.Nat.{ℕ, suc, _+_, _-_, _*_, _/_, _^_, _<_, _≤_, min}
+use native.Mathlib.Decide.{decLe}
+use native.Mathlib.Omega.{arith}
+use lib.ListN.{length}
+use Rattle.settings.specs.Settings.{classes}
+use Rattle.settings.specs.Limits.{EvenUnder}
+use Rattle.encoding.specs.Words.{Mirror, Reversal, Complement, Ranks, mirrorRank, mirror, plain}
+use Rattle.encoding.specs.Codes.{pairRank, code}
+use Rattle.encoding.specs.WordsOfCodes.{middleOfCode}
+use Rattle.encoding.proofs.Ends.{length-ends, mirror-ends, length-mirror, plain-one, Ranks-append}
+use Rattle.encoding.proofs.Canonical.{IsCanonical, mirrorRank-lt, mirrorRank-twice, Ranks-mirror, mirror-mirror, first-lt, last-lt, inner-ranks, differ-canonical, same-canonical}
+use Rattle.encoding.proofs.Recursion.{codeRec, code-is, codeRec-same, codeRec-differ}
+use Rattle.encoding.proofs.Codes.{canonical-low, code-mirror}
+
+module _ (s : ℕ) (m : Mirror) (hs : 1 < s) (he : EvenUnder s m) where
+  -- The code of a canonical word.
+  code-low : (n : ℕ) (w : List ℕ) → length w ≡ n → Ranks s w → IsCanonical s m w → code s m n w ≡ codeRec s m n w
+  unfolding code
+  code-low n w l h g = rw (canonical-low s m w g) (code-is s m hs he n w l h g)
+
+  pub code-none : code s m 0 [] ≡ 0
+  unfolding codeRec mirror plain
+  code-none = code-low 0 [] refl tt (omega arith)
+
+  one-low : (a : ℕ) → a < s → a ≤ mirrorRank s m a → code s m 1 (a ∷ []) ≡ middleOfCode s m a
+  unfolding codeRec mirror
+  one-low a h g = code-low 1 (a ∷ []) refl (h, tt) (omega (arith, plain-one s a, plain-one s (mirrorRank s m a)))
+
+  module _ (n a b : ℕ) (u : List ℕ) (l : length u ≡ n) (h : Ranks s (a ∷ (u ++ (b ∷ [])))) where
+    -- Of a word read backwards.
+    turned-ranks : Ranks s (mirrorRank s m b ∷ (mirror s m u ++ (mirrorRank s m a ∷ [])))
+    turned-ranks =
+        (mirrorRank-lt s m b (last-lt s m n a b u l h), Ranks-append s (mirror s m u) (mirrorRank s m a ∷ []) (Ranks-mirror s m n u l (inner-ranks s m n a b u l h)) (mirrorRank-lt s m a (first-lt s m n a b u l h), tt))
+
+    turned-code : code s m (suc (suc n)) (mirrorRank s m b ∷ (mirror s m u ++ (mirrorRank s m a ∷ []))) ≡ code s m (suc (suc n)) (a ∷ (u ++ (b ∷ [])))
+    turned-code = ap (code s m (suc (suc n))) (sym (mirror-ends s m a b u)) ∙ code-mirror s m hs he (suc (suc n)) (a ∷ (u ++ (b ∷ []))) (length-ends n a b u l) h
+
+  pub code-less : (n a b : ℕ) (u : List ℕ) (l : length u ≡ n) (h : Ranks s (a ∷ (u ++ (b ∷ [])))) → a < mirrorRank s m b
+      → code s m (suc (suc n)) (a ∷ (u ++ (b ∷ []))) ≡ s * classes s m n + pairRank s a (mirrorRank s m b) * s ^ n + plain s u
+  code-less n a b u l h g =
+      code-low (suc (suc n)) (a ∷ (u ++ (b ∷ []))) (length-ends n a b u l) h (differ-canonical s m n a b u l h g)
+      ∙ codeRec-differ s m n a b u l (λ e. omega arith)
+
+  pub code-more : (n a b : ℕ) (u : List ℕ) (l : length u ≡ n) (h : Ranks s (a ∷ (u ++ (b ∷ [])))) → mirrorRank s m b < a
+      → code s m (suc (suc n)) (a ∷ (u ++ (b ∷ []))) ≡ s * classes s m n + pairRank s (mirrorRank s m b) a * s ^ n + plain s (mirror s m u)
+  code-more n a b u l h g =
+      let tt-a : mirrorRank s m (mirrorRank s m a) ≡ a = mirrorRank-twice s m a (first-lt s m n a b u l h) in
+      sym (turned-code n a b u l h)
+      ∙ code-less n (mirrorRank s m b) (mirrorRank s m a) (mirror s m u) (length-mirror s m u ∙ l) (turned-ranks n a b u l h) (rw tt-a g)
+      ∙ rw tt-a
+
+  same-low : (n a b : ℕ) (u : List ℕ) (l : length u ≡ n) (h : Ranks s (a ∷ (u ++ (b ∷ [])))) → a ≡ mirrorRank s m b → IsCanonical s m u
+      → code s m (suc (suc n)) (a ∷ (u ++ (b ∷ []))) ≡ s * code s m n u + a
+  same-low n a b u l h e g =
+      code-low (suc (suc n)) (a ∷ (u ++ (b ∷ []))) (length-ends n a b u l) h (same-canonical s m n a b u l h e g)
+      ∙ codeRec-same s m n a b u l e
+      ∙ rw (code-low n u l (inner-ranks s m n a b u l h) g, e)
+
+  pub code-same : (n a b : ℕ) (u : List ℕ) (l : length u ≡ n) (h : Ranks s (a ∷ (u ++ (b ∷ [])))) → a ≡ mirrorRank s m b
+      → code s m (suc (suc n)) (a ∷ (u ++ (b ∷ []))) ≡ s * code s m n u + a
+  code-same n a b u l h e =
+      elim (decLe (plain s u) (plain s (mirror s m u))) as (λ _. code s m (suc (suc n)) (a ∷ (u ++ (b ∷ []))) ≡ s * code s m n u + a) [
+        | yes p ↦ same-low n a b u l h e p
+        | no np ↦
+            let hu = inner-ranks s m n a b u l h in
+            let tt-a : mirrorRank s m (mirrorRank s m a) ≡ a = mirrorRank-twice s m a (first-lt s m n a b u l h) in
+            sym (turned-code n a b u l h)
+            ∙ same-low n (mirrorRank s m b) (mirrorRank s m a) (mirror s m u) (length-mirror s m u ∙ l) (turned-ranks n a b u l h) (sym e ∙ sym tt-a) (rw (mirror-mirror s m n u l hu) (omega arith))
+            ∙ rw (code-mirror s m hs he n u l hu, sym e)
+      ]
+
+-- The code of one letter: under complement the lower of the letter and its mirror counts, from the middle down.
+unfoldable pub middleCode : ℕ → Mirror → ℕ → ℕ
+middleCode s Reversal a = a
+middleCode s Complement a = s / 2 - 1 - min a (s - 1 - a)
+
+other-one : (s : ℕ) (hs : 1 < s) (he : EvenUnder s Complement) (a : ℕ) → a < s → s - 1 - a < a → code s Complement 1 (mirror s Complement (a ∷ [])) ≡ s / 2 - 1 - (s - 1 - a)
+unfolding mirror mirrorRank middleOfCode
+other-one s hs he a h g = one-low s Complement hs he (s - 1 - a) (omega arith) (omega arith)
+
+pub code-one : (s : ℕ) (m : Mirror) (hs : 1 < s) (he : EvenUnder s m) (a : ℕ) → a < s → code s m 1 (a ∷ []) ≡ middleCode s m a
+unfolding middleCode middleOfCode mirrorRank
+code-one s Reversal hs he a h = one-low s Reversal hs he a h (omega arith)
+code-one s Complement hs he a h =
+    elim (decLe a (s - 1 - a)) as (λ _. code s Complement 1 (a ∷ []) ≡ s / 2 - 1 - min a (s - 1 - a)) [
+      | yes p ↦ one-low s Complement hs he a h p ∙ omega arith
+      | no np ↦ sym (code-mirror s Complement hs he 1 (a ∷ []) refl (h, tt)) ∙ other-one s hs he a h (omega arith) ∙ omega arith
+    ]

@@ -1,0 +1,93 @@
+-- The rank of a pair l < r < s is a bijection onto the numbers below s(s - 1)/2, and `pairOfRank` its inverse.
+use mathlib.Core.Path.{_≡_, refl, ap, _∙_, subst⁻¹}
+use Prim.Native.Nat.{ℕ, zero, suc, _+_, _-_, _*_, _/_, _<_, _≤_}
+use native.Mathlib.Decide.{decLe}
+use native.Mathlib.Omega.{arith}
+use borrow.Author.Tests.{le-leb, lt-leb}
+use Rattle.laws.proofs.Powers.{pairCount, square}
+use Rattle.encoding.specs.Codes.{pairRank}
+use Rattle.encoding.specs.WordsOfCodes.{pairOfRank}
+
+-- The rank with no subtraction and no division.
+pub rank-twice : (s l r : ℕ) → l < r → r < s → 2 * pairRank s l r + l * l + 3 * l + 2 ≡ 2 * (l * s) + 2 * r
+unfolding pairRank
+rank-twice s l r h g =
+    let d : ℕ = 2 * s - 3 - l in
+    let e : d + l + 3 ≡ 2 * s = omega arith in
+    let f : l * d + l * l + 3 * l ≡ 2 * (l * s) = omega (arith, ap (λ (x : ℕ). l * x) e) in
+    let q : l * l ≡ l + 2 * pairCount l = square l in
+    half (l * d) (l * s) l (pairCount l) r (omega arith) (omega arith) q
+  where
+    half : (x y l₀ t r₀ : ℕ) → x + l₀ * l₀ + 3 * l₀ ≡ 2 * y → 0 < r₀ → l₀ * l₀ ≡ l₀ + 2 * t → 2 * (x / 2 + r₀ - 1) + l₀ * l₀ + 3 * l₀ + 2 ≡ 2 * y + 2 * r₀
+    half x y l₀ t r₀ e p q = omega arith
+
+pub rank-zero : (s r : ℕ) → 0 < r → r < s → pairRank s 0 r ≡ r - 1
+rank-zero s r h g = omega (arith, rank-twice s 0 r h g)
+
+pub rank-suc : (t l r : ℕ) → l < r → r ≤ t → pairRank (suc (suc t)) (suc l) (suc r) ≡ suc t + pairRank (suc t) l r
+rank-suc t l r h g = omega (arith, rank-twice (suc (suc t)) (suc l) (suc r) (omega arith) (omega arith), rank-twice (suc t) l r h (omega arith))
+
+pub rank-lt : (t l r : ℕ) → l < r → r ≤ t → pairRank (suc t) l r < pairCount (suc t)
+unfolding pairCount
+rank-lt zero l r h g = absurd (omega arith)
+rank-lt (suc t) zero r h g = omega (arith, rank-zero (suc (suc t)) r h (omega arith))
+rank-lt (suc t) (suc l) zero h g = absurd (omega arith)
+rank-lt (suc t) (suc l) (suc r) h g = omega (arith, rank-suc t l r (omega arith) (omega arith), rank-lt t l r (omega arith) (omega arith))
+
+-- The pair of a rank.
+low-rank : (t R : ℕ) → R < suc t → pairOfRank (suc t) R ≡ (0, suc R)
+unfolding pairOfRank
+low-rank t R h = rw (le-leb (suc R) (suc t) h)
+
+high-rank : (t R : ℕ) → pairOfRank (suc t) (suc t + R) ≡ (suc (pairOfRank t R .0), suc (pairOfRank t R .1))
+unfolding pairOfRank
+high-rank t R =
+    let e : suc t + R - suc t ≡ R = omega arith in
+    rw (lt-leb (suc (suc t + R)) (suc t) (omega arith), e)
+
+pub ofRank-rank : (t l r : ℕ) → l < r → r ≤ t → pairOfRank t (pairRank (suc t) l r) ≡ (l, r)
+ofRank-rank zero l r h g = absurd (omega arith)
+ofRank-rank (suc t) zero zero h g = absurd (omega arith)
+ofRank-rank (suc t) zero (suc r) h g =
+    let e : pairRank (suc (suc t)) 0 (suc r) ≡ r = omega (arith, rank-zero (suc (suc t)) (suc r) h (omega arith)) in
+    rw e (low-rank t r (omega arith))
+ofRank-rank (suc t) (suc l) zero h g = absurd (omega arith)
+ofRank-rank (suc t) (suc l) (suc r) h g =
+    rw (rank-suc t l r (omega arith) (omega arith), high-rank t (pairRank (suc t) l r), ofRank-rank t l r (omega arith) (omega arith))
+
+-- What is to be shown of the pair of a rank.
+pub record IsPair (t R : ℕ) (p : ℕ × ℕ) : Type 0 where
+  pub below : p .0 < p .1
+  pub within : p .1 ≤ t
+  pub rank : pairRank (suc t) (p .0) (p .1) ≡ R
+
+pub ofRank-pair : (t R : ℕ) → R < pairCount (suc t) → IsPair t R (pairOfRank t R)
+unfolding pairCount
+ofRank-pair zero R h = absurd (omega arith)
+ofRank-pair (suc t) R h =
+    elim (decLe (suc t) R) as (λ d. IsPair (suc t) R (pairOfRank (suc t) R)) [
+      | yes p ↦ high (R - suc t) (omega arith) (ofRank-pair t (R - suc t) (omega arith))
+      | no np ↦ subst⁻¹ (λ (x : ℕ × ℕ). IsPair (suc t) R x) (low-rank t R (omega arith))
+          (record { below = omega arith; within = omega arith; rank = omega (arith, rank-zero (suc (suc t)) (suc R) (omega arith) (omega arith)) })
+    ]
+  where
+    high : (R′ : ℕ) → R ≡ suc t + R′ → IsPair t R′ (pairOfRank t R′) → IsPair (suc t) R (pairOfRank (suc t) R)
+    high R′ e g =
+        rw (e, high-rank t R′)
+        (record { below = omega (arith, g .below); within = omega (arith, g .within); rank = rank-suc t (pairOfRank t R′ .0) (pairOfRank t R′ .1) (g .below) (g .within) ∙ ap (λ (x : ℕ). suc t + x) (g .rank) })
+
+-- The same over s letters.
+pub below-pairs : (s l r : ℕ) → l < r → r < s → pairRank s l r < pairCount s
+below-pairs zero l r h g = absurd (omega arith)
+below-pairs (suc t) l r h g = rank-lt t l r h (omega arith)
+
+pub pair-of-rank : (s l r : ℕ) → l < r → r < s → pairOfRank (s - 1) (pairRank s l r) ≡ (l, r)
+pair-of-rank zero l r h g = absurd (omega arith)
+pair-of-rank (suc t) l r h g = let e : suc t - 1 ≡ t = omega arith in rw e (ofRank-rank t l r h (omega arith))
+
+pub rank-of-pair : (s R : ℕ) → R < pairCount s → IsPair (s - 1) R (pairOfRank (s - 1) R) × (pairRank s (pairOfRank (s - 1) R .0) (pairOfRank (s - 1) R .1) ≡ R)
+unfolding pairCount
+rank-of-pair zero R h = absurd (omega arith)
+rank-of-pair (suc t) R h =
+    let e : suc t - 1 ≡ t = omega arith in
+    rw e (ofRank-pair t R h, ofRank-pair t R h .rank)

@@ -1,0 +1,97 @@
+-- What is claimed of the encoding, for every number of letters, every k and both mirrors within the limits (`Limits`: 2 to 16 letters, an even
+-- number of them under complement, s^k at most 2^62). Each theorem stands below its statement in words; docs/CLAIMS.md cites them by name.
+use mathlib.Core.Path.{_≡_, refl, sym, ap, _∙_}
+use mathlib.Core.Bool.{true, false}
+use mathlib.Core.List.{List}
+use mathlib.Core.Logic.{_↔_, _⊎_, ⊎-elim}
+use Prim.Native.Nat.{ℕ, _/_, _%_, _^_, _<_, _≤_}
+use native.Mathlib.Omega.{arith}
+use Rattle.settings.specs.Settings.{halfUp, isOdd, classes}
+use Rattle.settings.specs.Limits.{Limits}
+use Rattle.encoding.specs.Words.{Mirror, Reversal, Complement, IsWord, mirror, canonical, Palindrome}
+use Rattle.encoding.specs.Codes.{code}
+use Rattle.encoding.specs.WordsOfCodes.{WordOfCode, wordOf}
+use Rattle.encoding.specs.Needs.{palindromes}
+use Rattle.encoding.proofs.Ends.{length-mirror}
+use Rattle.encoding.proofs.ClassNumbers.{classes-palindromes, even-palindromes, odd-palindromes-none}
+use Rattle.encoding.proofs.Canonical.{Ranks-mirror, mirror-mirror}
+use Rattle.encoding.proofs.Codes.{is-canonical, canonical-mirror, code-below, wordOf-code, code-wordOf, length-wordOf, ranks-wordOf, canonical-wordOf, code-mirror, code-injective}
+use Rattle.encoding.proofs.Palindromes.{palindromes-lowest}
+
+module _ (s : ℕ) (m : Mirror) (k : ℕ) (within : Limits s m k) where
+  -- ---- words and classes
+
+  -- The mirror of a word is a word, and the mirror of the mirror is the word.
+  pub mirror-is-word : (w : List ℕ) → IsWord s k w → IsWord s k (mirror s m w)
+  mirror-is-word w i = record { letters = length-mirror s m w ∙ i .letters; ranks = Ranks-mirror s m k w (i .letters) (i .ranks) }
+
+  pub mirror-of-mirror : (w : List ℕ) → IsWord s k w → mirror s m (mirror s m w) ≡ w
+  mirror-of-mirror w i = mirror-mirror s m k w (i .letters) (i .ranks)
+
+  -- The canonical word of a word is the word or its mirror, and the mirror has the same one.
+  pub canonical-is-one : (w : List ℕ) → IsWord s k w → (canonical s m w ≡ w) ⊎ (canonical s m w ≡ mirror s m w)
+  canonical-is-one w i = is-canonical s m k w (i .letters) (i .ranks) .one
+
+  pub canonical-of-mirror : (w : List ℕ) → IsWord s k w → canonical s m (mirror s m w) ≡ canonical s m w
+  canonical-of-mirror w i = canonical-mirror s m k w (within .two) (i .letters) (i .ranks)
+
+  -- ---- codes and classes are in bijection, and the codes fill [0, classes)
+
+  -- The code of every word is below the number of classes.
+  pub code-below-classes : (w : List ℕ) → IsWord s k w → code s m k w < classes s m k
+  code-below-classes w i = code-below s m (within .two) (within .even) k w (i .letters) (i .ranks)
+
+  -- Two words have the same code exactly when they are equal or mirrors of each other.
+  pub same-code : (v w : List ℕ) → IsWord s k v → IsWord s k w → (code s m k v ≡ code s m k w) ↔ ((v ≡ w) ⊎ (v ≡ mirror s m w))
+  same-code v w i j = (
+    code-injective s m (within .two) (within .even) k v w (i .letters) (j .letters) (i .ranks) (j .ranks),
+    ⊎-elim (λ e. ap (code s m k) e) (λ e. ap (code s m k) e ∙ code-mirror s m (within .two) (within .even) k w (j .letters) (j .ranks)),
+  )
+
+  -- Every code below the number of classes is some class's: the word of the code is a canonical word of k letters and has that code.
+  pub word-of-code : (q : ℕ) → q < classes s m k → WordOfCode s m k q (wordOf s m k q)
+  word-of-code q below =
+      record {
+        word =
+            record {
+              letters = length-wordOf s m (within .two) (within .even) k q below;
+              ranks = ranks-wordOf s m (within .two) (within .even) k q below;
+            };
+        own-canonical = canonical-wordOf s m (within .two) (within .even) k q below;
+        own-code = code-wordOf s m (within .two) (within .even) k q below;
+      }
+
+  -- The word of a word's code is its canonical word.
+  pub word-of-own-code : (w : List ℕ) → IsWord s k w → wordOf s m k (code s m k w) ≡ canonical s m w
+  word-of-own-code w i = wordOf-code s m (within .two) (within .even) k w (i .letters) (i .ranks)
+
+  -- No other word is the canonical word of a code.
+  pub word-of-code-unique : (q : ℕ) (w : List ℕ) → WordOfCode s m k q w → w ≡ wordOf s m k q
+  word-of-code-unique q w of = sym (of .own-canonical) ∙ sym (word-of-own-code w (of .word)) ∙ ap (wordOf s m k) (of .own-code)
+
+-- ---- palindromes have the lowest codes
+
+-- Under reversal exactly the s^c lowest codes, c = k/2 rounded up, are those of palindromes.
+pub reversal-palindromes : (s k : ℕ) → Limits s Reversal k → (w : List ℕ) → IsWord s k w → Palindrome s Reversal w ↔ (code s Reversal k w < s ^ halfUp k)
+unfolding palindromes
+reversal-palindromes s k within w i = palindromes-lowest s Reversal (within .two) (within .even) k w (i .letters) (i .ranks)
+
+pub reversal-palindromes-fit : (s k : ℕ) → Limits s Reversal k → s ^ halfUp k ≤ classes s Reversal k
+unfolding palindromes
+reversal-palindromes-fit s k within = classes-palindromes s Reversal k (within .two) (within .even)
+
+-- Under complement with even k exactly the s^(k/2) lowest.
+pub complement-palindromes : (s k : ℕ) → Limits s Complement k → isOdd k ≡ false → (w : List ℕ) → IsWord s k w
+    → Palindrome s Complement w ↔ (code s Complement k w < s ^ (k / 2))
+complement-palindromes s k within even w i =
+    let p = palindromes-lowest s Complement (within .two) (within .even) k w (i .letters) (i .ranks) in
+    rw (even-palindromes s k even) at p
+
+pub complement-palindromes-fit : (s k : ℕ) → Limits s Complement k → isOdd k ≡ false → s ^ (k / 2) ≤ classes s Complement k
+complement-palindromes-fit s k within even = rw (even-palindromes s k even) at (classes-palindromes s Complement k (within .two) (within .even))
+
+-- Under complement with odd k there is none.
+pub complement-no-palindromes : (s k : ℕ) → Limits s Complement k → isOdd k ≡ true → (w : List ℕ) → IsWord s k w → Palindrome s Complement w → ⊥
+complement-no-palindromes s k within odd w i p =
+    let q = palindromes-lowest s Complement (within .two) (within .even) k w (i .letters) (i .ranks) .0 p in
+    omega (arith, odd-palindromes-none s k odd)

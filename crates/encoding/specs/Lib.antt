@@ -1,0 +1,6 @@
+-- What a reader must believe of the encoding, in the order of document 01; and, last, what only private functions and laws speak of.
+pub mod Words
+pub mod Codes
+pub mod WordsOfCodes
+pub mod Calls
+pub mod Needs

@@ -1,0 +1,26 @@
+-- What private functions and laws speak of, and no claim cites: the number of equal outer pairs, where the scan of a word stops, and the
+-- number of palindromes.
+use mathlib.Core.Bool.{cond}
+use mathlib.Core.List.{List}
+use Prim.Native.Nat.{ℕ, zero, suc, _*_, _^_}
+use lib.ListN.{getD, take, drop}
+use lib.Dec.{eqb, leb}
+use Rattle.settings.specs.Settings.{halfUp, isOdd}
+use Rattle.encoding.specs.Words.{Mirror, Reversal, Complement, mirrorRank}
+
+-- The number of outer pairs that are equal, up to the first that differs or the middle.
+unfoldable pub equalPairs : ℕ → Mirror → ℕ → List ℕ → ℕ
+equalPairs s m zero w = 0
+equalPairs s m (suc zero) w = 0
+equalPairs s m (suc (suc n)) w =
+    let inner : ℕ = equalPairs s m n (take n (drop 1 w)) in
+    cond (eqb (getD w 0 0) (mirrorRank s m (getD w (suc n) 0))) (suc inner) 0
+
+-- The pair, from 1, that differs in a word of k letters with p equal outer pairs; 0 where p is the middle.
+unfoldable pub pairAfter : ℕ → ℕ → ℕ
+pairAfter k p = cond (leb (2 * suc p) k) (suc p) 0
+
+-- The number of palindromes of n letters: what stands beside s^n in twice the number of classes.
+unfoldable pub palindromes : ℕ → Mirror → ℕ → ℕ
+palindromes s Reversal n = s ^ halfUp n
+palindromes s Complement n = cond (isOdd n) 0 (s ^ halfUp n)

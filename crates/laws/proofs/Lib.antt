@@ -1,0 +1,4 @@
+-- Laws of numbers and lists.
+pub mod Powers
+pub mod DigitWindows
+pub mod Lists

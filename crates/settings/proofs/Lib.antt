@@ -1,0 +1,7 @@
+-- The laws of the settings, from the plainest up.
+pub mod Outcomes
+pub mod Powers
+pub mod Ranks
+pub mod Letters
+pub mod ClassCount
+pub mod SettingsGrounds

@@ -1,0 +1,64 @@
+-- `settings::check` meets its contract.
+use native.Mathlib.Omega.{arith}
+use mathlib.Core.Path.{_≡_, refl, sym, ap, _∙_}
+use Prim.Native.Nat.{ℕ}
+use borrow.Author.Tests.{not-true, not-false}
+use Rattle.settings.proofs.Letters.{good-at-least, good-at-most}
+use Rattle.settings.proofs.SettingsGrounds.{ground-1, ground-2, ground-3, rest-0, rest-1}
+use borrow.Author.Needs.{needs}
+use Rattle.settings.proofs.check.Statement.{statement}
+use Rattle.settings.proofs.check.Tie as tie
+
+good-letters-requires : tie.Need-good-letters-requires
+good-letters-requires c κs = search needs
+
+returns : tie.Need-returns
+returns c = ground-1 _ _ _ (sym (not-true _ (c .if1 .taken)) ∙ c .before .good-letters .ensures)
+
+sized-requires : tie.Need-sized-requires
+sized-requires c κs =
+    let good = sym (not-false _ (c .before .if1 .left)) ∙ c .before .before .good-letters .ensures in
+    (good-at-least _ good, good-at-most _ good)
+
+sized-requires-2 : tie.Need-sized-requires-2
+sized-requires-2 c κs =
+    let i1 = c .before .before in
+    let good = sym (not-false _ (i1 .if1 .left)) ∙ i1 .before .good-letters .ensures in
+    (good-at-least _ good, good-at-most _ good)
+
+returns-2 : tie.Need-returns-2
+returns-2 c =
+    let i1 = c .before .before in
+    let good = sym (not-false _ (i1 .if1 .left)) ∙ i1 .before .good-letters .ensures in
+    c .sized .ensures ∙ rest-0 _ _ _ good (c .before .match .keys1)
+
+returns-3 : tie.Need-returns-3
+returns-3 c =
+    let i1 = c .before .before in
+    let good = sym (not-false _ (i1 .if1 .left)) ∙ i1 .before .good-letters .ensures in
+    ground-3 _ _ _ good (c .before .match .keys2) (c .if2 .taken)
+
+returns-4 : tie.Need-returns-4
+returns-4 c =
+    let i1 = c .before .before .before in
+    let good = sym (not-false _ (i1 .if1 .left)) ∙ i1 .before .good-letters .ensures in
+    c .sized2 .ensures ∙ rest-1 _ _ _ good (c .before .before .match .keys2) (c .before .if2 .left)
+
+returns-5 : tie.Need-returns-5
+returns-5 c =
+    let i1 = c .before in
+    let good = sym (not-false _ (i1 .if1 .left)) ∙ i1 .before .good-letters .ensures in
+    ground-2 _ _ _ good (omega (arith, c .match .rest))
+
+pub check-spec : {M : Type 1} → statement M
+check-spec =
+    tie.close
+    (tie.spec
+    good-letters-requires
+    returns
+    sized-requires
+    sized-requires-2
+    returns-2
+    returns-3
+    returns-4
+    returns-5)

@@ -1,0 +1,71 @@
+-- Document 01, "Grounds for refusing": how a call reports a refusal, and the order in which grounds are tried.
+use Prim.Native.Nat.{ℕ}
+use mathlib.Core.Path.{_≡_}
+use mathlib.Core.Bool.{Bool, true, false, cond}
+use mathlib.Core.Option.{Option, none, some}
+use mathlib.Core.List.{List, _++_}
+use lib.ListN.{length, drop}
+use lib.Dec.{ltb}
+use Rattle.settings.specs.declared.Refusal.{Refusal}
+use Rattle.settings.specs.declared.Refusal.the-variants.{BadLetters, BadMirror, OddComplement, BadK, WrongLength, TooLarge, ShortBuffer, NoSuchCode, ForeignByte, StrayByte, EarlyLetter, CountsFull, NoSurveyLine, LongInput}
+
+-- "Each .. gives its number and P": the number, then P.
+abbrev pub Ground : Type 0
+Ground = ℕ × ℕ
+
+-- The number and P of each refusal; P "is 0 unless stated".
+abbrev pub groundOf : Refusal → Ground
+groundOf BadLetters = (1, 0)
+groundOf BadMirror = (2, 0)
+groundOf OddComplement = (3, 0)
+groundOf BadK = (4, 0)
+groundOf WrongLength = (5, 0)
+groundOf TooLarge = (6, 0)
+groundOf (ShortBuffer needed) = (7, needed)
+groundOf NoSuchCode = (8, 0)
+groundOf (ForeignByte place) = (9, place)
+groundOf (StrayByte offset) = (10, offset)
+groundOf (EarlyLetter offset) = (11, offset)
+groundOf CountsFull = (12, 0)
+groundOf NoSurveyLine = (13, 0)
+groundOf LongInput = (14, 0)
+
+-- What a call answers: its value, or the ground for refusing it.
+pub data Outcome (A : Type 0) : Type 0 where
+  given : A → Outcome A
+  refused : Ground → Outcome A
+
+-- Ground n with P = 0, if it applies.
+abbrev pub ground : ℕ → Bool → Option Ground
+ground n true = some (n, 0)
+ground n false = none
+
+-- Ground n with the first place where it is met as P, if there is one.
+abbrev pub groundAt : ℕ → Option ℕ → Option Ground
+groundAt n none = none
+groundAt n (some p) = some (n, p)
+
+-- "Checks go in number order": the first ground, and only if it does not apply the later ones.
+infixr 20 _orElse_
+abbrev pub _orElse_ : Option Ground → Option Ground → Option Ground
+none orElse later = later
+some g orElse later = some g
+
+-- The value of a call to which no ground applies; otherwise the first ground that does.
+abbrev pub outcome : {A : Type 0} → Option Ground → A → Outcome A
+outcome none a = given a
+outcome (some g) a = refused g
+
+-- Ground 7, "a lent buffer too short; P is the length needed": that length, where the buffer has less room.
+abbrev pub tooShort : (room needed : ℕ) → Option ℕ
+tooShort room needed = cond (ltb room needed) (some needed) none
+
+-- A lent buffer after a call that overwrites it from its start: the new places and then the old ones; all as before where the call is refused.
+abbrev pub overwritten : Option Ground → (places old : List ℕ) → List ℕ
+overwritten none places old = places ++ drop (length places) old
+overwritten (some g) places old = old
+
+-- "A call that overwrites a lent buffer from its start .. answers how many places it set, and changes no later one."
+pub record Overwrites (g : Option Ground) (count : ℕ) (places old : List ℕ) (answer : Outcome ℕ) (new : List ℕ) : Type 0 where
+  pub answers : answer ≡ outcome g count
+  pub leaves : new ≡ overwritten g places old

@@ -1,0 +1,206 @@
+// The settings of a survey: letters, k and mirror. Their check, a byte's rank, powers of s, the number of classes; and the
+// enum of all refusals, which every crate above answers with.
+ghost use mathlib.Core.Path.{_≡_};
+ghost use Prim.Native.Nat.{_^_, _<_, _≤_, min};
+ghost use lib.ListN.{length, drop};
+ghost use Rattle.settings.specs.Grounds.{ground, outcome};
+ghost use Rattle.settings.specs.Settings.{classes, capitalOf, rankIn, isIn, goodLetters, settingsGround, badSize, settingsFor, settingsOf, ofChecked, ofRank};
+
+// What the other strand makes of a word: read backwards, or read backwards with each rank i replaced by s - 1 - i.
+pub enum Mirror {
+    Reversal,
+    Complement,
+}
+
+// The grounds for refusing, in the order of their numbers 1 to 14. One that has a P other than 0 holds it.
+pub enum Refusal {
+    BadLetters,
+    BadMirror,
+    OddComplement,
+    BadK,
+    WrongLength,
+    TooLarge,
+    ShortBuffer(usize),
+    NoSuchCode,
+    ForeignByte(usize),
+    StrayByte(usize),
+    EarlyLetter(usize),
+    CountsFull,
+    NoSurveyLine,
+    LongInput,
+}
+
+// Settings to which no ground applies: the number of letters, k, the mirror, the number of words s^k and of classes.
+pub struct Settings {
+    pub s: u64,
+    pub k: usize,
+    pub mirror: Mirror,
+    pub words: u64,
+    pub classes: u64,
+}
+
+pub enum Checked {
+    Good(Settings),
+    Bad(Refusal),
+}
+
+pub enum Rank {
+    At(usize),
+    NoLetter,
+}
+
+// A small letter's capital; any other byte itself.
+pub fn capital(b: u8) -> u8
+    ensures { λ r. ⌜ r ≡ capitalOf b ⌝ }
+{
+    if b >= 97 {
+        if b <= 122 {
+            return b - 32;
+        }
+    }
+    b
+}
+
+// The rank of a byte among the settings' letters.
+pub fn rank_of(letters: &[u8], b: u8) -> Rank
+    ensures { λ r. ⌜ ofRank r ≡ rankIn (now (letters .entry)) b ⌝ }
+{
+    let u = capital(b);
+    let mut i = 0;
+    while i < letters.len() {
+        if letters[i] == u {
+            return Rank::At(i);
+        }
+        i += 1;
+    }
+    Rank::NoLetter
+}
+
+// Whether b stands in letters at the place from or later.
+fn is_in(letters: &[u8], from: usize, b: u8) -> bool
+    ensures { λ r. ⌜ r ≡ isIn b (drop from (now (letters .entry))) ⌝ }
+{
+    let mut i = from;
+    while i < letters.len() {
+        if letters[i] == b {
+            return true;
+        }
+        i += 1;
+    }
+    false
+}
+
+// Whether the letters are 2 to 16 different capitals. A longer slice is refused by its length alone.
+fn good_letters(letters: &[u8]) -> bool
+    ensures { λ r. ⌜ r ≡ goodLetters (now (letters .entry)) ⌝ }
+{
+    if letters.len() < 2 {
+        return false;
+    }
+    if letters.len() > 16 {
+        return false;
+    }
+    let mut i: usize = 0;
+    while i < letters.len() {
+        let b = letters[i];
+        if b < 65 {
+            return false;
+        }
+        if b > 90 {
+            return false;
+        }
+        if is_in(letters, i + 1, b) {
+            return false;
+        }
+        i += 1;
+    }
+    true
+}
+
+// s to the k, or 2^62 + 1 where the power is above 2^62. As s is at least 2 the loop makes at most 63 turns, whatever k is:
+// its measure in the proof is 63 less the turns made.
+pub fn power(s: u64, k: usize) -> u64
+    requires { ⌜ 1 < s ⌝ }
+    ensures { λ r. ⌜ r ≡ min (s ^ k) 4611686018427387905 ⌝ }
+{
+    let mut p: u64 = 1;
+    let mut i: usize = 0;
+    while i < k {
+        if p > 4611686018427387904 / s {
+            return 4611686018427387905;
+        }
+        p *= s;
+        i += 1;
+    }
+    p
+}
+
+// The number of classes.
+pub fn class_count(s: u64, m: Mirror, k: usize) -> u64
+    requires { ⌜ (1 < s) × (s ^ k ≤ 2 ^ 62) ⌝ }
+    ensures { λ r. ⌜ r ≡ classes s m k ⌝ }
+{
+    let words = power(s, k);
+    let half = power(s, k / 2);
+    match m {
+        Mirror::Reversal => {
+            if k % 2 == 1 {
+                (words + half * s) / 2
+            } else {
+                (words + half) / 2
+            }
+        }
+        Mirror::Complement => {
+            if k % 2 == 1 {
+                words / 2
+            } else {
+                (words + half) / 2
+            }
+        }
+    }
+}
+
+// The settings of n letters, or ground 4.
+fn sized(n: usize, k: usize, m: Mirror) -> Checked
+    requires { ⌜ (2 ≤ n) × (n ≤ 16) ⌝ }
+    ensures { λ r. ⌜ ofChecked r ≡ outcome (ground 4 (badSize n k)) (settingsFor n k m) ⌝ }
+{
+    if k == 0 {
+        return Checked::Bad(Refusal::BadK);
+    }
+    let s = n as u64;
+    let words = power(s, k);
+    if words > 4611686018427387904 {
+        return Checked::Bad(Refusal::BadK);
+    }
+    let classes = class_count(s, m, k);
+    Checked::Good(Settings {
+        s,
+        k,
+        mirror: m,
+        words,
+        classes,
+    })
+}
+
+// The settings, or the first of the grounds 1 to 4 that applies.
+pub fn check(letters: &[u8], k: usize, mirror: u64) -> Checked
+    ensures { λ r.
+        ⌜ ofChecked r ≡ outcome (settingsGround (now (letters .entry)) k mirror) (settingsOf (now (letters .entry)) k mirror) ⌝ }
+{
+    if !good_letters(letters) {
+        return Checked::Bad(Refusal::BadLetters);
+    }
+    let n = letters.len();
+    match mirror {
+        0 => sized(n, k, Mirror::Reversal),
+        1 => {
+            if n % 2 == 1 {
+                Checked::Bad(Refusal::OddComplement)
+            } else {
+                sized(n, k, Mirror::Complement)
+            }
+        }
+        _ => Checked::Bad(Refusal::BadMirror),
+    }
+}
