@@ -19,8 +19,11 @@ rankOrZero none = 0
 rankOrZero (some rank) = rank
 
 -- The ranks of a word's bytes. A byte that is no letter stands as rank 0, which no answer shows: ground 9 refuses its word.
+abbrev pub rankAt : List ℕ → ℕ → ℕ
+rankAt letters b = rankOrZero (rankIn letters b)
+
 unfoldable pub ranksOf : List ℕ → List ℕ → List ℕ
-ranksOf letters word = map (λ (b : ℕ). rankOrZero (rankIn letters b)) word
+ranksOf letters word = map (rankAt letters) word
 
 -- A word of ranks "in capitals": the settings' letters are capitals.
 unfoldable pub inCapitals : List ℕ → List ℕ → List ℕ
@@ -70,9 +73,12 @@ pickGround letters k mirror first second = codeGround letters k mirror first orE
 unfoldable pub coding : (letters : List ℕ) (k mirror : ℕ) (word : List ℕ) → Outcome ℕ
 coding letters k m word = outcome (codeGround letters k m word) (code (length letters) (mirrorOf m) k (ranksOf letters word))
 
--- Reading a code answers how many bytes it wrote, which is k.
-unfoldable pub reading : (letters : List ℕ) (k mirror q room : ℕ) → Outcome ℕ
+-- Reading and mirroring answer how many bytes they wrote, which is k.
+abbrev pub reading : (letters : List ℕ) (k mirror q room : ℕ) → Outcome ℕ
 reading letters k m q room = outcome (readGround letters k m q room) k
+
+abbrev pub mirroring : (letters : List ℕ) (k mirror : ℕ) (word : List ℕ) (room : ℕ) → Outcome ℕ
+mirroring letters k m word room = outcome (mirrorGround letters k m word room) k
 
 -- "A code below the number of classes gives its canonical word, in capitals"
 unfoldable pub wordBytes : (letters : List ℕ) (k mirror q : ℕ) → List ℕ

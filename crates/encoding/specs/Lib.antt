@@ -3,4 +3,5 @@ pub mod Words
 pub mod Codes
 pub mod WordsOfCodes
 pub mod Calls
+pub mod Answers
 pub mod Needs

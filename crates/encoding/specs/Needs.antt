@@ -1,12 +1,18 @@
--- What private functions and laws speak of, and no claim cites: the number of equal outer pairs, where the scan of a word stops, and the
--- number of palindromes.
-use mathlib.Core.Bool.{cond}
+-- What private functions ask of each other and laws speak of, and no claim cites: where the scan of a word stops, the number of palindromes, and
+-- words and codes that fit 62 bits.
+use mathlib.Core.Path.{_≡_}
+use mathlib.Core.Bool.{Bool, true, false, cond}
+use mathlib.Core.Option.{Option, none, some}
 use mathlib.Core.List.{List}
-use Prim.Native.Nat.{ℕ, zero, suc, _*_, _^_}
-use lib.ListN.{getD, take, drop}
+use Prim.Native.Nat.{ℕ, zero, suc, _+_, _-_, _*_, _^_, _<_, _≤_}
+use lib.ListN.{length, getD, take, drop}
 use lib.Dec.{eqb, leb}
-use Rattle.settings.specs.Settings.{halfUp, isOdd}
-use Rattle.encoding.specs.Words.{Mirror, Reversal, Complement, mirrorRank}
+use Rattle.settings.specs.Grounds.{Ground}
+use Rattle.settings.specs.Settings.{halfUp, isOdd, classes}
+use Rattle.settings.specs.Limits.{EvenUnder, Limits}
+use Rattle.encoding.specs.Words.{Mirror, Reversal, Complement, Ranks, mirrorRank, mirror, plain}
+
+-- ---- the scan
 
 -- The number of outer pairs that are equal, up to the first that differs or the middle.
 unfoldable pub equalPairs : ℕ → Mirror → ℕ → List ℕ → ℕ
@@ -20,7 +26,48 @@ equalPairs s m (suc (suc n)) w =
 unfoldable pub pairAfter : ℕ → ℕ → ℕ
 pairAfter k p = cond (leb (2 * suc p) k) (suc p) 0
 
+-- ---- palindromes
+
 -- The number of palindromes of n letters: what stands beside s^n in twice the number of classes.
 unfoldable pub palindromes : ℕ → Mirror → ℕ → ℕ
 palindromes s Reversal n = s ^ halfUp n
 palindromes s Complement n = cond (isOdd n) 0 (s ^ halfUp n)
+
+-- ---- what fits
+
+-- A word of ranks whose plain rank fits.
+pub record FitWord (s : ℕ) (w : List ℕ) : Type 0 where
+  pub two : 1 < s
+  pub ranks : Ranks s w
+  pub small : s ^ length w ≤ 2 ^ 62
+
+-- A canonical word whose code fits.
+pub record FitCanonical (s : ℕ) (m : Mirror) (w : List ℕ) : Type 0 where
+  pub word : FitWord s w
+  pub few : s ≤ 16
+  pub even : EvenUnder s m
+  pub least : plain s w ≤ plain s (mirror s m w)
+
+-- A word of two letters or more, with a pair of ranks l < r for its ends.
+pub record FitDiffering (s : ℕ) (w : List ℕ) (l r : ℕ) : Type 0 where
+  pub word : FitWord s w
+  pub few : s ≤ 16
+  pub long : 2 ≤ length w
+  pub less : l < r
+  pub rank : r < s
+
+-- R is below s(s - 1)/2, so it is the rank of a pair.
+abbrev pub RankOfPair : ℕ → ℕ → Type 0
+RankOfPair s R = (1 < s) × (2 * R + s < s * s) × (s ≤ 16)
+
+-- A code of a word as long as w that is q above those of the words with equal outer letters.
+pub record FitHighCode (s : ℕ) (m : Mirror) (w : List ℕ) (q : ℕ) : Type 0 where
+  pub limits : Limits s m (length w)
+  pub long : 2 ≤ length w
+  pub below : s * classes s m (length w - 2) + q < classes s m (length w)
+
+-- ---- grounds
+
+abbrev pub noneApplies : Option Ground → Bool
+noneApplies none = true
+noneApplies (some g) = false

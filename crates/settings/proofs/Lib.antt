@@ -1,5 +1,6 @@
 -- The laws of the settings, from the plainest up.
 pub mod Outcomes
+pub mod Places
 pub mod Powers
 pub mod Ranks
 pub mod Letters

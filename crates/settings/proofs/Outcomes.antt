@@ -1,11 +1,13 @@
 -- How answers with grounds compose: a refusal stands whatever grounds come after it, and what is given means that no ground applies.
--- From the definitions of `outcome` and `orElse` alone.
-use mathlib.Core.Path.{_≡_, refl, ap}
+-- A refused call leaves its buffer as it was. From the definitions of specs/Grounds.antt alone.
+use mathlib.Core.Path.{_≡_, ap, refl}
+use mathlib.Core.Bool.{Bool, false, true}
+use mathlib.Core.Option.{Option, none, some}
+use mathlib.Core.List.{List, _++_}
 use Prim.Native.Nat.{ℕ}
 use native.Mathlib.Omega.{arith}
-use mathlib.Core.Bool.{Bool, true, false}
-use mathlib.Core.Option.{Option, none, some}
-use Rattle.settings.specs.Grounds.{Ground, Outcome, given, refused, ground, groundAt, outcome, _orElse_}
+use lib.ListN.{drop, length}
+use Rattle.settings.specs.Grounds.{refused, Ground, outcome, _orElse_, given, ground, groundAt, Overwrites}
 
 -- A call refused by the grounds g is refused alike by g with more grounds after it, whatever value is at stake.
 pub refused-on : {A B : Type 0} (f : Ground) (a : A) (b : B) (g later : Option Ground) → refused f ≡ outcome g a → refused f ≡ outcome (g orElse later) b
@@ -38,3 +40,28 @@ test-fails n false e = refl
 pub nowhere-met : (n : ℕ) (o : Option ℕ) → groundAt n o ≡ none → o ≡ none
 nowhere-met n none e = refl
 nowhere-met n (some p) e = absurd (let z : _≡_ {A = ℕ} 0 1 = cc in omega arith)
+
+-- ---- the answer at one ground, and where none applies
+
+pub refused-by : {A : Type 0} (f : Ground) (a : A) (g : Option Ground) → g ≡ some f → refused f ≡ outcome g a
+refused-by f a g e = rw e
+
+pub given-by : {A : Type 0} (x a : A) (g : Option Ground) → g ≡ none → x ≡ a → given x ≡ outcome g a
+given-by x a g e h = rw (e, h)
+
+-- ---- calls that overwrite a lent buffer from its start
+
+module _ (g : Option Ground) (count : ℕ) (places old : List ℕ) where
+  -- Refused at a ground, the buffer is as it was.
+  pub kept-by : (f : Ground) → g ≡ some f → Overwrites g count places old (refused f) old
+  kept-by f e = record { answers = refused-by f count g e; leaves = rw e }
+
+  -- Where no ground applies the places stand at the buffer's start, and the later ones are as they were.
+  pub set-by : (new : List ℕ) → g ≡ none → new ≡ places ++ drop (length places) old → Overwrites g count places old (given count) new
+  set-by new e h = record { answers = given-by count count g e refl; leaves = rw e h }
+
+-- Refused by the first grounds g, whatever grounds come after.
+pub kept-on : {A : Type 0} (f : Ground) (a : A) (g later : Option Ground) (count : ℕ) (places old : List ℕ) → refused f ≡ outcome g a
+    → Overwrites (g orElse later) count places old (refused f) old
+kept-on f a none later count places old e = absurd (let z : _≡_ {A = ℕ} 0 1 = cc in omega arith)
+kept-on f a (some g) later count places old e = let same : f ≡ g = cc in record { answers = ap refused same; leaves = refl }

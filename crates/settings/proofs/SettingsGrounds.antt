@@ -1,19 +1,20 @@
 -- The grounds 1 to 4 one after the other, as `check` meets them; and what is known of settings to which none of them applies.
-use mathlib.Core.Path.{_≡_, refl, sym}
-use Prim.Native.Nat.{ℕ, zero, suc, _%_, _^_, _<_, _≤_}
-use native.Mathlib.Omega.{arith}
-use mathlib.Core.Bool.{Bool, true, false, not, _&&_, _||_}
+use mathlib.Core.Path.{_≡_, refl, sym, ap}
+use mathlib.Core.Bool.{false, true, not, Bool, _&&_, _||_}
+use mathlib.Core.Option.{none}
 use mathlib.Core.List.{List}
-use mathlib.Core.Option.{Option, none, some}
+use Prim.Native.Nat.{ℕ, _<_, _%_, _≤_, _^_, zero, suc}
+use native.Mathlib.Omega.{arith}
+use borrow.Author.Tests.{lt-ltb, eq-eqb, ne-eqb, not-false, ltb-false, eqb-false}
+use lib.Dec.{ltb, eqb}
 use lib.ListN.{length}
-use lib.Dec.{eqb, ltb}
-use borrow.Author.Tests.{eq-eqb, ne-eqb, lt-ltb, ltb-false, eqb-false, not-false}
-use Rattle.settings.specs.declared.Mirror.the-variants.{Reversal, Complement}
-use Rattle.settings.specs.Grounds.{Ground, Outcome, refused, ground, outcome, _orElse_}
-use Rattle.settings.specs.Settings.{isOdd, goodLetters, badSize, settingsGround, mirrorOf, settingsFor, settingsOf}
+use Rattle.settings.specs.Grounds.{ground, refused, outcome, given}
 use Rattle.settings.specs.Limits.{EvenUnder, Limits}
+use Rattle.settings.specs.Settings.{goodLetters, settingsGround, settingsOf, isOdd, badSize, settingsFor, mirrorOf, classes}
 use Rattle.settings.proofs.Letters.{good-at-least, good-at-most}
-use Rattle.settings.proofs.Outcomes.{first-none, later-none, test-fails}
+use Rattle.settings.proofs.Outcomes.{later-none, test-fails, first-none, passed}
+use Rattle.settings.specs.declared.Mirror.the-variants.{Reversal, Complement}
+use Rattle.settings.specs.declared.Settings.{Settings}
 
 module _ (l : List ℕ) (k m : ℕ) where
   pub ground-1 : false ≡ goodLetters l → refused (1, 0) ≡ outcome (settingsGround l k m) (settingsOf l k m)
@@ -83,3 +84,21 @@ pub limits : (l : List ℕ) (k m : ℕ) → settingsGround l k m ≡ none → Li
 limits l k m e =
     let g = good-settings l k m e in
     record { two = g .two; few = g .few; even = even-under (length l) m (g .low) (g .even); small = g .small }
+
+-- What a call knows of settings that the check gave.
+pub record Known (l : List ℕ) (k m : ℕ) (st : Settings) : Type 0 where
+  pub none-applies : settingsGround l k m ≡ none
+  pub mirror-is : st .mirror ≡ mirrorOf m
+  pub classes-are : st .classes ≡ classes (length l) (mirrorOf m) k
+  pub within : Limits (length l) (st .mirror) k
+
+pub known : (l : List ℕ) (k m : ℕ) (st : Settings) → given st ≡ outcome (settingsGround l k m) (settingsOf l k m) → Known l k m st
+known l k m st e =
+    let p = passed (settingsOf l k m) (settingsGround l k m) e in
+    let mirror-is : st .mirror ≡ mirrorOf m = ap (λ (x : Settings). x .mirror) (p .value) in
+    record {
+      none-applies = p .none-applies;
+      mirror-is = mirror-is;
+      classes-are = ap (λ (x : Settings). x .classes) (p .value);
+      within = rw mirror-is (limits l k m (p .none-applies));
+    }

@@ -1,0 +1,108 @@
+-- `encoding::mirror_of` meets its contract: a ground at each test, with the buffer as it was, and else the mirror.
+use mathlib.Core.Path.{sym, ap, _∙_}
+use native.Mathlib.Omega.{arith}
+use borrow.Author.Needs.{needs}
+use Rattle.settings.specs.Settings.{ofChecked}
+use Rattle.encoding.specs.Answers.{ofPlace}
+use Rattle.encoding.proofs.CodeAnswers.{word-within}
+use Rattle.encoding.proofs.MirrorAnswers.{mirror-bad-length, mirror-into-short, mirror-bad-settings, mirror-bad-byte, mirror-written-out}
+use Rattle.encoding.proofs.mirror_of.Statement.{statement}
+use Rattle.encoding.proofs.mirror_of.Tie as tie
+
+check-requires : tie.Need-check-requires
+check-requires c κs = search needs
+
+enum-known-f : tie.Need-enum-known-f
+enum-known-f c = search needs
+
+enum-known-st : tie.Need-enum-known-st
+enum-known-st c = search needs
+
+returns : tie.Need-returns
+returns c =
+    let st = c .before .before in
+    let check = st .before .before in
+    let a = check .before .before .before .before .args in
+    let e = sym (ap ofChecked (st .st .given .1)) ∙ check .check .ensures in
+    mirror-bad-length (a .letters .now) (a .k) (a .mirror) (a .word .now) (a .out .now) _ e (c .if1 .taken)
+
+returns-2 : tie.Need-returns-2
+returns-2 c =
+    let if1 = c .before in
+    let st = if1 .before .before in
+    let check = st .before .before in
+    let a = check .before .before .before .before .args in
+    let e = sym (ap ofChecked (st .st .given .1)) ∙ check .check .ensures in
+    mirror-into-short (a .letters .now) (a .k) (a .mirror) (a .word .now) (a .out .now) _ e (if1 .if1 .left) (c .if2 .taken)
+
+foreign-at-requires : tie.Need-foreign-at-requires
+foreign-at-requires c κs = search needs
+
+enum-known-i : tie.Need-enum-known-i
+enum-known-i c = search needs
+
+enum-told : tie.Need-enum-told
+enum-told c = search needs
+
+write-mirror-requires : tie.Need-write-mirror-requires
+write-mirror-requires c κs =
+    let if2 = c .before .before .before .before in
+    let if1 = if2 .before in
+    let st = if1 .before .before in
+    let check = st .before .before in
+    let a = check .before .before .before .before .args in
+    let e = sym (ap ofChecked (st .st .given .1)) ∙ check .check .ensures in
+    (word-within (a .letters .now) (a .k) (a .mirror) (a .word .now) _ e (if1 .if1 .left), omega (arith, if1 .if1 .left, if2 .if2 .left))
+
+returns-3 : tie.Need-returns-3
+returns-3 c =
+    let f = c .before in
+    let check = f .before .before in
+    let a = check .before .before .before .before .args in
+    mirror-bad-settings (a .letters .now) (a .k) (a .mirror) (a .word .now) (a .out .now) _ (sym (ap ofChecked (f .f .given .1)) ∙ check .check .ensures)
+
+returns-4 : tie.Need-returns-4
+returns-4 c =
+    let i = c .before in
+    let foreign = i .before .before in
+    let if1 = foreign .before .before in
+    let st = if1 .before .before in
+    let check = st .before .before in
+    let a = check .before .before .before .before .args in
+    let e = sym (ap ofChecked (st .st .given .1)) ∙ check .check .ensures in
+    mirror-bad-byte (a .letters .now) (a .k) (a .mirror) (a .word .now) (a .out .now) _ e (if1 .if1 .left) (foreign .before .if2 .left) _
+    (sym (foreign .foreign-at .ensures) ∙ ap ofPlace (i .i .given .1))
+
+same-length : tie.Need-same-length
+same-length c = search needs
+
+returns-5 : tie.Need-returns-5
+returns-5 c =
+    let written = c .before .before in
+    let told = written .before .before in
+    let foreign = told .before .before in
+    let if1 = foreign .before .before in
+    let st = if1 .before .before in
+    let check = st .before .before in
+    let a = check .before .before .before .before .args in
+    let e = sym (ap ofChecked (st .st .given .1)) ∙ check .check .ensures in
+    mirror-written-out (a .letters .now) (a .k) (a .mirror) (a .word .now) (a .out .now) _ e (if1 .if1 .left) (foreign .before .if2 .left)
+    (sym (foreign .foreign-at .ensures) ∙ ap ofPlace (told .enum-told .given .1)) _ (written .write-mirror .ensures)
+
+pub mirror-of-spec : {M : Type 1} → statement M
+mirror-of-spec =
+    tie.close
+    (tie.spec
+    check-requires
+    enum-known-f
+    enum-known-st
+    returns
+    returns-2
+    foreign-at-requires
+    enum-known-i
+    enum-told
+    write-mirror-requires
+    returns-3
+    returns-4
+    same-length
+    returns-5)

@@ -1,0 +1,108 @@
+-- `encoding::to_code::differing_value` meets its contract.
+use mathlib.Core.Path.{subst⁻¹}
+use Prim.Native.Nat.{_-_, _<_, ℕ}
+use native.Mathlib.Omega.{arith}
+use borrow.Author.Needs.{needs}
+use lib.ListN.{length}
+use Rattle.laws.proofs.Powers.{pairCount}
+use Rattle.encoding.proofs.DigitValues.{first-small, high-small, high-is, differing-small, differing-is}
+use Rattle.encoding.proofs.Pairs.{below-pairs}
+use Rattle.encoding.proofs.WordParts.{inner-of}
+use Rattle.encoding.proofs.to_code.differing_value.Statement.{statement}
+use Rattle.encoding.proofs.to_code.differing_value.Tie as tie
+
+pair-rank-requires : tie.Need-pair-rank-requires
+pair-rank-requires c κs = search needs
+
+div-high : tie.Need-div-high
+div-high c = search needs
+
+add-high : tie.Need-add-high
+add-high c =
+    let a = c .before .before .args in
+    let pre = c .before .before .pre in
+    let R = c .pair-rank .result in
+    let lt : R < pairCount (a .s) = subst⁻¹ (λ (x : ℕ). x < pairCount (a .s)) (c .pair-rank .ensures) (below-pairs (a .s) (a .l) (a .r) (pre .less) (pre .rank)) in
+    omega (arith, first-small (a .s) R (pre .word .two) (pre .few) lt, high-small (a .s) R (pre .word .two) (pre .few) lt)
+
+mul-high : tie.Need-mul-high
+mul-high c =
+    let a = c .before .before .args in
+    let pre = c .before .before .pre in
+    let R = c .pair-rank .result in
+    let lt : R < pairCount (a .s) = subst⁻¹ (λ (x : ℕ). x < pairCount (a .s)) (c .pair-rank .ensures) (below-pairs (a .s) (a .l) (a .r) (pre .less) (pre .rank)) in
+    omega (arith, high-is (a .s) R (pre .word .two) (pre .few) lt, high-small (a .s) R (pre .word .two) (pre .few) lt)
+
+rem-high : tie.Need-rem-high
+rem-high c = search needs
+
+add-high-2 : tie.Need-add-high-2
+add-high-2 c =
+    let a = c .before .before .args in
+    let pre = c .before .before .pre in
+    let R = c .pair-rank .result in
+    let lt : R < pairCount (a .s) = subst⁻¹ (λ (x : ℕ). x < pairCount (a .s)) (c .pair-rank .ensures) (below-pairs (a .s) (a .l) (a .r) (pre .less) (pre .rank)) in
+    omega (arith, high-is (a .s) R (pre .word .two) (pre .few) lt, high-small (a .s) R (pre .word .two) (pre .few) lt)
+
+sub-plain-rank : tie.Need-sub-plain-rank
+sub-plain-rank c = search needs
+
+sub-plain-rank-2 : tie.Need-sub-plain-rank-2
+sub-plain-rank-2 c = search needs
+
+part-plain-rank-start : tie.Need-part-plain-rank-start
+part-plain-rank-start c = search needs
+
+part-plain-rank-end : tie.Need-part-plain-rank-end
+part-plain-rank-end c = search needs
+
+plain-rank-requires : tie.Need-plain-rank-requires
+plain-rank-requires c κs =
+    let start = c .before .before .before in
+    let w = start .pre .word in
+    inner-of (start .args .s) (start .args .w .now) (w .two) (w .ranks) (w .small) (length (start .args .w .now) - 1 - 1) (omega arith)
+
+sub-power : tie.Need-sub-power
+sub-power c = search needs
+
+power-requires : tie.Need-power-requires
+power-requires c κs = search needs
+
+mul-result : tie.Need-mul-result
+mul-result c =
+    let pr = c .before .before .before in
+    let start = pr .before .before in
+    omega (arith, differing-small (start .args .s) (start .args .w .now) (start .args .l) (start .args .r) (start .pre) _ _ _ (pr .pair-rank .ensures) (c .power .ensures) (c .before .plain-rank .ensures))
+
+add-result : tie.Need-add-result
+add-result c =
+    let pr = c .before .before .before .before in
+    let start = pr .before .before in
+    omega (arith, differing-small (start .args .s) (start .args .w .now) (start .args .l) (start .args .r) (start .pre) _ _ _ (pr .pair-rank .ensures) (c .before .power .ensures) (c .before .before .plain-rank .ensures))
+
+returns : tie.Need-returns
+returns c =
+    let pr = c .before .before .before .before in
+    let start = pr .before .before in
+    differing-is (start .args .s) (start .args .w .now) (start .args .l) (start .args .r) (start .pre) _ _ _ (pr .pair-rank .ensures) (c .before .power .ensures) (c .before .before .plain-rank .ensures)
+
+pub differing-value-spec : {M : Type 1} → statement M
+differing-value-spec =
+    tie.close
+    (tie.spec
+    pair-rank-requires
+    div-high
+    add-high
+    mul-high
+    rem-high
+    add-high-2
+    sub-plain-rank
+    sub-plain-rank-2
+    part-plain-rank-start
+    part-plain-rank-end
+    plain-rank-requires
+    sub-power
+    power-requires
+    mul-result
+    add-result
+    returns)

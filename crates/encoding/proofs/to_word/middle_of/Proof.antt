@@ -1,0 +1,38 @@
+-- `encoding::to_word::middle_of` meets its contract.
+use mathlib.Core.Path.{subst, ap, sym}
+use Prim.Native.Nat.{_<_}
+use native.Mathlib.Omega.{arith}
+use borrow.Author.Needs.{needs}
+use Rattle.settings.specs.Settings.{classes}
+use Rattle.encoding.specs.WordsOfCodes.{middleOfCode}
+use Rattle.encoding.proofs.ReadSteps.{middle-lt}
+use Rattle.encoding.proofs.to_word.middle_of.Statement.{statement}
+use Rattle.encoding.proofs.to_word.middle_of.Tie as tie
+
+enum-told : tie.Need-enum-told
+enum-told c = search needs
+
+enum-told-2 : tie.Need-enum-told-2
+enum-told-2 c = search needs
+
+sub-result : tie.Need-sub-result
+sub-result c =
+    let start = c .before .before in
+    omega (arith, middle-lt (start .args .s) (start .args .q) (subst (λ m. start .args .q < classes (start .args .s) m 1) (c .enum-told2 .given .1) (start .pre .0)))
+
+sub-result-2 : tie.Need-sub-result-2
+sub-result-2 c =
+    let start = c .before .before in
+    omega (arith, middle-lt (start .args .s) (start .args .q) (subst (λ m. start .args .q < classes (start .args .s) m 1) (c .enum-told2 .given .1) (start .pre .0)))
+
+returns : tie.Need-returns
+unfolding middleOfCode
+returns c = ap (λ m. middleOfCode (c .before .before .args .s) m (c .before .before .args .q)) (sym (c .enum-told .given .1))
+
+returns-2 : tie.Need-returns-2
+unfolding middleOfCode
+returns-2 c = ap (λ m. middleOfCode (c .before .before .args .s) m (c .before .before .args .q)) (sym (c .enum-told2 .given .1))
+
+pub middle-of-spec : {M : Type 1} → statement M
+middle-of-spec =
+    tie.close (tie.spec enum-told enum-told-2 sub-result sub-result-2 returns returns-2)

@@ -1,0 +1,2 @@
+-- What the proofs of the C calls cite.
+pub mod Refusals

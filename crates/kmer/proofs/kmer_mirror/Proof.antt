@@ -1,0 +1,55 @@
+-- `kmer::kmer_mirror` meets its contract.
+use mathlib.Core.Path.{_≡_, refl, sym, ap, _∙_}
+use Rattle.encoding.specs.Answers.{ofFilling}
+use Rattle.kmer.specs.Returned.{returnedWithPlace}
+use Rattle.kmer.proofs.Refusals.{refused-small}
+use borrow.Author.Needs.{needs}
+use Rattle.kmer.proofs.kmer_mirror.Statement.{statement}
+use Rattle.kmer.proofs.kmer_mirror.Tie as tie
+
+mirror-of-requires : tie.Need-mirror-of-requires
+mirror-of-requires c κs = search needs
+
+enum-known-n : tie.Need-enum-known-n
+enum-known-n c = search needs
+
+enum-known-f : tie.Need-enum-known-f
+enum-known-f c = search needs
+
+refused-at-requires : tie.Need-refused-at-requires
+refused-at-requires c κs =
+    let f = c .before in
+    let made = f .before .before .before .before in
+    let a = made .before .before .before .before .before .args in
+    refused-small (a .letters .now) (a .k) (a .mirror) (a .word .now) _ (f .f .given .0 .0) (sym (ap ofFilling (f .f .given .1)) ∙ made .mirror-of .ensures .answers)
+
+same-length : tie.Need-same-length
+same-length c = search needs
+
+returns : tie.Need-returns
+returns c =
+    let n = c .before in
+    let wo = n .before .before .before .before in
+    (ap returnedWithPlace (sym (ap ofFilling (n .n .given .1)) ∙ wo .mirror-of .ensures .answers), wo .mirror-of .ensures .leaves)
+
+same-length-2 : tie.Need-same-length-2
+same-length-2 c = search needs
+
+returns-2 : tie.Need-returns-2
+returns-2 c =
+    let f = c .before .before in
+    let wo = f .before .before .before .before in
+    (c .refused-at .ensures ∙ ap returnedWithPlace (sym (ap ofFilling (f .f .given .1)) ∙ wo .mirror-of .ensures .answers), wo .mirror-of .ensures .leaves)
+
+pub kmer-mirror-spec : {M : Type 1} → statement M
+kmer-mirror-spec =
+    tie.close
+    (tie.spec
+    mirror-of-requires
+    enum-known-n
+    enum-known-f
+    refused-at-requires
+    same-length
+    returns
+    same-length-2
+    returns-2)

@@ -1,0 +1,18 @@
+-- `kmer::refused` meets its contract.
+use native.Mathlib.Omega.{arith}
+use Rattle.kmer.proofs.Refusals.{number-small}
+use borrow.Author.Needs.{needs}
+use Rattle.kmer.proofs.refused.Statement.{statement}
+use Rattle.kmer.proofs.refused.Tie as tie
+
+number-requires : tie.Need-number-requires
+number-requires c κs = search needs
+
+add-result : tie.Need-add-result
+add-result c = omega (arith, number-small (c .before .args .f), c .number .ensures)
+
+returns : tie.Need-returns
+returns c = search needs
+
+pub refused-spec : {M : Type 1} → statement M
+refused-spec = tie.close (tie.spec number-requires add-result returns)

@@ -1,0 +1,13 @@
+-- What the C calls return as one 64-bit number: document 01, "Listing and counter program", last paragraph.
+use Prim.Native.Nat.{ℕ, _+_, _*_, _^_}
+use Rattle.settings.specs.Grounds.{Outcome, given, refused}
+
+-- "Coding returns the code, reading returns k, and either returns 2^63 plus the number when refused, without P."
+abbrev pub returned : Outcome ℕ → ℕ
+returned (given n) = n
+returned (refused g) = 2 ^ 63 + g .0
+
+-- Our further calls return P as well: 2^63 + P * 256 + the number.
+abbrev pub returnedWithPlace : Outcome ℕ → ℕ
+returnedWithPlace (given n) = n
+returnedWithPlace (refused g) = 2 ^ 63 + g .1 * 256 + g .0

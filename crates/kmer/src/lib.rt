@@ -1,0 +1,110 @@
+// The calls for C programs (include/kmer.h): word coding, code reading and mirroring, on numbers and byte slices.
+ghost use mathlib.Core.Path.{_≡_};
+ghost use Prim.Native.Nat.{_+_, _*_, _^_, _<_};
+ghost use lib.ListN.{length};
+ghost use Rattle.settings.specs.Grounds.{groundOf, overwritten};
+ghost use Rattle.encoding.specs.Calls.{coding, reading, readGround, wordBytes, mirroring, mirrorGround, mirrorBytes};
+ghost use Rattle.kmer.specs.Returned.{returned, returnedWithPlace};
+use encoding::Code;
+use encoding::Coding;
+use encoding::Filling;
+use settings::Refusal;
+
+// The number of a refusal.
+fn number(f: Refusal) -> u64
+    ensures { λ r. ⌜ r ≡ groundOf f .0 ⌝ }
+{
+    match f {
+        Refusal::BadLetters => 1,
+        Refusal::BadMirror => 2,
+        Refusal::OddComplement => 3,
+        Refusal::BadK => 4,
+        Refusal::WrongLength => 5,
+        Refusal::TooLarge => 6,
+        Refusal::ShortBuffer(_) => 7,
+        Refusal::NoSuchCode => 8,
+        Refusal::ForeignByte(_) => 9,
+        Refusal::StrayByte(_) => 10,
+        Refusal::EarlyLetter(_) => 11,
+        Refusal::CountsFull => 12,
+        Refusal::NoSurveyLine => 13,
+        Refusal::LongInput => 14,
+    }
+}
+
+// The P of a refusal.
+fn place(f: Refusal) -> u64
+    ensures { λ r. ⌜ r ≡ groundOf f .1 ⌝ }
+{
+    match f {
+        Refusal::BadLetters => 0,
+        Refusal::BadMirror => 0,
+        Refusal::OddComplement => 0,
+        Refusal::BadK => 0,
+        Refusal::WrongLength => 0,
+        Refusal::TooLarge => 0,
+        Refusal::ShortBuffer(needed) => needed as u64,
+        Refusal::NoSuchCode => 0,
+        Refusal::ForeignByte(at) => at as u64,
+        Refusal::StrayByte(at) => at as u64,
+        Refusal::EarlyLetter(at) => at as u64,
+        Refusal::CountsFull => 0,
+        Refusal::NoSurveyLine => 0,
+        Refusal::LongInput => 0,
+    }
+}
+
+// 2^63 plus the number.
+fn refused(f: Refusal) -> u64
+    ensures { λ r. ⌜ r ≡ 2 ^ 63 + groundOf f .0 ⌝ }
+{
+    9223372036854775808 + number(f)
+}
+
+// 2^63 plus P * 256 plus the number; every P is below 2^32.
+fn refused_at(f: Refusal) -> u64
+    requires { ⌜ groundOf f .1 < 2 ^ 32 ⌝ }
+    ensures { λ r. ⌜ r ≡ 2 ^ 63 + groundOf f .1 * 256 + groundOf f .0 ⌝ }
+{
+    9223372036854775808 + place(f) * 256 + number(f)
+}
+
+#[no_mangle]
+pub extern "C" fn kmer_code(letters: &[u8], k: usize, mirror: u64, word: &[u8]) -> u64
+    ensures { λ r. ⌜ r ≡ returned (coding (now (letters .entry)) k mirror (now (word .entry))) ⌝ }
+{
+    match encoding::code_of(letters, k, mirror, word) {
+        Coding::Coded(q) => q.0,
+        Coding::Refused(f) => refused(f),
+    }
+}
+
+#[no_mangle]
+pub extern "C" fn kmer_word(letters: &[u8], k: usize, mirror: u64, code: u64, out: &mut [u8]) -> u64
+    ensures { λ r.
+        ⌜ (r ≡ returned (reading (now (letters .entry)) k mirror code (length (now (out .entry)))))
+        × (now (out .exit) ≡ overwritten (readGround (now (letters .entry)) k mirror code (length (now (out .entry)))) (wordBytes (now (letters .entry)) k mirror code) (now (out .entry))) ⌝ }
+{
+    match encoding::word_of(letters, k, mirror, Code(code), out) {
+        Filling::Filled(n) => n as u64,
+        Filling::Unfilled(f) => refused(f),
+    }
+}
+
+#[no_mangle]
+pub extern "C" fn kmer_mirror(
+    letters: &[u8],
+    k: usize,
+    mirror: u64,
+    word: &[u8],
+    out: &mut [u8],
+) -> u64
+    ensures { λ r.
+        ⌜ (r ≡ returnedWithPlace (mirroring (now (letters .entry)) k mirror (now (word .entry)) (length (now (out .entry)))))
+        × (now (out .exit) ≡ overwritten (mirrorGround (now (letters .entry)) k mirror (now (word .entry)) (length (now (out .entry)))) (mirrorBytes (now (letters .entry)) mirror (now (word .entry))) (now (out .entry))) ⌝ }
+{
+    match encoding::mirror_of(letters, k, mirror, word, out) {
+        Filling::Filled(n) => n as u64,
+        Filling::Unfilled(f) => refused_at(f),
+    }
+}

@@ -1,0 +1,113 @@
+/*
+ * kmer.h: the C calls of libkmer.a, which code k-mers, read codes back and mirror k-mers.
+ *
+ * A class is a word of k letters together with its mirror. The calls work with the minimal encoding
+ * of canonical k-mers (Wittler 2023): each class has one code, from 0 to the number of classes less 1.
+ * A plain rank (the ranks of the letters read as base-s digits) counts all words, a code counts
+ * classes: neither may be used for the other.
+ *
+ * Settings, the first arguments of every call:
+ *   letters, letters_len  the alphabet: 2 to 16 different capitals A to Z, one byte each, no end byte.
+ *                         A letter's rank is its place in this list, from 0. s is their number. DNA is ACGT.
+ *   k                     the letters in a word: at least 1, and s^k at most 2^62. The largest k is 62
+ *                         for two letters, 39 for three, 31 for four, 15 for sixteen.
+ *   mirror                KMER_REVERSAL or KMER_COMPLEMENT; the latter needs an even s.
+ *
+ * Every pointer comes with its length in bytes, may be NULL where that length is 0, and must otherwise
+ * point to as many bytes. Nothing need end in a 0 byte. out must not overlap letters or word. Whatever
+ * the numbers and bytes are, a call returns and touches no other memory; it never writes to letters or
+ * word. The calls keep no state, so several threads may call at once, each with an out of its own.
+ *
+ * An answer below 2^63 is a result. An answer from 2^63 on is a refusal: see kmer_is_refused below.
+ * Of several grounds for refusing that apply, the one with the lowest number is returned.
+ */
+#ifndef KMER_H
+#define KMER_H
+
+#include <stddef.h>
+#include <stdint.h>
+
+#ifdef __cplusplus
+extern "C" {
+#endif
+
+/* What the mirror of a word is. */
+enum kmer_mirrors {
+    KMER_REVERSAL = 0,  /* the word reversed */
+    KMER_COMPLEMENT = 1 /* the word reversed, with s - 1 - i for each rank i: the reverse complement */
+};
+
+/* The grounds for refusing a call, by number. Other numbers are never returned. */
+enum kmer_grounds {
+    KMER_BAD_LETTERS = 1,    /* letters are not 2 to 16 different capitals */
+    KMER_BAD_MIRROR = 2,     /* mirror is neither 0 nor 1 */
+    KMER_ODD_COMPLEMENT = 3, /* reverse complement with an odd number of letters */
+    KMER_BAD_K = 4,          /* k is 0, or s^k is above 2^62 */
+    KMER_BAD_LENGTH = 5,     /* word_len is not k */
+    KMER_SHORT_BUFFER = 7,   /* out_len is below k; P is k */
+    KMER_BAD_CODE = 8,       /* code is not below the number of classes */
+    KMER_FOREIGN_BYTE = 9    /* a byte of word is no letter of the settings; P is the first such place */
+};
+
+/*
+ * Codes a word.
+ *   word, word_len  the k-mer, k bytes. A small letter counts as its capital. It need not be
+ *                   canonical: a word and its mirror have the same code.
+ * Returns the code of the word's class, below 2^62, or 2^63 + the number of the first ground that
+ * applies of 1, 2, 3, 4, 5, 9. No P is returned. Nothing is written.
+ */
+uint64_t kmer_code(const uint8_t *letters, size_t letters_len, size_t k, uint64_t mirror,
+                   const uint8_t *word, size_t word_len);
+
+/*
+ * Reads a code: writes the canonical word of its class, that is the word of lower plain rank.
+ *   code          a code under the same settings, below the number of classes.
+ *   out, out_len  the buffer for the word, at least k bytes. Its first k bytes receive the word, in
+ *                 capitals and with no end byte; later bytes keep what they held.
+ * Returns k, or 2^63 + the number of the first ground that applies of 1, 2, 3, 4, 7, 8. No P is
+ * returned. A refused call writes nothing to out.
+ */
+uint64_t kmer_word(const uint8_t *letters, size_t letters_len, size_t k, uint64_t mirror,
+                   uint64_t code, uint8_t *out, size_t out_len);
+
+/*
+ * Mirrors a word: its reversal or its reverse complement, as mirror says.
+ *   word, word_len  the k-mer, k bytes. A small letter counts as its capital.
+ *   out, out_len    the buffer for the mirror, at least k bytes. Its first k bytes receive the mirror,
+ *                   in capitals and with no end byte; later bytes keep what they held.
+ * Returns k, or 2^63 + P * 256 + the number of the first ground that applies of 1, 2, 3, 4, 5, 7, 9,
+ * where P is 0 unless the ground states it: kmer_refusal_p gives it. A refused call writes nothing to
+ * out.
+ */
+uint64_t kmer_mirror(const uint8_t *letters, size_t letters_len, size_t k, uint64_t mirror,
+                     const uint8_t *word, size_t word_len, uint8_t *out, size_t out_len);
+
+/* The lowest answer that is a refusal: 2^63. */
+#define KMER_REFUSED UINT64_C(0x8000000000000000)
+
+/* 1 where the answer of any call above is a refusal, else 0. */
+static inline int kmer_is_refused(uint64_t answer)
+{
+    return answer >= KMER_REFUSED;
+}
+
+/* The number of the ground (enum kmer_grounds) in a refusal; 0 where the answer is no refusal. */
+static inline unsigned kmer_refusal(uint64_t answer)
+{
+    return kmer_is_refused(answer) ? (unsigned)(answer & 0xff) : 0;
+}
+
+/*
+ * P of a refusal by kmer_mirror: the length needed for KMER_SHORT_BUFFER, the place from 0 for
+ * KMER_FOREIGN_BYTE, else 0. kmer_code and kmer_word return no P, so for these it is always 0.
+ */
+static inline uint64_t kmer_refusal_p(uint64_t answer)
+{
+    return kmer_is_refused(answer) ? (answer - KMER_REFUSED) >> 8 : 0;
+}
+
+#ifdef __cplusplus
+}
+#endif
+
+#endif

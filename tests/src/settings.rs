@@ -1,0 +1,58 @@
+//! The settings of a call as the caller gives them, good or bad, and the list of all good sizes.
+
+use std::fmt;
+
+/// Letters, k and mirror; any values, since the calls must refuse the bad ones themselves.
+#[derive(Clone, Debug)]
+pub struct Settings {
+    pub letters: Vec<u8>,
+    pub k: usize,
+    pub mirror: u64,
+}
+
+pub const REVERSAL: u64 = 0;
+pub const COMPLEMENT: u64 = 1;
+
+/// Document 01, "Letters, k and mirror": s^k is at most this.
+pub const MOST_WORDS: u128 = 1 << 62;
+
+impl Settings {
+    pub fn new(letters: &[u8], k: usize, mirror: u64) -> Settings {
+        Settings { letters: letters.to_vec(), k, mirror }
+    }
+}
+
+impl fmt::Display for Settings {
+    fn fmt(&self, f: &mut fmt::Formatter) -> fmt::Result {
+        write!(f, "letters {}, k {}, mirror {}", shown(&self.letters), self.k, self.mirror)
+    }
+}
+
+/// Bytes as a Rust byte string, so that a failure can be repeated; cut after 80 bytes.
+pub fn shown(bytes: &[u8]) -> String {
+    let head = &bytes[..bytes.len().min(80)];
+    let rest = if head.len() < bytes.len() { format!(".. ({} bytes)", bytes.len()) } else { String::new() };
+    format!("b\"{}\"{}", head.escape_ascii(), rest)
+}
+
+/// The largest k that ground 4 allows for s letters.
+pub fn largest_k(s: usize) -> usize {
+    let mut k = 0;
+    while (s as u128).pow(k + 1) <= MOST_WORDS {
+        k += 1;
+    }
+    k as usize
+}
+
+/// Every (s, mirror, k) that no ground refuses.
+pub fn good_sizes() -> Vec<(usize, u64, usize)> {
+    let mut sizes = Vec::new();
+    for s in 2..=16 {
+        for mirror in [REVERSAL, COMPLEMENT] {
+            if mirror == REVERSAL || s % 2 == 0 {
+                sizes.extend((1..=largest_k(s)).map(|k| (s, mirror, k)));
+            }
+        }
+    }
+    sizes
+}

@@ -1,0 +1,139 @@
+//! Mirroring through kmer_mirror, beside the second coder, with the grounds for refusing and their P.
+
+use kmer_tests::calls::{self, filled, REFUSED};
+use kmer_tests::draw::*;
+use kmer_tests::expected::*;
+use kmer_tests::settings::*;
+use kmer_tests::vectors::{bytes, vectors};
+
+const DRAWN: usize = 300;
+
+/// Letters, k, mirror, word, room; the number and P of the refusal.
+type Faulty<'a> = (&'a [u8], usize, u64, &'a [u8], usize, u64, u64);
+
+/// Written out, with no reference: the mirrors of some words of document 01's cases.
+#[test]
+fn known_mirrors() {
+    let cases = [
+        ("ACGT", REVERSAL, "AAAACA", "ACAAAA"),
+        ("ACGT", REVERSAL, "ttGTTT", "TTTGTT"),
+        ("ACGT", COMPLEMENT, "TACGGCTA", "TAGCCGTA"),
+        ("ACGT", COMPLEMENT, "aactt", "AAGTT"),
+        ("ACGT", COMPLEMENT, "A", "T"),
+        ("TGCA", COMPLEMENT, "GGG", "CCC"),
+        ("ABC", REVERSAL, "Bca", "ACB"),
+    ];
+    for (letters, mirror, word, expected) in cases {
+        let settings = Settings::new(letters.as_bytes(), word.len(), mirror);
+        let (answer, left) = calls::mirror(&settings, word.as_bytes(), word.len());
+        assert_eq!((answer, left), (word.len() as u64, expected.as_bytes().to_vec()), "{settings}: {word}");
+    }
+}
+
+#[test]
+fn drawn_words_of_all_settings_have_their_mirrors() {
+    let mut random = Random::new(11);
+    for (s, mirror, k) in good_sizes() {
+        let settings = Settings::new(&drawn_capitals(&mut random, s), k, mirror);
+        let coder = coder(&settings);
+        for _ in 0..DRAWN {
+            let word = drawn_word(&mut random, s, k);
+            let spelling = spelled_mixed(&mut random, &settings.letters, &word);
+            let room = k + random.below(20) as usize;
+            let turned = spelled(&settings.letters, &coder.mirror(&word));
+            check_mirror(&settings, &spelling, room, &Ok(turned.clone()));
+            // The mirror's mirror is the word, in capitals, and both have one code.
+            check_mirror(&settings, &turned, room, &Ok(spelled(&settings.letters, &word)));
+            assert_eq!(
+                calls::code(&settings, &spelling),
+                calls::code(&settings, &turned),
+                "{settings}: {}",
+                shown(&spelling)
+            );
+        }
+    }
+}
+
+/// Where several grounds apply the lowest number wins, with its P: written out, with no reference.
+#[test]
+fn grounds_go_in_number_order() {
+    let cases: [Faulty; 10] = [
+        (b"AcG", 0, 2, b"#", 0, 1, 0),
+        (b"ACG", 0, 2, b"#", 0, 2, 0),
+        (b"ACG", 0, 1, b"#", 0, 3, 0),
+        (b"ACGT", 0, 1, b"#", 0, 4, 0),
+        (b"ACGT", 32, 1, b"#", 0, 4, 0),
+        (b"ACGT", 3, 1, b"##", 2, 5, 0),
+        (b"ACGT", 3, 1, b"AC##", 2, 5, 0),
+        (b"ACGT", 3, 1, b"AC#", 2, 7, 3),
+        (b"ACGT", 3, 1, b"A##", 3, 9, 1),
+        (b"ACGT", 3, 1, b"#C#", 9, 9, 0),
+    ];
+    for (letters, k, mirror, word, room, number, p) in cases {
+        let settings = Settings::new(letters, k, mirror);
+        let left = calls::mirror(&settings, word, room);
+        assert_eq!(
+            left,
+            (REFUSED + p * 256 + number, filled(room)),
+            "{settings}: {}, room {room}",
+            shown(word)
+        );
+    }
+}
+
+/// Every combination of good and bad arguments, beside the reference of the grounds.
+#[test]
+fn combinations_of_faults_answer_as_the_reference() {
+    let letters: [&[u8]; 7] = [b"ACGT", b"ACG", b"TB", b"ACgT", b"A", b"", b"ABCDEFGHIJKLMNOPQ"];
+    let words: [&[u8]; 9] = [b"", b"A", b"T", b"tB", b"AC", b"A#", b"ACG", b"GcA", b"AC\n"];
+    for letters in letters {
+        for mirror in [0, 1, 2, 256, 1 << 32, u64::MAX] {
+            for k in [0, 1, 2, 3, 31, 32, 39, 40, 62, 63, 1 << 32, usize::MAX] {
+                let settings = Settings::new(letters, k, mirror);
+                for word in words {
+                    for room in [0, 1, 2, 3, 4, 30, 70] {
+                        check_mirror(&settings, word, room, &mirroring(&settings, word, room));
+                    }
+                }
+            }
+        }
+    }
+}
+
+/// Ground 7 for every short buffer, ground 9 for a foreign byte at every place, with P.
+#[test]
+fn short_buffers_and_foreign_bytes() {
+    let mut random = Random::new(12);
+    for (s, mirror, k) in good_sizes() {
+        let settings = Settings::new(&drawn_capitals(&mut random, s), k, mirror);
+        let mut word = spelled(&settings.letters, &drawn_word(&mut random, s, k));
+        for room in 0..k {
+            check_mirror(&settings, &word, room, &Err(Refusal { number: 7, p: k as u64 }));
+        }
+        // From the last place to the first, so that the first of several foreign bytes is P.
+        for place in (0..k).rev() {
+            word[place] = [0, b' ', b'@', b'[', b'`', b'{', b'>', 0xff][random.below(8) as usize];
+            check_mirror(&settings, &word, k + 2, &Err(Refusal { number: 9, p: place as u64 }));
+        }
+    }
+}
+
+/// Bytes after the first k keep what they held, also in a buffer of a megabyte; long words are refused.
+#[test]
+fn long_buffers_and_long_words() {
+    let settings = Settings::new(b"ACGT", 5, COMPLEMENT);
+    check_mirror(&settings, b"AACtt", 1 << 20, &Ok(b"AAGTT".to_vec()));
+    check_mirror(&settings, &vec![b'A'; 1 << 20], 5, &Err(Refusal { number: 5, p: 0 }));
+    let long = Settings::new(&vec![b'A'; 1 << 20], 5, COMPLEMENT);
+    check_mirror(&long, b"AAAAA", 5, &Err(Refusal { number: 1, p: 0 }));
+}
+
+/// The stored answers of the independent reference, held against the call and the second coder.
+#[test]
+fn stored_mirrors() {
+    for vector in vectors("mirror", 56) {
+        let word = bytes(vector.given);
+        check_mirror(&vector.settings, &word, vector.room, &vector.stored_bytes());
+        vector.check_second_bytes(mirroring(&vector.settings, &word, vector.room));
+    }
+}
