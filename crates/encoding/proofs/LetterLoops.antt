@@ -1,15 +1,14 @@
 -- From bytes to ranks and back, a place at a time: the loops of `fill_ranks`, `foreign_at` and `write_letters`.
 use mathlib.Core.Path.{_≡_, ap, _∙_, refl, sym}
-use mathlib.Core.Bool.{Bool, cond, true, false}
 use mathlib.Core.Option.{none, some, Option}
 use mathlib.Core.List.{List, _++_, _∷_, []}
-use Prim.Native.Nat.{ℕ, _<_, _+_, suc, _≤_}
+use Prim.Native.Nat.{ℕ, _<_, _+_, _≤_}
 use native.Mathlib.Numerals.{add-one}
 use native.Mathlib.Omega.{arith}
-use lib.Dec.{eqb}
 use lib.ListN.{length, take, getD, length-map, set, drop, drop-of-length-le}
 use lib.Seq.{take-suc, length-take-le, take-all, drop-cons}
-use Rattle.settings.specs.Settings.{rankIn, placeFrom, capitalOf, mirrorOf}
+use Rattle.settings.specs.Settings.{rankIn, mirrorOf}
+use Rattle.settings.proofs.Ranks.{rank-below-count}
 use Rattle.laws.proofs.Lists.{map-snoc, write-next}
 use Rattle.encoding.specs.Calls.{ranksOf, rankAt, foreignFrom, rankOrZero, inCapitals, wordBytes, mirrorBytes}
 use Rattle.encoding.specs.Words.{Ranks, Mirror, mirror}
@@ -54,21 +53,12 @@ foreign-none letters word i h = rw (drop-of-length-le word h)
 
 -- ---- ranks are below s
 
-place-lt : (n b : ℕ) (ls : List ℕ) (x : ℕ) → placeFrom n b ls ≡ some x → x < n + length ls
-unfolding placeFrom
-place-lt n b [] x e = let z : _≡_ {A = ℕ} 0 1 = cc in omega arith
-place-lt n b (l ∷ ls) x e = go (eqb l b) (place-lt (suc n) b ls x) e
-  where
-    go : (t : Bool) → (placeFrom (suc n) b ls ≡ some x → x < suc n + length ls) → cond t (some n) (placeFrom (suc n) b ls) ≡ some x → x < n + length (l ∷ ls)
-    go true ih f = let z : n ≡ x = cc in omega arith
-    go false ih f = omega (arith, ih f)
-
 rank-lt : (letters : List ℕ) (b : ℕ) → 0 < length letters → rankAt letters b < length letters
 rank-lt letters b h = go (rankIn letters b) refl
   where
     go : (o : Option ℕ) → rankIn letters b ≡ o → rankOrZero o < length letters
     go none e = h
-    go (some x) e = omega (arith, place-lt 0 (capitalOf b) letters x e)
+    go (some x) e = rank-below-count letters b x (sym e)
 
 pub ranks-below : (letters word : List ℕ) → 0 < length letters → Ranks (length letters) (ranksOf letters word)
 unfolding ranksOf

@@ -1,2 +1,3 @@
--- Definitions that belong to no one part of document 01.
+-- Definitions that several parts of document 01 share.
 pub mod Text
+pub mod Windows

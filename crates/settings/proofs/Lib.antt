@@ -3,6 +3,7 @@ pub mod Outcomes
 pub mod Places
 pub mod Powers
 pub mod Ranks
+pub mod RankTables
 pub mod Letters
 pub mod ClassCount
 pub mod SettingsGrounds

@@ -1,13 +1,16 @@
--- A byte's rank, by what is left of the letters: one turn of the loop of `rank_of`.
-use mathlib.Core.Path.{_≡_, refl}
-use Prim.Native.Nat.{ℕ, suc, _+_, _<_, _≤_}
-use native.Mathlib.Numerals.{add-one}
-use mathlib.Core.Option.{Option, none, some}
+-- A byte's rank, by what is left of the letters: one turn of the loop of `rank_of`. A rank is below the number of letters.
+use mathlib.Core.Path.{_≡_, sym}
+use mathlib.Core.Bool.{Bool, cond, true, false}
+use mathlib.Core.Option.{some, none}
 use mathlib.Core.List.{List, [], _∷_}
+use Prim.Native.Nat.{ℕ, _<_, _+_, _≤_, suc}
+use native.Mathlib.Numerals.{add-one}
+use native.Mathlib.Omega.{arith}
+use borrow.Author.Tests.{eq-eqb, ne-eqb}
+use lib.Dec.{eqb}
 use lib.ListN.{length, getD, drop, drop-of-length-le}
 use lib.Seq.{drop-cons}
-use borrow.Author.Tests.{eq-eqb, ne-eqb}
-use Rattle.settings.specs.Settings.{placeFrom}
+use Rattle.settings.specs.Settings.{placeFrom, rankIn}
 
 module _ (l : List ℕ) (i u : ℕ) where
   pub place-here : i < length l → getD l i 0 ≡ u → placeFrom i u (drop i l) ≡ some i
@@ -21,3 +24,17 @@ module _ (l : List ℕ) (i u : ℕ) where
   pub place-none : length l ≤ i → placeFrom i u (drop i l) ≡ none
   unfolding placeFrom
   place-none h = rw (drop-of-length-le l h)
+
+place-below : (n b : ℕ) (ls : List ℕ) (x : ℕ) → placeFrom n b ls ≡ some x → x < n + length ls
+unfolding placeFrom
+place-below n b [] x e = let z : _≡_ {A = ℕ} 0 1 = cc in absurd (omega arith)
+place-below n b (l ∷ ls) x e = go (eqb l b) e (place-below (suc n) b ls x)
+  where
+    go : (t : Bool) → cond t (some n) (placeFrom (suc n) b ls) ≡ some x → (placeFrom (suc n) b ls ≡ some x → x < suc n + length ls)
+        → x < n + suc (length ls)
+    go true f ih = let same : n ≡ x = cc in omega arith
+    go false f ih = omega (arith, ih f)
+
+-- A rank is below the number of letters.
+pub rank-below-count : (letters : List ℕ) (b x : ℕ) → some x ≡ rankIn letters b → x < length letters
+rank-below-count letters b x e = omega (arith, place-below 0 _ letters x (sym e))

@@ -2,3 +2,4 @@
 pub mod Grounds
 pub mod Settings
 pub mod Limits
+pub mod RankTables

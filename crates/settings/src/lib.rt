@@ -4,6 +4,7 @@ ghost use mathlib.Core.Path.{_≡_};
 ghost use Prim.Native.Nat.{_^_, _<_, _≤_, min};
 ghost use lib.ListN.{length, drop};
 ghost use Rattle.settings.specs.Grounds.{ground, outcome};
+ghost use Rattle.settings.specs.RankTables.{asRank, RankTable};
 ghost use Rattle.settings.specs.Settings.{classes, capitalOf, rankIn, isIn, goodLetters, settingsGround, badSize, settingsFor, settingsOf, ofChecked, ofRank};
 
 // What the other strand makes of a word: read backwards, or read backwards with each rank i replaced by s - 1 - i.
@@ -74,6 +75,38 @@ pub fn rank_of(letters: &[u8], b: u8) -> Rank
         i += 1;
     }
     Rank::NoLetter
+}
+
+// The rank of a byte as one byte, 255 for none.
+fn rank_byte(letters: &[u8], b: u8) -> u8
+    requires { ⌜ length (now letters) ≤ 16 ⌝ }
+    ensures { λ r. ⌜ asRank r ≡ rankIn (now (letters .entry)) b ⌝ }
+{
+    match rank_of(letters, b) {
+        Rank::At(n) => n as u8,
+        Rank::NoLetter => 255,
+    }
+}
+
+fn fill_rank_table(table: &mut [u8], letters: &[u8])
+    requires { ⌜ (length (now table) ≡ 256) × (length (now letters) ≤ 16) ⌝ }
+    ensures { λ _. ⌜ RankTable (now (letters .entry)) (now (table .exit)) ⌝ }
+{
+    let mut b: usize = 0;
+    while b < 256 {
+        table[b] = rank_byte(letters, b as u8);
+        b += 1;
+    }
+}
+
+// The ranks of all bytes, made once a call so that no byte of a file or sequence is searched for among the letters.
+pub fn rank_table(letters: &[u8]) -> [u8; 256]
+    requires { ⌜ length (now letters) ≤ 16 ⌝ }
+    ensures { λ r. ⌜ RankTable (now (letters .entry)) r ⌝ }
+{
+    let mut table = [255u8; 256];
+    fill_rank_table(&mut table, letters);
+    table
 }
 
 // Whether b stands in letters at the place from or later.

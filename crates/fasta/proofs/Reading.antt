@@ -1,0 +1,277 @@
+-- Reading a file from any offset until none is given gives the file's records from there, each once and in file order: there is such a
+-- reading (`reads-all`), and it is the only one (`reads-only`). Each record's end is past its header, and no header stands between.
+use mathlib.Core.Path.{_≡_, refl, sym, ap, _∙_}
+use Prim.Native.Nat.{ℕ, zero, suc, _+_, _-_, _<_, _≤_}
+use native.Mathlib.Numerals.{add-one}
+use native.Mathlib.Decide.{decLt, ℕ-discrete}
+use native.Mathlib.Omega.{arith}
+use mathlib.Core.Bool.{Bool, true, false, cond, _&&_, _||_}
+use mathlib.Core.List.{List, [], _∷_, map}
+use lib.ListN.{length, getD}
+use lib.Dec.{eqb}
+use borrow.Author.Tests.{ne-eqb, eqb-true, eqb-false, lt-ltb, le-ltb}
+use Rattle.fasta.specs.declared.records.Found.{Found}
+use Rattle.fasta.specs.declared.records.Found.the-variants.{Record, Nothing}
+use Rattle.fasta.specs.Records.{isHeader, headerFrom, headerAt, lfFrom, lineEnd, headerLength, recordTo, recordOf, recordFrom}
+use Rattle.fasta.specs.Records.{headersFrom, recordsFrom, allRecords, Reads, ended, given}
+
+-- ---- headers among some places
+
+miss : (file : List ℕ) (p n : ℕ) → isHeader file p ≡ false → headersFrom file p (suc n) ≡ headersFrom file (suc p) n
+unfolding headersFrom
+miss file p n e = rw e
+
+hit : (file : List ℕ) (p n : ℕ) → isHeader file p ≡ true → headersFrom file p (suc n) ≡ p ∷ headersFrom file (suc p) n
+unfolding headersFrom
+hit file p n e = rw e
+
+-- Places with no header among them can be left out.
+skip : (file : List ℕ) (k p n : ℕ) → ((j : ℕ) → p ≤ j → j < p + k → isHeader file j ≡ false)
+    → headersFrom file p (k + n) ≡ headersFrom file (p + k) n
+skip file zero p n h =
+    let e : zero + n ≡ n = omega arith in
+    let f : p + zero ≡ p = omega arith in
+    rw (e, f)
+skip file (suc k) p n h =
+    let e : suc k + n ≡ suc (k + n) = omega arith in
+    let f : p + suc k ≡ suc p + k = omega arith in
+    rw (e, f) (miss file p (k + n) (h p (omega arith) (omega arith)) ∙ skip file k (suc p) n (λ j a b. h j (omega arith) (omega arith)))
+
+no-places : (file : List ℕ) (p n : ℕ) → n ≡ 0 → headersFrom file p n ≡ []
+unfolding headersFrom
+no-places file p n e = rw e
+
+-- What a search for the next header among n places from p gives.
+record Header (file : List ℕ) (p n h : ℕ) : Type 0 where
+  low : p ≤ h
+  high : h ≤ p + n
+  opens : h < p + n → isHeader file h ≡ true
+  same : headersFrom file p n ≡ headersFrom file h (p + n - h)
+
+header : (file : List ℕ) (p n : ℕ) → Header file p n (headerFrom file p n)
+unfolding headerFrom
+header file p zero = let e : p + 0 - p ≡ 0 = omega arith in record { low = omega arith; high = omega arith; opens = λ h. absurd (omega arith); same = rw e }
+header file p (suc n) = go (isHeader file p) refl (header file (suc p) n)
+  where
+    go : (t : Bool) → isHeader file p ≡ t → Header file (suc p) n (headerFrom file (suc p) n)
+        → Header file p (suc n) (cond t p (headerFrom file (suc p) n))
+    go true e g = let f : p + suc n - p ≡ suc n = omega arith in record { low = omega arith; high = omega arith; opens = λ h. e; same = rw f }
+    go false e g =
+        let f : suc p + n ≡ p + suc n = omega arith in
+        record {
+          low = omega (arith, g .low);
+          high = omega (arith, g .high);
+          opens = λ h. g .opens (omega arith);
+          same = miss file p n e ∙ g .same ∙ ap (λ (x : ℕ). headersFrom file (headerFrom file (suc p) n) (x - headerFrom file (suc p) n)) f;
+        }
+
+-- What a search for LF among n places from p gives.
+record Line (file : List ℕ) (p n e : ℕ) : Type 0 where
+  low : p ≤ e
+  high : e ≤ p + n
+  none : (j : ℕ) → p ≤ j → j < e → getD file j 0 ≡ 10 → ⊥
+
+line : (file : List ℕ) (p n : ℕ) → Line file p n (lfFrom file p n)
+unfolding lfFrom
+line file p zero = record { low = omega arith; high = omega arith; none = λ j a b. absurd (omega arith) }
+line file p (suc n) = go (eqb (getD file p 0) 10) refl (line file (suc p) n)
+  where
+    go : (t : Bool) → eqb (getD file p 0) 10 ≡ t → Line file (suc p) n (lfFrom file (suc p) n) → Line file p (suc n) (cond t p (lfFrom file (suc p) n))
+    go true e g = record { low = omega arith; high = omega arith; none = λ j a b. absurd (omega arith) }
+    go false e g =
+        record {
+          low = omega (arith, g .low);
+          high = omega (arith, g .high);
+          none = λ j a b.
+              elim (ℕ-discrete j p) as (λ _. getD file j 0 ≡ 10 → ⊥) [
+                | yes q ↦ λ c. eqb-false (getD file p 0) 10 e (ap (λ (x : ℕ). getD file x 0) (sym q) ∙ c)
+                | no q ↦ g .none j (omega arith) b
+              ];
+        }
+
+-- ---- the record of a header
+
+mark : (file : List ℕ) (h : ℕ) → isHeader file h ≡ true → getD file h 0 ≡ 62
+unfolding isHeader
+mark file h e = go (eqb (getD file h 0) 62) refl e
+  where
+    go : (t : Bool) → eqb (getD file h 0) 62 ≡ t → (t && (eqb h 0 || eqb (getD file (h - 1) 0) 10)) ≡ true → getD file h 0 ≡ 62
+    go true f g = eqb-true (getD file h 0) 62 f
+    go false f g = let z : _≡_ {A = ℕ} 0 1 = cc in absurd (omega arith)
+
+and-false : (t : Bool) → (t && false) ≡ false
+and-false true = refl
+and-false false = refl
+
+-- No header starts after a byte that is not LF.
+inside : (file : List ℕ) (j : ℕ) → 0 < j → (getD file (j - 1) 0 ≡ 10 → ⊥) → isHeader file j ≡ false
+unfolding isHeader
+inside file j h e = rw (ne-eqb j 0 (λ z. omega arith), ne-eqb (getD file (j - 1) 0) 10 e) (and-false (eqb (getD file j 0) 62))
+
+-- What the record f of the header at h says of what comes after it.
+record After (file : List ℕ) (h : ℕ) (f : Found) : Type 0 where
+  header : ℕ
+  header-len : ℕ
+  body : ℕ
+  body-len : ℕ
+  found : f ≡ Record header header-len body body-len
+  later : h < body + body-len
+  within : body + body-len ≤ length file
+  same : headersFrom file (h + 1) (length file - (h + 1)) ≡ headersFrom file (body + body-len) (length file - (body + body-len))
+
+module _ (file : List ℕ) (h : ℕ) (low : h < length file) (is : isHeader file h ≡ true) where
+  abbrev lf : ℕ
+  lf = lineEnd file h
+
+  lf-line : Line file (h + 1) (length file - (h + 1)) lf
+  lf-line = line file (h + 1) (length file - (h + 1))
+
+  no-lf : (j : ℕ) → h ≤ j → j < lf → getD file j 0 ≡ 10 → ⊥
+  no-lf j a b c =
+      elim (ℕ-discrete j h) as (λ _. ⊥) [
+        | yes q ↦ let z : _≡_ {A = ℕ} 62 10 = sym (mark file h is) ∙ ap (λ (x : ℕ). getD file x 0) (sym q) ∙ c in omega arith
+        | no q ↦ lf-line .none j (omega arith) b c
+      ]
+
+  no-header : (j : ℕ) → h + 1 ≤ j → j < h + 1 + (lf - h) → isHeader file j ≡ false
+  no-header j a b = inside file j (omega arith) (no-lf (j - 1) (omega arith) (omega arith))
+
+  with-line : lf < length file → After file h (recordOf file h)
+  unfolding recordTo
+  with-line g =
+      let k : length file - (h + 1) ≡ lf - h + (length file - (lf + 1)) = omega (arith, lf-line .low) in
+      let m : h + 1 + (lf - h) ≡ lf + 1 = omega (arith, lf-line .low) in
+      let o : lf + 1 + (length file - (lf + 1)) ≡ length file = omega arith in
+      let hd = header file (lf + 1) (length file - (lf + 1)) in
+      let end : lf + 1 + (headerAt file (lf + 1) - (lf + 1)) ≡ headerAt file (lf + 1) = omega (arith, hd .low) in
+      let s : headersFrom file (h + 1) (length file - (h + 1)) ≡ headersFrom file (headerAt file (lf + 1)) (length file - headerAt file (lf + 1)) =
+      ap (headersFrom file (h + 1)) k
+      ∙ skip file (lf - h) (h + 1) (length file - (lf + 1)) no-header
+      ∙ ap (λ (x : ℕ). headersFrom file x (length file - (lf + 1))) m
+      ∙ hd .same
+      ∙ ap (λ (x : ℕ). headersFrom file (headerAt file (lf + 1)) (x - headerAt file (lf + 1))) o in
+      record {
+        header = h;
+        header-len = headerLength file h lf;
+        body = lf + 1;
+        body-len = headerAt file (lf + 1) - (lf + 1);
+        found = rw (lt-ltb lf (length file) g);
+        later = omega (arith, lf-line .low);
+        within = omega (arith, hd .high);
+        same = rw end s;
+      }
+
+  cut-off : length file ≤ lf → After file h (recordOf file h)
+  unfolding recordTo
+  cut-off g =
+      let k : length file - (h + 1) ≡ length file - (h + 1) + 0 = omega arith in
+      let m : h + 1 + (length file - (h + 1)) ≡ length file + 0 = omega arith in
+      let o : 0 ≡ length file - (length file + 0) = omega arith in
+      let s : headersFrom file (h + 1) (length file - (h + 1)) ≡ headersFrom file (length file + 0) (length file - (length file + 0)) =
+      ap (headersFrom file (h + 1)) k
+      ∙ skip file (length file - (h + 1)) (h + 1) 0 (λ j a b. no-header j a (omega (arith, lf-line .low, lf-line .high)))
+      ∙ ap (λ (x : ℕ). headersFrom file x 0) m
+      ∙ ap (headersFrom file (length file + 0)) o in
+      record {
+        header = h;
+        header-len = length file - h;
+        body = length file;
+        body-len = 0;
+        found = rw (le-ltb lf (length file) g);
+        later = omega arith;
+        within = omega arith;
+        same = s;
+      }
+
+  after : After file h (recordOf file h)
+  after =
+      elim (decLt lf (length file)) as (λ _. After file h (recordOf file h)) [
+        | yes g ↦ with-line g
+        | no g ↦ cut-off (omega arith)
+      ]
+
+-- ---- what the reader gives from an offset
+
+-- Either none, and there are no records from there; or the first of the records from there, after which the others are left.
+data Next (file : List ℕ) (at : ℕ) : Type 0 where
+  none-left : recordFrom file at ≡ Nothing → recordsFrom file at ≡ [] → Next file at
+  one-more : (h hl b bl : ℕ) → recordFrom file at ≡ Record h hl b bl → recordsFrom file at ≡ Record h hl b bl ∷ recordsFrom file (b + bl)
+      → at < b + bl → b + bl ≤ length file → Next file at
+
+no-more : (file : List ℕ) (at : ℕ) → length file ≤ headerAt file at → Next file at
+unfolding recordFrom
+no-more file at g =
+    let hd = header file at (length file - at) in
+    let e : at + (length file - at) - headerAt file at ≡ 0 = omega (arith, hd .low) in
+    none-left (rw (le-ltb (headerAt file at) (length file) g)) (ap (map (recordOf file)) (hd .same ∙ no-places file (headerAt file at) _ e))
+
+-- The first header from an offset, and the headers after its record.
+headers-split : (file : List ℕ) (at h end : ℕ) → Header file at (length file - at) h → h < length file → isHeader file h ≡ true
+    → headersFrom file (h + 1) (length file - (h + 1)) ≡ headersFrom file end (length file - end)
+    → headersFrom file at (length file - at) ≡ h ∷ headersFrom file end (length file - end)
+headers-split file at h end hd g is same =
+    let n : at + (length file - at) - h ≡ suc (length file - (h + 1)) = omega (arith, hd .low) in
+    hd .same ∙ rw (n, hit file h (length file - (h + 1)) is, ← add-one h, same)
+
+one-found : (file : List ℕ) (at h : ℕ) → h ≡ headerAt file at → Header file at (length file - at) h → h < length file → isHeader file h ≡ true
+    → After file h (recordOf file h) → Next file at
+unfolding recordFrom
+one-found file at h f hd g is a =
+    one-more (a .header) (a .header-len) (a .body) (a .body-len) (rw (← f, lt-ltb h (length file) g) (a .found))
+    (rw (headers-split file at h (a .body + a .body-len) hd g is (a .same), a .found))
+    (omega (arith, a .later, hd .low))
+    (a .within)
+
+next : (file : List ℕ) (at : ℕ) → Next file at
+next file at =
+    elim (decLt (headerAt file at) (length file)) as (λ _. Next file at) [
+      | yes g ↦
+          let hd = header file at (length file - at) in
+          let is = hd .opens (omega (arith, hd .low)) in
+          one-found file at (headerAt file at) refl hd g is (after file (headerAt file at) g is)
+      | no g ↦ no-more file at (omega arith)
+    ]
+
+-- A record ends within the file.
+pub ends-within : (file : List ℕ) (at h hl b bl : ℕ) → recordFrom file at ≡ Record h hl b bl → b + bl ≤ length file
+ends-within file at h hl b bl e = go (next file at)
+  where
+    go : Next file at → b + bl ≤ length file
+    go (none-left f g) = let z : _≡_ {A = ℕ} 0 1 = cc in absurd (omega arith)
+    go (one-more h′ hl′ b′ bl′ f g k l) = let p : b′ ≡ b = cc in let q : bl′ ≡ bl = cc in omega arith
+
+-- ---- all records
+
+by-next : (file : List ℕ) (at : ℕ) → Next file at → ((end : ℕ) → at < end → end ≤ length file → Reads file end (recordsFrom file end))
+    → Reads file at (recordsFrom file at)
+by-next file at (none-left e f) ih = rw f (ended e)
+by-next file at (one-more h hl b bl e f k l) ih = rw f (given e (ih (b + bl) k l))
+
+reads-some : (file : List ℕ) (n at : ℕ) → length file < at + n → Reads file at (recordsFrom file at)
+reads-some file zero at h = by-next file at (next file at) (λ end k l. absurd (omega arith))
+reads-some file (suc n) at h = by-next file at (next file at) (λ end k l. reads-some file n end (omega arith))
+
+-- "It gives each record, in file order, .. after the last, none", from any offset.
+pub reads-all : (file : List ℕ) (at : ℕ) → Reads file at (recordsFrom file at)
+reads-all file at = reads-some file (suc (length file)) at (omega arith)
+
+-- From offset 0 these are all records of the file.
+pub reads-whole : (file : List ℕ) → Reads file 0 (allRecords file)
+reads-whole file = reads-all file 0
+
+-- Nothing else can be read.
+pub reads-only : (file : List ℕ) {at : ℕ} {l : List Found} → Reads file at l → l ≡ recordsFrom file at
+reads-only file {at} (ended e) = go (next file at)
+  where
+    go : Next file at → [] ≡ recordsFrom file at
+    go (none-left f g) = sym g
+    go (one-more h hl b bl f g k m) = let z : _≡_ {A = ℕ} 0 1 = cc in absurd (omega arith)
+reads-only file {at} (given {h = h} {hl = hl} {b = b} {bl = bl} {rest = rest} e r) = go (next file at) (reads-only file r)
+  where
+    go : Next file at → rest ≡ recordsFrom file (b + bl) → Record h hl b bl ∷ rest ≡ recordsFrom file at
+    go (none-left f g) ih = let z : _≡_ {A = ℕ} 0 1 = cc in absurd (omega arith)
+    go (one-more h′ hl′ b′ bl′ f g k m) ih =
+        let s : Record h hl b bl ≡ Record h′ hl′ b′ bl′ = sym e ∙ f in
+        let p : b ≡ b′ = cc in
+        let q : bl ≡ bl′ = cc in
+        cc

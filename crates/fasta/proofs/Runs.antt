@@ -1,0 +1,96 @@
+-- The theorem letters = windows + foreign + edge, for every file, every rank function and every k from 1. A run's letters are its
+-- windows and its edge letters (`run-split`); what stands in runs is the letters that are not foreign.
+use mathlib.Core.Path.{_≡_, refl, ap, _∙_}
+use Prim.Native.Nat.{ℕ, suc, _+_, _-_, _≤_, min}
+use native.Mathlib.Omega.{arith}
+use mathlib.Core.Bool.{Bool, true, false, cond}
+use mathlib.Core.Option.{Option, none, some}
+use mathlib.Core.List.{List, [], _∷_}
+use lib.ListN.{length, take, length-append}
+use lib.Dec.{leb}
+use borrow.Author.Tests.{leb-true, leb-false}
+use Rattle.fasta.specs.declared.Item.{Item}
+use Rattle.fasta.specs.declared.Item.the-variants.{Opens, Skip, Stray, Letter}
+use Rattle.fasta.specs.declared.Mode.{Mode}
+use Rattle.fasta.specs.declared.Mode.the-variants.{Start}
+use Rattle.fasta.specs.Items.{lettersIn, foreignIn, oneIfForeign, marks, onFirst, runs, edge, windows, edgesOf, windowsOf, edgeIn, windowsIn}
+use Rattle.fasta.specs.File.{next, itemsFrom, items, fileNumbers, fileWindows}
+
+-- How many settings letters there are.
+ranked : List (Option ℕ) → ℕ
+ranked [] = 0
+ranked (none ∷ ms) = ranked ms
+ranked (some x ∷ ms) = suc (ranked ms)
+
+total : List (List ℕ) → ℕ
+total [] = 0
+total (r ∷ rs) = length r + total rs
+
+total-onFirst : (x : ℕ) (rs : List (List ℕ)) → total (onFirst x rs) ≡ suc (total rs)
+unfolding total onFirst
+total-onFirst x [] = omega arith
+total-onFirst x (r ∷ rs) = omega arith
+
+total-runs : (ms : List (Option ℕ)) → total (runs ms) ≡ ranked ms
+unfolding total runs ranked
+total-runs [] = omega arith
+total-runs (none ∷ ms) = omega (arith, total-runs ms)
+total-runs (some x ∷ ms) = total-onFirst x (runs ms) ∙ ap suc (total-runs ms)
+
+letters-split : (rank : ℕ → Option ℕ) (is : List Item) → lettersIn is ≡ ranked (marks rank is) + foreignIn rank is
+unfolding lettersIn ranked marks foreignIn oneIfForeign
+letters-split rank [] = omega arith
+letters-split rank (Opens ∷ is) = letters-split rank is
+letters-split rank (Skip ∷ is) = letters-split rank is
+letters-split rank (Stray ∷ is) = letters-split rank is
+letters-split rank (Letter b ∷ is) = by-rank (rank b) (letters-split rank is)
+  where
+    by-rank : (o : Option ℕ) → lettersIn is ≡ ranked (marks rank is) + foreignIn rank is
+        → suc (lettersIn is) ≡ ranked (o ∷ marks rank is) + (oneIfForeign o + foreignIn rank is)
+    by-rank none h = omega arith
+    by-rank (some x) h = omega arith
+
+-- "its windows .. are as many as the rest"
+pub run-split : (k : ℕ) (r : List ℕ) → 1 ≤ k → length (windows k r) + edge k r ≡ length r
+unfolding windows edge
+run-split k [] h = omega arith
+run-split k (x ∷ xs) h = fits-or-not (leb k (suc (length xs))) refl (run-split k xs h)
+  where
+    fits-or-not : (b : Bool) → leb k (suc (length xs)) ≡ b → length (windows k xs) + edge k xs ≡ length xs
+        → length (cond b (take k (x ∷ xs) ∷ windows k xs) (windows k xs)) + min (suc (length xs)) (k - 1) ≡ suc (length xs)
+    fits-or-not true e ih = omega (arith, leb-true k (suc (length xs)) e)
+    fits-or-not false e ih = omega (arith, leb-false k (suc (length xs)) e)
+
+runs-split : (k : ℕ) (rs : List (List ℕ)) → 1 ≤ k → length (windowsOf k rs) + edgesOf k rs ≡ total rs
+unfolding windowsOf edgesOf total
+runs-split k [] h = omega arith
+runs-split k (r ∷ rs) h = omega (arith, length-append (windows k r) (windowsOf k rs), run-split k r h, runs-split k rs h)
+
+-- The same of any items: a later file format needs no proof of its own.
+pub items-split : (rank : ℕ → Option ℕ) (k : ℕ) (is : List Item) → 1 ≤ k
+    → lettersIn is ≡ length (windowsIn rank k is) + foreignIn rank is + edgeIn rank k is
+items-split rank k is h = omega (arith, letters-split rank is, total-runs (marks rank is), runs-split k (runs (marks rank is)) h)
+
+-- "So letters = windows + foreign + edge."
+pub letters-are : (rank : ℕ → Option ℕ) (k : ℕ) (file : List ℕ) → 1 ≤ k
+    → fileNumbers rank k file .letters ≡ fileNumbers rank k file .windows + fileNumbers rank k file .foreign + fileNumbers rank k file .edge
+letters-are rank k file h = items-split rank k (items file) h
+
+-- ---- no number of a file is above its length
+
+letters-fit : (is : List Item) → lettersIn is ≤ length is
+unfolding lettersIn
+letters-fit [] = omega arith
+letters-fit (Opens ∷ is) = omega (arith, letters-fit is)
+letters-fit (Skip ∷ is) = omega (arith, letters-fit is)
+letters-fit (Stray ∷ is) = omega (arith, letters-fit is)
+letters-fit (Letter b ∷ is) = omega (arith, letters-fit is)
+
+-- One item a byte.
+pub items-length : (m : Mode) (file : List ℕ) → length (itemsFrom m file) ≡ length file
+unfolding itemsFrom
+items-length m [] = refl
+items-length m (b ∷ file) = ap suc (items-length (next m b) file)
+
+pub windows-fit : (rank : ℕ → Option ℕ) (k : ℕ) (file : List ℕ) → 1 ≤ k → length (fileWindows rank k file) ≤ length file
+windows-fit rank k file h = omega (arith, items-split rank k (items file) h, letters-fit (items file), items-length Start file)

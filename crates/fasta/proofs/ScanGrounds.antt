@@ -1,0 +1,58 @@
+-- The grounds of a scan one after the other, as `scan` meets them: what the settings' check answers, then the file's length, then its
+-- first fault. And that what a scan takes in adds up.
+use mathlib.Core.Path.{_≡_}
+use Prim.Native.Nat.{ℕ, _+_, _<_, _≤_}
+use native.Mathlib.Omega.{arith}
+use mathlib.Core.Option.{none}
+use mathlib.Core.List.{List}
+use lib.ListN.{length}
+use borrow.Author.Tests.{lt-ltb, le-ltb}
+use Rattle.settings.specs.Grounds.{Ground, Outcome, given, refused, outcome}
+use Rattle.settings.specs.Settings.{rankIn, settingsGround, settingsOf}
+use Rattle.settings.specs.declared.Settings.{Settings}
+use Rattle.settings.proofs.Outcomes.{refused-on, passed, first-none}
+use Rattle.settings.proofs.SettingsGrounds.{good-settings}
+use Rattle.fasta.specs.declared.Numbers.{Numbers}
+use Rattle.fasta.specs.File.{fileFault, fileNumbers}
+use Rattle.fasta.specs.Scan.{tooLong, scanGround}
+use Rattle.settings.specs.RankTables.{rankByTable, RankTable}
+use Rattle.fasta.proofs.Ranks.{numbers-by-table}
+use Rattle.fasta.proofs.Runs.{letters-are}
+
+module _ (letters : List ℕ) (k mirror : ℕ) (st : Settings) (e : given st ≡ outcome (settingsGround letters k mirror) (settingsOf letters k mirror)) where
+  none-applies : settingsGround letters k mirror ≡ none
+  none-applies = passed (settingsOf letters k mirror) (settingsGround letters k mirror) e .none-applies
+
+  pub few-letters : length letters ≤ 16
+  few-letters = good-settings letters k mirror none-applies .few
+
+  pub some-k : 1 ≤ k
+  some-k = let h = good-settings letters k mirror none-applies .some-k in omega arith
+
+module _ (letters : List ℕ) (k mirror : ℕ) (file : List ℕ) where
+  abbrev answer : Outcome Numbers
+  answer = outcome (scanGround letters k mirror file) (fileNumbers (rankIn letters) k file)
+
+  pub bad-settings : (f : Ground) → refused f ≡ outcome (settingsGround letters k mirror) (settingsOf letters k mirror) → refused f ≡ answer
+  unfolding scanGround
+  bad-settings f e = refused-on f (settingsOf letters k mirror) (fileNumbers (rankIn letters) k file) (settingsGround letters k mirror) _ e
+
+  module _ (st : Settings) (e : given st ≡ outcome (settingsGround letters k mirror) (settingsOf letters k mirror)) where
+    pub long-file : 16777216 < length file → refused (6, 0) ≡ answer
+    unfolding scanGround tooLong
+    long-file h = rw (none-applies letters k mirror st e, lt-ltb 16777216 (length file) h)
+
+    pub scanned : (table : List ℕ) → RankTable letters table → length file ≤ 16777216
+        → outcome (fileFault file) (fileNumbers (rankByTable table) k file) ≡ answer
+    unfolding scanGround tooLong
+    scanned table t h = rw (none-applies letters k mirror st e, le-ltb 16777216 (length file) h, numbers-by-table letters table t k file)
+
+-- What a scan takes in adds up: letters = windows + foreign + edge, for every answer that is no refusal.
+pub taken-adds : (letters : List ℕ) (k mirror : ℕ) (file : List ℕ) (n : Numbers)
+    → given n ≡ outcome (scanGround letters k mirror file) (fileNumbers (rankIn letters) k file)
+    → n .letters ≡ n .windows + n .foreign + n .edge
+unfolding scanGround
+taken-adds letters k mirror file n e =
+    let p = passed (fileNumbers (rankIn letters) k file) (scanGround letters k mirror file) e in
+    let h = good-settings letters k mirror (first-none (settingsGround letters k mirror) _ (p .none-applies)) .some-k in
+    rw (p .value) (letters-are (rankIn letters) k file (omega arith))

@@ -1,0 +1,202 @@
+-- The scan: the machine that takes item by item answers by the definitions (`scan-is`); what holds at the head of the scan's loop, and
+-- what a turn does to it.
+use mathlib.Core.Path.{_≡_, refl, sym, ap, _∙_}
+use Prim.Native.Nat.{ℕ, suc, _+_, _-_, _<_, _≤_}
+use native.Mathlib.Numerals.{add-one}
+use native.Mathlib.Omega.{arith}
+use mathlib.Core.Bool.{Bool, true, false, cond}
+use mathlib.Core.Option.{Option, none, some}
+use mathlib.Core.List.{List, [], _∷_, _++_}
+use lib.ListN.{length, getD, drop, drop-of-length-le, length-append}
+use lib.Seq.{drop-cons}
+use lib.Dec.{eqb, leb, ltb}
+use borrow.Author.Tests.{eqb-true, eqb-false, lt-ltb, le-ltb}
+use Rattle.settings.specs.Grounds.{given, refused, outcome}
+use Rattle.fasta.specs.declared.Item.{Item}
+use Rattle.fasta.specs.declared.Item.the-variants.{Opens, Skip, Stray, Letter}
+use Rattle.fasta.specs.declared.Mode.{Mode}
+use Rattle.fasta.specs.declared.Mode.the-variants.{Start}
+use Rattle.fasta.specs.declared.Numbers.{Numbers}
+use Rattle.fasta.specs.declared.Tally.{Tally}
+use Rattle.fasta.specs.declared.Step.{Step}
+use Rattle.fasta.specs.declared.Step.the-variants.{On, AtStray, AtEarly}
+use Rattle.fasta.specs.Items.{recordsIn, lettersIn, oneIfForeign, foreignIn, marks, numbersIn}
+use Rattle.fasta.specs.File.{lfNext, item, next, itemsFrom, items, faultFrom, fileFault, fileNumbers}
+use Rattle.fasta.specs.Needs.{withHeader, withLetter, took, numbersOf, afterStep, scanFrom, nothingYet, Small}
+use Rattle.fasta.proofs.Stream.{closes, windowsFrom, windows-stream, edgesFrom, edges-stream}
+
+-- ---- the machine and the definitions
+
+-- The numbers of a tally, with so much more of each.
+abbrev plus : Tally → ℕ → ℕ → ℕ → ℕ → ℕ → Numbers
+plus t a b c d e = record { records = t .records + a; letters = t .letters + b; foreign = t .foreign + c; edge = t .edge + d; windows = t .windows + e }
+
+-- What is still to come, after a run of the letters r.
+abbrev rest : (ℕ → Option ℕ) → ℕ → Tally → List ℕ → List Item → Numbers
+rest rank k t r is =
+    plus t (recordsIn is) (lettersIn is) (foreignIn rank is) (edgesFrom k (length r) (marks rank is)) (length (windowsFrom k r (marks rank is)))
+
+same-numbers : {a a′ b b′ c c′ d d′ e e′ : ℕ} → a ≡ a′ → b ≡ b′ → c ≡ c′ → d ≡ d′ → e ≡ e′
+    → _≡_ {A = Numbers} (record { records = a; letters = b; foreign = c; edge = d; windows = e })
+    (record { records = a′; letters = b′; foreign = c′; edge = d′; windows = e′ })
+same-numbers p q r s t = rw (p, q, r, s, t)
+
+-- The windows of what is to come from the letter x on: one more where x closes one.
+closes-one : (k : ℕ) (r : List ℕ) (x : ℕ) (ms : List (Option ℕ)) (c : Bool) → leb k (length r + 1) ≡ c
+    → length (windowsFrom k r (some x ∷ ms)) ≡ cond c 1 0 + length (windowsFrom k (r ++ (x ∷ [])) ms)
+unfolding closes windowsFrom
+closes-one k r x ms c e =
+    let n : length (r ++ (x ∷ [])) ≡ length r + 1 = omega (arith, length-append r (x ∷ [])) in
+    rw (n, e) (go c)
+  where
+    go : (c : Bool)
+        → length (cond c (drop (length r + 1 - k) (r ++ (x ∷ [])) ∷ []) [] ++ windowsFrom k (r ++ (x ∷ [])) ms)
+        ≡ cond c 1 0 + length (windowsFrom k (r ++ (x ∷ [])) ms)
+    go true = omega arith
+    go false = omega arith
+
+module _ (rank : ℕ → Option ℕ) (k : ℕ) where
+  Told : List Item → Type 0
+  Told is = (at : ℕ) (t : Tally) (r : List ℕ) → t .run ≡ length r
+      → scanFrom rank k at t is ≡ outcome (faultFrom (ltb 0 (t .records)) at is) (rest rank k t r is)
+
+  opened : (is : List Item) → Told is → Told (Opens ∷ is)
+  unfolding Told scanFrom faultFrom recordsIn lettersIn foreignIn marks edgesFrom windowsFrom
+  opened is ih at t r e =
+      ih (suc at) (withHeader t) [] refl
+      ∙ rw (lt-ltb 0 (t .records + 1) (omega arith)) (ap (outcome (faultFrom true (suc at) is)) (same-numbers (omega arith) refl refl refl refl))
+
+  -- A letter after a header: by its rank, and by whether it closes a window.
+  ranked : (is : List Item) → Told is → (o : Option ℕ) (c : Bool) (at : ℕ) (t : Tally) (r : List ℕ) → t .run ≡ length r
+      → ltb 0 (t .records) ≡ true
+      → leb k (t .run + 1) ≡ c
+      → scanFrom rank k (suc at) (withLetter k t o) is
+      ≡ outcome (faultFrom true (suc at) is)
+      (plus t (recordsIn is) (suc (lettersIn is)) (oneIfForeign o + foreignIn rank is) (edgesFrom k (length r) (o ∷ marks rank is))
+      (length (windowsFrom k r (o ∷ marks rank is))))
+  unfolding Told withLetter oneIfForeign edgesFrom windowsFrom
+  ranked is ih none c at t r e h f =
+      ih (suc at) (withLetter k t none) [] refl
+      ∙ rw h (ap (outcome (faultFrom true (suc at) is)) (same-numbers refl (omega arith) (omega arith) refl refl))
+  ranked is ih (some x) true at t r e h f =
+      let n : length (r ++ (x ∷ [])) ≡ length r + 1 = omega (arith, length-append r (x ∷ [])) in
+      let g : leb k (length r + 1) ≡ true = rw (← e) f in
+      let l = closes-one k r x (marks rank is) true g in
+      rw (f, g)
+      (ih (suc at) _ (r ++ (x ∷ [])) (omega arith)
+      ∙ rw (h, n) (ap (outcome (faultFrom true (suc at) is)) (same-numbers refl (omega arith) (omega arith) (omega arith) (omega arith))))
+  ranked is ih (some x) false at t r e h f =
+      let n : length (r ++ (x ∷ [])) ≡ length r + 1 = omega (arith, length-append r (x ∷ [])) in
+      let g : leb k (length r + 1) ≡ false = rw (← e) f in
+      let l = closes-one k r x (marks rank is) false g in
+      rw (f, g)
+      (ih (suc at) _ (r ++ (x ∷ [])) (omega arith)
+      ∙ rw (h, n) (ap (outcome (faultFrom true (suc at) is)) (same-numbers refl (omega arith) (omega arith) (omega arith) (omega arith))))
+
+  lettered : (b : ℕ) (is : List Item) → Told is → Told (Letter b ∷ is)
+  unfolding Told scanFrom faultFrom recordsIn lettersIn foreignIn marks
+  lettered b is ih at t r e = go (eqb (t .records) 0) refl
+    where
+      go : (c : Bool) → eqb (t .records) 0 ≡ c
+          → afterStep (cond c AtEarly (On (withLetter k t (rank b)))) at (λ (u : Tally). scanFrom rank k (suc at) u is)
+          ≡ outcome (cond (ltb 0 (t .records)) (faultFrom (ltb 0 (t .records)) (suc at) is) (some (11, at))) (rest rank k t r (Letter b ∷ is))
+      go true f = rw (le-ltb 0 (t .records) (omega (arith, eqb-true (t .records) 0 f)))
+      go false f =
+          let ne = eqb-false (t .records) 0 f in
+          let h = lt-ltb 0 (t .records) (omega arith) in
+          rw h (ranked is ih (rank b) (leb k (t .run + 1)) at t r e h refl)
+
+  told : (is : List Item) → Told is
+  unfolding Told scanFrom faultFrom recordsIn lettersIn foreignIn marks edgesFrom windowsFrom
+  told [] at t r e = ap given (same-numbers (omega arith) (omega arith) (omega arith) (omega arith) (omega arith))
+  told (Opens ∷ is) at t r e = opened is (told is) at t r e
+  told (Skip ∷ is) at t r e = told is (suc at) t r e
+  told (Stray ∷ is) at t r e = refl
+  told (Letter b ∷ is) at t r e = lettered b is (told is) at t r e
+
+  -- The machine's answer on a whole file: the first fault, or the five numbers.
+  pub scan-is : (is : List Item) → 1 ≤ k → scanFrom rank k 0 nothingYet is ≡ outcome (faultFrom false 0 is) (numbersIn rank k is)
+  unfolding Told
+  scan-is is h =
+      told is 0 nothingYet [] refl
+      ∙ ap (outcome (faultFrom false 0 is))
+      (same-numbers (omega arith) (omega arith) (omega arith) (omega (arith, edges-stream k (marks rank is) h))
+      (omega (arith, ap length (windows-stream k (marks rank is) h))))
+
+-- ---- the loop
+
+module _ (file : List ℕ) (i : ℕ) (m : Mode) where
+  pub items-step : i < length file
+      → itemsFrom m (drop i file) ≡ item m (getD file i 0) (lfNext (drop (i + 1) file)) ∷ itemsFrom (next m (getD file i 0)) (drop (i + 1) file)
+  unfolding itemsFrom
+  items-step h = rw (add-one i, drop-cons file i 0 h)
+
+  pub items-end : length file ≤ i → itemsFrom m (drop i file) ≡ []
+  unfolding itemsFrom
+  items-end h = rw (drop-of-length-le file h)
+
+-- One item makes each number larger by one at most.
+SmallStep : ℕ → Step → Type 0
+SmallStep n (On t) = Small n t
+SmallStep n AtStray = Unit {0}
+SmallStep n AtEarly = Unit {0}
+
+small-letter : (k n : ℕ) (t : Tally) (o : Option ℕ) (b : Bool) → leb k (t .run + 1) ≡ b → Small n t → Small (n + 1) (withLetter k t o)
+unfolding withLetter
+small-letter k n t none b e s =
+    record { records = omega arith; letters = omega arith; foreign = omega arith; edge = omega arith; windows = omega arith; run = omega arith }
+small-letter k n t (some x) true e s =
+    rw e (record { records = omega arith; letters = omega arith; foreign = omega arith; edge = omega arith; windows = omega arith; run = omega arith })
+small-letter k n t (some x) false e s =
+    rw e (record { records = omega arith; letters = omega arith; foreign = omega arith; edge = omega arith; windows = omega arith; run = omega arith })
+
+small-step : (rank : ℕ → Option ℕ) (k n : ℕ) (t : Tally) (it : Item) → Small n t → SmallStep (n + 1) (took rank k t it)
+unfolding SmallStep
+small-step rank k n t Opens s =
+    record { records = omega arith; letters = omega arith; foreign = omega arith; edge = omega arith; windows = omega arith; run = omega arith }
+small-step rank k n t Skip s =
+    record { records = omega arith; letters = omega arith; foreign = omega arith; edge = omega arith; windows = omega arith; run = omega arith }
+small-step rank k n t Stray s = tt
+small-step rank k n t (Letter b) s = go (eqb (t .records) 0)
+  where
+    go : (c : Bool) → SmallStep (n + 1) (cond c AtEarly (On (withLetter k t (rank b))))
+    go true = tt
+    go false = small-letter k n t (rank b) (leb k (t .run + 1)) refl s
+
+-- At the head: the scan's answer is that of the items that are left, from here.
+pub record Scanning (file : List ℕ) (rank : ℕ → Option ℕ) (k : ℕ) (m : Mode) (t : Tally) (i : ℕ) : Type 0 where
+  pub inside : i ≤ length file
+  pub small : Small i t
+  pub answer : outcome (fileFault file) (fileNumbers rank k file) ≡ scanFrom rank k i t (itemsFrom m (drop i file))
+
+pub start : (file : List ℕ) (rank : ℕ → Option ℕ) (k : ℕ) → 1 ≤ k → Scanning file rank k Start nothingYet 0
+start file rank k h =
+    record {
+      inside = omega arith;
+      small = record { records = omega arith; letters = omega arith; foreign = omega arith; edge = omega arith; windows = omega arith; run = omega arith };
+      answer = sym (scan-is rank k (items file) h);
+    }
+
+module _ (file : List ℕ) (rank : ℕ → Option ℕ) (k : ℕ) (m : Mode) (t : Tally) (i : ℕ) (S : Scanning file rank k m t i) where
+  pub done : length file ≤ i → given (numbersOf t) ≡ outcome (fileFault file) (fileNumbers rank k file)
+  unfolding scanFrom
+  done h = sym (S .answer ∙ rw (items-end file i m h))
+
+  module _ (it : Item) (st : Step) (more : i < length file) (it-is : it ≡ item m (getD file i 0) (lfNext (drop (i + 1) file)))
+      (st-is : st ≡ took rank k t it) where
+    after : outcome (fileFault file) (fileNumbers rank k file)
+        ≡ afterStep st i (λ (u : Tally). scanFrom rank k (suc i) u (itemsFrom (next m (getD file i 0)) (drop (i + 1) file)))
+    unfolding scanFrom
+    after = S .answer ∙ rw (items-step file i m more, st-is, it-is)
+
+    pub at-stray : st ≡ AtStray → refused (10, i) ≡ outcome (fileFault file) (fileNumbers rank k file)
+    at-stray e = sym (after ∙ rw e)
+
+    pub at-early : st ≡ AtEarly → refused (11, i) ≡ outcome (fileFault file) (fileNumbers rank k file)
+    at-early e = sym (after ∙ rw e)
+
+    pub turn : (m′ : Mode) (u : Tally) → st ≡ On u → m′ ≡ next m (getD file i 0) → Scanning file rank k m′ u (i + 1)
+    unfolding SmallStep
+    turn m′ u e m-is =
+        let s : SmallStep (i + 1) st = rw st-is (small-step rank k i t it (S .small)) in
+        rw m-is (record { inside = omega arith; small = rw e at s; answer = after ∙ rw (e, add-one i) })

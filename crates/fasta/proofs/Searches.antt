@@ -1,0 +1,79 @@
+-- One step of each search that the record reader makes, and what each of its functions answers, from the definitions.
+use mathlib.Core.Path.{_≡_}
+use Prim.Native.Nat.{ℕ, suc, _+_, _-_, _<_, _≤_}
+use native.Mathlib.Numerals.{add-one}
+use native.Mathlib.Omega.{arith}
+use mathlib.Core.Bool.{true, false}
+use mathlib.Core.List.{List}
+use lib.ListN.{length, getD}
+use lib.Dec.{eqb}
+use borrow.Author.Tests.{eq-eqb, ne-eqb, lt-ltb, le-ltb}
+use Rattle.fasta.specs.declared.records.Found.the-variants.{Record, Nothing}
+use Rattle.fasta.specs.Records.{isHeader, headerFrom, headerAt, lfFrom, lineEnd, recordTo, recordFrom}
+
+module _ (file : List ℕ) (i : ℕ) where
+  one-more : i < length file → length file - i ≡ suc (length file - suc i)
+  one-more h = omega arith
+
+  none-left : length file ≤ i → length file - i ≡ 0
+  none-left h = omega arith
+
+  pub header-here : i < length file → isHeader file i ≡ true → headerAt file i ≡ i
+  unfolding headerFrom
+  header-here h e = rw (one-more h, e)
+
+  pub header-next : i < length file → isHeader file i ≡ false → headerAt file i ≡ headerAt file (i + 1)
+  unfolding headerFrom
+  header-next h e = rw (one-more h, e, add-one i)
+
+  pub header-none : length file ≤ i → headerAt file i ≡ i
+  unfolding headerFrom
+  header-none h = rw (none-left h)
+
+  pub lf-here : i < length file → getD file i 0 ≡ 10 → lfFrom file i (length file - i) ≡ i
+  unfolding lfFrom
+  lf-here h e = rw (one-more h, eq-eqb (getD file i 0) 10 e)
+
+  pub lf-next : i < length file → (getD file i 0 ≡ 10 → ⊥) → lfFrom file i (length file - i) ≡ lfFrom file (i + 1) (length file - (i + 1))
+  unfolding lfFrom
+  lf-next h e = rw (one-more h, ne-eqb (getD file i 0) 10 e, add-one i)
+
+  pub lf-none : length file ≤ i → lfFrom file i (length file - i) ≡ i
+  unfolding lfFrom
+  lf-none h = rw (none-left h)
+
+  pub no-mark : (getD file i 0 ≡ 62 → ⊥) → false ≡ isHeader file i
+  unfolding isHeader
+  no-mark e = rw (ne-eqb (getD file i 0) 62 e)
+
+  pub at-start : getD file i 0 ≡ 62 → i ≡ 0 → true ≡ isHeader file i
+  unfolding isHeader
+  at-start e f = rw (eq-eqb (getD file i 0) 62 e, eq-eqb i 0 f)
+
+  pub after-lf : getD file i 0 ≡ 62 → (i ≡ 0 → ⊥) → eqb (getD file (i - 1) 0) 10 ≡ isHeader file i
+  unfolding isHeader
+  after-lf e f = rw (eq-eqb (getD file i 0) 62 e, ne-eqb i 0 f)
+
+module _ (file : List ℕ) (h e : ℕ) where
+  pub with-cr : e < length file → (end : ℕ) → end ≡ headerAt file (e + 1) → getD file (e - 1) 0 ≡ 13
+      → Record h (e - 1 - h) (e + 1) (end - (e + 1)) ≡ recordTo file h e
+  unfolding recordTo
+  with-cr g end f c = rw (lt-ltb e (length file) g, eq-eqb (getD file (e - 1) 0) 13 c, f)
+
+  pub with-lf : e < length file → (end : ℕ) → end ≡ headerAt file (e + 1) → (getD file (e - 1) 0 ≡ 13 → ⊥)
+      → Record h (e - h) (e + 1) (end - (e + 1)) ≡ recordTo file h e
+  unfolding recordTo
+  with-lf g end f c = rw (lt-ltb e (length file) g, ne-eqb (getD file (e - 1) 0) 13 c, f)
+
+  pub cut-off : e ≡ length file → Record h (e - h) e 0 ≡ recordTo file h e
+  unfolding recordTo
+  cut-off g = rw (le-ltb e (length file) (omega arith), g)
+
+module _ (file : List ℕ) (at h : ℕ) (f : h ≡ headerAt file at) where
+  pub some-record : h < length file → (e : ℕ) → e ≡ lineEnd file h → recordTo file h e ≡ recordFrom file at
+  unfolding recordFrom
+  some-record g e k = rw (← f, lt-ltb h (length file) g, k)
+
+  pub no-record : length file ≤ h → Nothing ≡ recordFrom file at
+  unfolding recordFrom
+  no-record g = rw (← f, le-ltb h (length file) g)

@@ -1,0 +1,95 @@
+-- `fasta::scan_file` meets its contract. The invariant, `Scanning`: the answer for the file is that of the items that are left, from the
+-- tally reached.
+use Prim.Native.Nat.{_-_, _≤_}
+use native.Mathlib.Omega.{arith}
+use borrow.Author.Needs.{needs}
+use lib.ListN.{length}
+use Rattle.settings.specs.RankTables.{rankByTable}
+use Rattle.fasta.proofs.Scans.{Scanning, start, done, at-stray, at-early, turn}
+use Rattle.fasta.proofs.scan_file.Statement.{statement}
+use Rattle.fasta.proofs.scan_file.Tie as tie
+
+abbrev Inv-loop : tie.InvT-loop
+Inv-loop file ranks k mode₀ t₀ i₀ mode t i = (length file ≤ 16777216) × Scanning file (rankByTable ranks) k mode t i
+
+abbrev μ-loop : tie.MeasureT-loop
+μ-loop file ranks k mode₀ t₀ i₀ mode t i = length file - i
+
+loop-holds : tie.Need-loop-holds Inv-loop μ-loop
+loop-holds c = (c .before .pre .0, start _ _ _ (c .before .pre .1))
+
+item-at-requires : tie.Need-item-at-requires Inv-loop μ-loop
+item-at-requires c κs = omega arith
+
+take-item-requires : tie.Need-take-item-requires Inv-loop μ-loop
+take-item-requires c κs = search needs
+
+enum-told : tie.Need-enum-told Inv-loop μ-loop
+enum-told c = search needs
+
+returns : tie.Need-returns Inv-loop μ-loop
+returns c =
+    let took = c .before .before in
+    let test = took .before .before in
+    let inv = test .before .loop .inv in
+    at-stray _ _ _ _ _ _ (inv .1) _ _ (test .loop-test .taken) (took .before .item-at .ensures) (took .take-item .ensures) (c .enum-told .given .1)
+
+enum-told-2 : tie.Need-enum-told-2 Inv-loop μ-loop
+enum-told-2 c = search needs
+
+returns-2 : tie.Need-returns-2 Inv-loop μ-loop
+returns-2 c =
+    let took = c .before .before in
+    let test = took .before .before in
+    let inv = test .before .loop .inv in
+    at-early _ _ _ _ _ _ (inv .1) _ _ (test .loop-test .taken) (took .before .item-at .ensures) (took .take-item .ensures) (c .enum-told2 .given .1)
+
+enum-known-u : tie.Need-enum-known-u Inv-loop μ-loop
+enum-known-u c = search needs
+
+shared-slice-read-next-mode : tie.Need-shared-slice-read-next-mode Inv-loop μ-loop
+shared-slice-read-next-mode c = omega arith
+
+next-mode-requires : tie.Need-next-mode-requires Inv-loop μ-loop
+next-mode-requires c κs = search needs
+
+add-i : tie.Need-add-i Inv-loop μ-loop
+add-i c = omega arith
+
+loop-less : tie.Need-loop-less Inv-loop μ-loop
+loop-less c = omega arith
+
+loop-again : tie.Need-loop-again Inv-loop μ-loop
+loop-again c =
+    let u = c .before .before .before in
+    let took = u .before .before in
+    let test = took .before .before in
+    let inv = test .before .loop .inv in (
+      inv .0,
+      turn _ _ _ _ _ _ (inv .1) _ _ (test .loop-test .taken) (took .before .item-at .ensures) (took .take-item .ensures) _ _ (u .u .given .1)
+          (c .next-mode .ensures),
+    )
+
+returns-3 : tie.Need-returns-3 Inv-loop μ-loop
+returns-3 c = done _ _ _ _ _ _ (c .before .loop .inv .1) (c .loop-test .left)
+
+pub scan-file-spec : {M : Type 1} → statement M
+scan-file-spec =
+    tie.close
+    (tie.spec
+    Inv-loop
+    μ-loop
+    loop-holds
+    item-at-requires
+    take-item-requires
+    enum-told
+    returns
+    enum-told-2
+    returns-2
+    enum-known-u
+    shared-slice-read-next-mode
+    next-mode-requires
+    add-i
+    loop-less
+    loop-again
+    returns-3)

@@ -1,0 +1,39 @@
+-- The table of all bytes' ranks, filled from the front by the loop of `fill_rank_table`.
+use mathlib.Core.Path.{_≡_}
+use mathlib.Core.Option.{some}
+use mathlib.Core.List.{List}
+use Prim.Native.Nat.{ℕ, _<_, _+_, _≤_}
+use native.Mathlib.Decide.{ℕ-discrete}
+use native.Mathlib.Omega.{arith}
+use borrow.Author.Tests.{ne-eqb}
+use lib.ListN.{length, set}
+use lib.Seq.{getD-set-same, getD-set-other}
+use Rattle.settings.specs.RankTables.{asRank, rankByTable, RankTable}
+use Rattle.settings.specs.Settings.{rankIn}
+
+pub as-some : (x : ℕ) → x < 255 → asRank x ≡ some x
+unfolding asRank
+as-some x h = rw (ne-eqb x 255 (λ z. omega arith))
+
+-- ---- the table, filled from the front
+
+-- The bytes below n have their ranks.
+pub Filled : List ℕ → List ℕ → ℕ → Type 0
+Filled letters table n = (b : ℕ) → b < n → rankByTable table b ≡ rankIn letters b
+
+pub fill-one : (letters table : List ℕ) (n r : ℕ) → n < length table → asRank r ≡ rankIn letters n → Filled letters table n
+    → Filled letters (set table n r) (n + 1)
+unfolding Filled
+fill-one letters table n r h e f b g =
+    elim (ℕ-discrete b n) as (λ _. rankByTable (set table n r) b ≡ rankIn letters b) [
+      | yes q ↦ rw q (rw (getD-set-same table n r 0 h) e)
+      | no q ↦ rw (getD-set-other table n b r 0 q) (f b (omega arith))
+    ]
+
+pub fill-none : (letters table : List ℕ) → Filled letters table 0
+unfolding Filled
+fill-none letters table b h = absurd (omega arith)
+
+pub fill-all : (letters table : List ℕ) (n : ℕ) → 256 ≤ n → Filled letters table n → RankTable letters table
+unfolding Filled
+fill-all letters table n h f = record { same = λ b g. f b (omega arith) }
