@@ -1,5 +1,6 @@
 /*
- * kmer.h: the C calls of libkmer.a, which code k-mers, read codes back and mirror k-mers.
+ * kmer.h: the C calls of libkmer.a, which code k-mers, read codes back, mirror k-mers, and code all k-mers
+ * along a sequence.
  *
  * A class is a word of k letters together with its mirror. The calls work with the minimal encoding
  * of canonical k-mers (Wittler 2023): each class has one code, from 0 to the number of classes less 1.
@@ -14,9 +15,10 @@
  *   mirror                KMER_REVERSAL or KMER_COMPLEMENT; the latter needs an even s.
  *
  * Every pointer comes with its length in bytes, may be NULL where that length is 0, and must otherwise
- * point to as many bytes. Nothing need end in a 0 byte. out must not overlap letters or word. Whatever
- * the numbers and bytes are, a call returns and touches no other memory; it never writes to letters or
- * word. The calls keep no state, so several threads may call at once, each with an out of its own.
+ * point to as many bytes. Nothing need end in a 0 byte. A buffer that is written must not overlap one that
+ * is read. Whatever the numbers and bytes are, a call returns and touches no other memory; it never writes
+ * to letters, word or sequence. The calls keep no state, so several threads may call at once, each with a
+ * buffer of its own.
  *
  * An answer below 2^63 is a result. An answer from 2^63 on is a refusal: see kmer_is_refused below.
  * Of several grounds for refusing that apply, the one with the lowest number is returned.
@@ -44,7 +46,8 @@ enum kmer_grounds {
     KMER_ODD_COMPLEMENT = 3, /* reverse complement with an odd number of letters */
     KMER_BAD_K = 4,          /* k is 0, or s^k is above 2^62 */
     KMER_BAD_LENGTH = 5,     /* word_len is not k */
-    KMER_SHORT_BUFFER = 7,   /* out_len is below k; P is k */
+    KMER_TOO_LARGE = 6,      /* sequence_len is above 16,777,216 */
+    KMER_SHORT_BUFFER = 7,   /* the lent buffer is too short; P is the length needed */
     KMER_BAD_CODE = 8,       /* code is not below the number of classes */
     KMER_FOREIGN_BYTE = 9    /* a byte of word is no letter of the settings; P is the first such place */
 };
@@ -82,6 +85,31 @@ uint64_t kmer_word(const uint8_t *letters, size_t letters_len, size_t k, uint64_
 uint64_t kmer_mirror(const uint8_t *letters, size_t letters_len, size_t k, uint64_t mirror,
                      const uint8_t *word, size_t word_len, uint8_t *out, size_t out_len);
 
+/*
+ * Codes every window of k letters along a plain sequence.
+ *   sequence, sequence_len  the bytes of the sequence, at most 16,777,216. A small letter counts as its
+ *                           capital; any byte may stand in it.
+ *   codes, codes_len        the list for the codes and its length in 64-bit numbers. Its place j, from 0,
+ *                           receives the code of the k bytes from place j of the sequence, or KMER_NO_CODE
+ *                           where one of them is no letter of the settings; it needs a place for each
+ *                           window, that is sequence_len - k + 1, or none where the sequence is shorter
+ *                           than k. Later places keep what they held.
+ * Returns how many places were filled, or 2^63 + P * 256 + the number of the first ground that applies of
+ * 1, 2, 3, 4, 6, 7, where P is the length needed for 7, else 0. A refused call writes nothing to codes.
+ */
+uint64_t kmer_codes(const uint8_t *letters, size_t letters_len, size_t k, uint64_t mirror,
+                    const uint8_t *sequence, size_t sequence_len, uint64_t *codes, size_t codes_len);
+
+/*
+ * The same for the letters ACGT under reverse complement, by two-bit numbers: on every input it returns
+ * and writes what kmer_codes does with these settings, and is faster.
+ */
+uint64_t kmer_codes_two_bit(size_t k, const uint8_t *sequence, size_t sequence_len, uint64_t *codes,
+                            size_t codes_len);
+
+/* What kmer_codes writes for a window that has a byte which is no letter: 2^64 - 1, which is no code. */
+#define KMER_NO_CODE UINT64_C(0xffffffffffffffff)
+
 /* The lowest answer that is a refusal: 2^63. */
 #define KMER_REFUSED UINT64_C(0x8000000000000000)
 
@@ -98,8 +126,9 @@ static inline unsigned kmer_refusal(uint64_t answer)
 }
 
 /*
- * P of a refusal by kmer_mirror: the length needed for KMER_SHORT_BUFFER, the place from 0 for
- * KMER_FOREIGN_BYTE, else 0. kmer_code and kmer_word return no P, so for these it is always 0.
+ * P of a refusal by kmer_mirror, kmer_codes or kmer_codes_two_bit: the length needed for
+ * KMER_SHORT_BUFFER, the place from 0 for KMER_FOREIGN_BYTE, else 0. kmer_code and kmer_word return no P,
+ * so for these it is always 0.
  */
 static inline uint64_t kmer_refusal_p(uint64_t answer)
 {

@@ -5,5 +5,6 @@ pub mod calls;
 pub mod draw;
 pub mod expected;
 pub mod second_coder;
+pub mod sequences;
 pub mod settings;
 pub mod vectors;

@@ -1,20 +1,26 @@
--- The number of a refusal is small, and so is the P of a refused mirroring, so that an answer holds both.
-use mathlib.Core.Path.{_≡_, refl}
+-- What the calls that return P rest on: the number of a refusal is small, and so is the P of each call, so that one number holds both; and the
+-- answer and buffer of such a call, from those of the call below it.
+use mathlib.Core.Path.{_≡_, refl, sym, ap, _∙_}
 use mathlib.Core.Option.{Option, none, some}
 use mathlib.Core.List.{List, [], _∷_}
-use Prim.Native.Nat.{ℕ, suc, _+_, _^_, _<_, _≤_}
+use Prim.Native.Nat.{ℕ, suc, _+_, _*_, _^_, _<_, _≤_}
 use native.Mathlib.Omega.{arith}
+use lib.Dec.{ltb}
 use lib.ListN.{length}
-use borrow.Author.Tests.{eqb-true, not-false}
+use borrow.Author.Tests.{eqb-true, not-false, ltb-false}
+use Rattle.laws.specs.Windows.{windows}
+use Rattle.laws.proofs.Powers.{exponent-le}
 use Rattle.settings.specs.declared.Refusal.{Refusal}
 use Rattle.settings.specs.declared.Refusal.the-variants.{BadLetters, BadMirror, OddComplement, BadK, WrongLength, TooLarge, ShortBuffer, NoSuchCode, ForeignByte, StrayByte, EarlyLetter, CountsFull, NoSurveyLine, LongInput}
-use Rattle.settings.specs.Grounds.{Ground, Outcome, refused, groundOf, ground, groundAt, tooShort, outcome, _orElse_}
+use Rattle.settings.specs.Grounds.{Ground, Outcome, given, refused, groundOf, ground, groundAt, tooShort, outcome, _orElse_, Overwrites}
 use Rattle.settings.specs.Settings.{rankIn, settingsGround}
 use Rattle.settings.proofs.Outcomes.{test-fails}
-use Rattle.settings.proofs.SettingsGrounds.{limits}
+use Rattle.settings.proofs.SettingsGrounds.{limits, good-settings}
 use Rattle.settings.proofs.Places.{Small, test-small, place-small, then-small, room-small, settings-small}
-use Rattle.laws.proofs.Powers.{exponent-le}
-use Rattle.encoding.specs.Calls.{hereOr, foreignFrom, wrongLength, mirrorGround, mirroring}
+use Rattle.encoding.specs.Calls.{hereOr, foreignFrom, wrongLength, mirrorGround}
+use Rattle.sequence.specs.Sequences.{sequenceGround}
+use Rattle.sequence.proofs.Windows.{length-windows}
+use Rattle.kmer.specs.Returned.{returnedWithPlace, ReturnsPlaces}
 
 pub number-small : (f : Refusal) → groundOf f .0 ≤ 14
 number-small BadLetters = omega arith
@@ -32,6 +38,24 @@ number-small CountsFull = omega arith
 number-small NoSurveyLine = omega arith
 number-small LongInput = omega arith
 
+-- ---- the answer as one number
+
+module _ {g : Option Ground} {count : ℕ} {places old new : List ℕ} {answer : Outcome ℕ} (W : Overwrites g count places old answer new) where
+  pub returns-count : (n : ℕ) → answer ≡ given n → ReturnsPlaces g count places old n new
+  returns-count n e = record { returns = ap returnedWithPlace (sym e ∙ W .answers); leaves = W .leaves }
+
+  module _ (f : Refusal) (e : answer ≡ refused (groundOf f)) where
+    pub returns-refusal : (x : ℕ) → x ≡ 2 ^ 63 + groundOf f .1 * 256 + groundOf f .0 → ReturnsPlaces g count places old x new
+    returns-refusal x h = record { returns = h ∙ ap returnedWithPlace (sym e ∙ W .answers); leaves = W .leaves }
+
+    -- A P of at most n fits.
+    pub place-fits : (n : ℕ) → Small n g → n < 2 ^ 32 → groundOf f .1 < 2 ^ 32
+    place-fits n small h = go g small (sym e ∙ W .answers)
+      where
+        go : (o : Option Ground) → Small n o → refused (groundOf f) ≡ outcome o count → groundOf f .1 < 2 ^ 32
+        go none s x = absurd (let z : _≡_ {A = ℕ} 0 1 = cc in omega arith)
+        go (some o) s x = let same : groundOf f ≡ o = cc in rw same (omega (arith, s o refl))
+
 -- ---- the P of a refused mirroring is at most 62
 
 foreign-small : (letters : List ℕ) (n : ℕ) (word : List ℕ) (p : ℕ) → foreignFrom letters n word ≡ some p → p < n + length word
@@ -43,7 +67,7 @@ foreign-small letters n (b ∷ bs) p e = go (rankIn letters b) (foreign-small le
     go none ih f = let z : n ≡ p = cc in omega arith
     go (some rank) ih f = omega (arith, ih f)
 
-mirror-small : (letters : List ℕ) (k m : ℕ) (word : List ℕ) (room : ℕ) → Small 62 (mirrorGround letters k m word room)
+pub mirror-small : (letters : List ℕ) (k m : ℕ) (word : List ℕ) (room : ℕ) → Small 62 (mirrorGround letters k m word room)
 unfolding mirrorGround
 mirror-small letters k m word room =
     let g5 = ground 5 (wrongLength k word) in
@@ -59,10 +83,16 @@ mirror-small letters k m word room =
     then-small 62 g7 g9 (place-small 62 7 (tooShort room k) (λ p e. omega (arith, room-small room k p e)))
     (λ _. place-small 62 9 (foreignFrom letters 0 word) (λ p e. omega (arith, foreign-small letters 0 word p e)))))
 
--- A refusal that is the answer of a mirroring has a P that fits.
-pub refused-small : (letters : List ℕ) (k m : ℕ) (word : List ℕ) (room : ℕ) (f : Refusal) → refused (groundOf f) ≡ mirroring letters k m word room → groundOf f .1 < 2 ^ 32
-refused-small letters k m word room f e = go (mirrorGround letters k m word room) (mirror-small letters k m word room) e
-  where
-    go : (g : Option Ground) → Small 62 g → refused (groundOf f) ≡ outcome g k → groundOf f .1 < 2 ^ 32
-    go none h x = absurd (let z : _≡_ {A = ℕ} 0 1 = cc in omega arith)
-    go (some g) h x = let same : groundOf f ≡ g = cc in rw same (omega (arith, h g refl))
+-- ---- the P of a refused call along a sequence is at most 16,777,216
+
+pub sequence-small : (letters : List ℕ) (k m : ℕ) (sequence : List ℕ) (room : ℕ) → Small 16777216 (sequenceGround letters k m sequence room)
+unfolding sequenceGround
+sequence-small letters k m sequence room =
+    let g6 = ground 6 (ltb 16777216 (length sequence)) in
+    let needed = length (windows k sequence) in
+    then-small 16777216 (settingsGround letters k m) (g6 orElse groundAt 7 (tooShort room needed)) (settings-small letters k m 16777216)
+    (λ passed. then-small 16777216 g6 (groundAt 7 (tooShort room needed)) (test-small 16777216 6 (ltb 16777216 (length sequence)))
+    (λ short.
+    let some-k : 1 ≤ k = omega (arith, good-settings letters k m passed .some-k) in
+    let within = ltb-false 16777216 (length sequence) (test-fails 6 (ltb 16777216 (length sequence)) short) in
+    place-small 16777216 7 (tooShort room needed) (λ p e. omega (arith, room-small room needed p e, length-windows k some-k sequence, within))))

@@ -1,13 +1,17 @@
-// The calls for C programs (include/kmer.h): word coding, code reading and mirroring, on numbers and byte slices.
+// The calls for C programs (include/kmer.h): word coding, code reading, mirroring and codes along a sequence, on numbers and slices.
 ghost use mathlib.Core.Path.{_≡_};
 ghost use Prim.Native.Nat.{_+_, _*_, _^_, _<_};
 ghost use lib.ListN.{length};
 ghost use Rattle.settings.specs.Grounds.{groundOf, overwritten};
-ghost use Rattle.encoding.specs.Calls.{coding, reading, readGround, wordBytes, mirroring, mirrorGround, mirrorBytes};
-ghost use Rattle.kmer.specs.Returned.{returned, returnedWithPlace};
+ghost use Rattle.encoding.specs.Calls.{coding, reading, readGround, wordBytes, mirrorGround, mirrorBytes};
+ghost use Rattle.kmer.specs.Returned.{returned, ReturnsPlaces};
+ghost use Rattle.laws.specs.Text.{bytes};
+ghost use Rattle.laws.specs.Windows.{windows};
+ghost use Rattle.sequence.specs.Sequences.{sequenceGround, sequenceCodes};
 use encoding::Code;
 use encoding::Coding;
 use encoding::Filling;
+use sequence::Filled;
 use settings::Refusal;
 
 // The number of a refusal.
@@ -100,11 +104,42 @@ pub extern "C" fn kmer_mirror(
     out: &mut [u8],
 ) -> u64
     ensures { λ r.
-        ⌜ (r ≡ returnedWithPlace (mirroring (now (letters .entry)) k mirror (now (word .entry)) (length (now (out .entry)))))
-        × (now (out .exit) ≡ overwritten (mirrorGround (now (letters .entry)) k mirror (now (word .entry)) (length (now (out .entry)))) (mirrorBytes (now (letters .entry)) mirror (now (word .entry))) (now (out .entry))) ⌝ }
+        ⌜ ReturnsPlaces (mirrorGround (now (letters .entry)) k mirror (now (word .entry)) (length (now (out .entry)))) k
+        (mirrorBytes (now (letters .entry)) mirror (now (word .entry))) (now (out .entry)) r (now (out .exit)) ⌝ }
 {
     match encoding::mirror_of(letters, k, mirror, word, out) {
         Filling::Filled(n) => n as u64,
         Filling::Unfilled(f) => refused_at(f),
+    }
+}
+
+#[no_mangle]
+pub extern "C" fn kmer_codes(
+    letters: &[u8],
+    k: usize,
+    mirror: u64,
+    sequence: &[u8],
+    codes: &mut [u64],
+) -> u64
+    ensures { λ r.
+        ⌜ ReturnsPlaces (sequenceGround (now (letters .entry)) k mirror (now (sequence .entry)) (length (now (codes .entry))))
+        (length (windows k (now (sequence .entry)))) (sequenceCodes (now (letters .entry)) k mirror (now (sequence .entry))) (now (codes .entry)) r (now (codes .exit)) ⌝ }
+{
+    match sequence::codes(letters, k, mirror, sequence, codes) {
+        Filled::Count(n) => n as u64,
+        Filled::Refused(f) => refused_at(f),
+    }
+}
+
+// For ACGT under complement, by two-bit numbers.
+#[no_mangle]
+pub extern "C" fn kmer_codes_two_bit(k: usize, sequence: &[u8], codes: &mut [u64]) -> u64
+    ensures { λ r.
+        ⌜ ReturnsPlaces (sequenceGround (bytes "ACGT") k 1 (now (sequence .entry)) (length (now (codes .entry))))
+        (length (windows k (now (sequence .entry)))) (sequenceCodes (bytes "ACGT") k 1 (now (sequence .entry))) (now (codes .entry)) r (now (codes .exit)) ⌝ }
+{
+    match sequence::codes_two_bit(k, sequence, codes) {
+        Filled::Count(n) => n as u64,
+        Filled::Refused(f) => refused_at(f),
     }
 }

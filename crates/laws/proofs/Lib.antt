@@ -2,3 +2,4 @@
 pub mod Powers
 pub mod DigitWindows
 pub mod Lists
+pub mod Buffers

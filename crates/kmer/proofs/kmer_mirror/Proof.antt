@@ -1,9 +1,9 @@
 -- `kmer::kmer_mirror` meets its contract.
-use mathlib.Core.Path.{_≡_, refl, sym, ap, _∙_}
-use Rattle.encoding.specs.Answers.{ofFilling}
-use Rattle.kmer.specs.Returned.{returnedWithPlace}
-use Rattle.kmer.proofs.Refusals.{refused-small}
+use mathlib.Core.Path.{ap}
+use native.Mathlib.Omega.{arith}
 use borrow.Author.Needs.{needs}
+use Rattle.encoding.specs.Answers.{ofFilling}
+use Rattle.kmer.proofs.Refusals.{returns-count, returns-refusal, place-fits, mirror-small}
 use Rattle.kmer.proofs.kmer_mirror.Statement.{statement}
 use Rattle.kmer.proofs.kmer_mirror.Tie as tie
 
@@ -21,7 +21,7 @@ refused-at-requires c κs =
     let f = c .before in
     let made = f .before .before .before .before in
     let a = made .before .before .before .before .before .args in
-    refused-small (a .letters .now) (a .k) (a .mirror) (a .word .now) _ (f .f .given .0 .0) (sym (ap ofFilling (f .f .given .1)) ∙ made .mirror-of .ensures .answers)
+    place-fits (made .mirror-of .ensures) (f .f .given .0 .0) (ap ofFilling (f .f .given .1)) 62 (mirror-small (a .letters .now) (a .k) (a .mirror) (a .word .now) _) (omega arith)
 
 same-length : tie.Need-same-length
 same-length c = search needs
@@ -29,8 +29,7 @@ same-length c = search needs
 returns : tie.Need-returns
 returns c =
     let n = c .before in
-    let wo = n .before .before .before .before in
-    (ap returnedWithPlace (sym (ap ofFilling (n .n .given .1)) ∙ wo .mirror-of .ensures .answers), wo .mirror-of .ensures .leaves)
+    returns-count (n .before .before .before .before .mirror-of .ensures) (n .n .given .0 .0) (ap ofFilling (n .n .given .1))
 
 same-length-2 : tie.Need-same-length-2
 same-length-2 c = search needs
@@ -38,8 +37,7 @@ same-length-2 c = search needs
 returns-2 : tie.Need-returns-2
 returns-2 c =
     let f = c .before .before in
-    let wo = f .before .before .before .before in
-    (c .refused-at .ensures ∙ ap returnedWithPlace (sym (ap ofFilling (f .f .given .1)) ∙ wo .mirror-of .ensures .answers), wo .mirror-of .ensures .leaves)
+    returns-refusal (f .before .before .before .before .mirror-of .ensures) (f .f .given .0 .0) (ap ofFilling (f .f .given .1)) _ (c .refused-at .ensures)
 
 pub kmer-mirror-spec : {M : Type 1} → statement M
 kmer-mirror-spec =

@@ -1,0 +1,115 @@
+//! Prints nanoseconds a letter, the median of several runs, of both paths of libkmer.a along random sequences, beside plain Rust
+//! versions of the same algorithms in the same run, and the ratios that the repository promises.
+
+mod baseline;
+
+use std::time::Instant;
+
+extern "C" {
+    fn kmer_codes(
+        letters: *const u8,
+        letters_len: usize,
+        k: usize,
+        mirror: u64,
+        sequence: *const u8,
+        sequence_len: usize,
+        codes: *mut u64,
+        codes_len: usize,
+    ) -> u64;
+    fn kmer_codes_two_bit(k: usize, sequence: *const u8, sequence_len: usize, codes: *mut u64, codes_len: usize) -> u64;
+}
+
+const LETTERS: usize = 16_000_000;
+const RUNS: usize = 11;
+
+fn general(letters: &[u8], k: usize, mirror: u64, sequence: &[u8], codes: &mut [u64]) -> usize {
+    // SAFETY: each pointer points to as many places as the length says.
+    unsafe {
+        let (from, to) = (sequence.as_ptr(), codes.as_mut_ptr());
+        kmer_codes(letters.as_ptr(), letters.len(), k, mirror, from, sequence.len(), to, codes.len()) as usize
+    }
+}
+
+fn two_bit(k: usize, sequence: &[u8], codes: &mut [u64]) -> usize {
+    // SAFETY: as above.
+    unsafe { kmer_codes_two_bit(k, sequence.as_ptr(), sequence.len(), codes.as_mut_ptr(), codes.len()) as usize }
+}
+
+/// A random sequence over some letters (SplitMix64).
+fn drawn(letters: &[u8], length: usize) -> Vec<u8> {
+    let mut state = 1u64;
+    let mut next = || {
+        state = state.wrapping_add(0x9e37_79b9_7f4a_7c15);
+        let z = (state ^ (state >> 30)).wrapping_mul(0xbf58_476d_1ce4_e5b9);
+        let z = (z ^ (z >> 27)).wrapping_mul(0x94d0_49bb_1331_11eb);
+        z ^ (z >> 31)
+    };
+    (0..length).map(|_| letters[(next() % letters.len() as u64) as usize]).collect()
+}
+
+/// The medians of several versions in nanoseconds a letter; their runs take turns, and all must fill the same codes.
+fn medians(sequence: &[u8], versions: &[&dyn Fn(&mut [u64]) -> usize]) -> Vec<f64> {
+    let mut first = vec![0; sequence.len()];
+    let filled = versions[0](&mut first);
+    let mut codes = vec![0; sequence.len()];
+    let mut times = vec![Vec::new(); versions.len()];
+    for _ in 0..RUNS {
+        for (version, times) in versions.iter().zip(&mut times) {
+            let start = Instant::now();
+            let count = version(&mut codes);
+            times.push(start.elapsed().as_nanos() as f64 / sequence.len() as f64);
+            assert!(count == filled && codes[..count] == first[..count], "two versions differ");
+        }
+    }
+    times.iter_mut().for_each(|times| times.sort_by(f64::total_cmp));
+    times.iter().map(|times| times[RUNS / 2]).collect()
+}
+
+fn main() {
+    println!("ns a letter, median of {RUNS} runs, {LETTERS} random letters");
+    let dna = drawn(b"ACGT", LETTERS);
+    let mut at_k = Vec::new();
+    for k in [12, 31] {
+        let versions: [&dyn Fn(&mut [u64]) -> usize; 4] = [
+            &|codes| two_bit(k, &dna, codes),
+            &|codes| baseline::two_bit(k, &dna, codes),
+            &|codes| general(b"ACGT", k, 1, &dna, codes),
+            &|codes| baseline::general(b"ACGT", k, true, &dna, codes),
+        ];
+        let ns = medians(&dna, &versions);
+        println!("ACGT complement k {k}: two-bit {:.2}, plain Rust {:.2}, ratio {:.2} (at most 1.3)", ns[0], ns[1], ns[0] / ns[1]);
+        println!("ACGT complement k {k}: general {:.2}, plain Rust {:.2}, ratio {:.2}", ns[2], ns[3], ns[2] / ns[3]);
+        println!("ACGT complement k {k}: general / two-bit {:.2} (at most 2.5)", ns[2] / ns[0]);
+        at_k.push(ns);
+    }
+    for (path, name) in [(0, "two-bit"), (2, "general")] {
+        println!("{name}: k 31 / k 12 {:.2} (at most 1.5)", at_k[1][path] / at_k[0][path]);
+    }
+    // Every batch has some bytes that are no letters, so that none is spared the search for the windows to blank.
+    let mut with_n = dna.clone();
+    with_n.iter_mut().step_by(997).for_each(|byte| *byte = b'N');
+    for k in [12, 31] {
+        let versions: [&dyn Fn(&mut [u64]) -> usize; 4] = [
+            &|codes| two_bit(k, &with_n, codes),
+            &|codes| baseline::two_bit(k, &with_n, codes),
+            &|codes| general(b"ACGT", k, 1, &with_n, codes),
+            &|codes| baseline::general(b"ACGT", k, true, &with_n, codes),
+        ];
+        let ns = medians(&with_n, &versions);
+        println!("ACGT and N, k {k}: two-bit {:.2}, plain Rust {:.2}, ratio {:.2}", ns[0], ns[1], ns[0] / ns[1]);
+        println!("ACGT and N, k {k}: general {:.2}, plain Rust {:.2}, ratio {:.2}", ns[2], ns[3], ns[2] / ns[3]);
+    }
+    let capitals: Vec<u8> = (b'A'..=b'P').collect();
+    for (s, k) in [(2, 31), (6, 12), (10, 12), (16, 12)] {
+        let letters = &capitals[..s];
+        let sequence = drawn(letters, LETTERS);
+        for mirror in [0, 1] {
+            let versions: [&dyn Fn(&mut [u64]) -> usize; 2] = [
+                &|codes| general(letters, k, mirror, &sequence, codes),
+                &|codes| baseline::general(letters, k, mirror == 1, &sequence, codes),
+            ];
+            let ns = medians(&sequence, &versions);
+            println!("{s} letters, mirror {mirror}, k {k}: general {:.2}, plain Rust {:.2}, ratio {:.2}", ns[0], ns[1], ns[0] / ns[1]);
+        }
+    }
+}

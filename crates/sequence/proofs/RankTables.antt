@@ -1,0 +1,121 @@
+-- Ranks as bytes and the table of all bytes' ranks: it stands for the settings' ranks in the numbers of all windows of bytes.
+use mathlib.Core.Path.{_≡_, ap, refl, sym, ap₂}
+use mathlib.Core.Bool.{Bool, cond, true, false, _&&_}
+use mathlib.Core.Option.{none, some, Option}
+use mathlib.Core.List.{List, map, [], _∷_}
+use Prim.Native.Nat.{ℕ, zero, _<_, suc, _+_}
+use native.Mathlib.Omega.{arith}
+use borrow.Author.Tests.{eq-eqb, ne-eqb}
+use lib.Dec.{T, leb}
+use lib.ListN.{length, length-map, getD, take, length-take, drop, length-drop}
+use lib.Seq.{getD-take, getD-drop}
+use Rattle.encoding.specs.Calls.{rankOrZero, ranksOf}
+use Rattle.encoding.specs.Words.{Ranks}
+use Rattle.settings.specs.RankTables.{asRank, RankTable, rankByTable}
+use Rattle.settings.specs.Settings.{rankIn, mirrorOf}
+use Rattle.settings.proofs.Ranks.{rank-below-count}
+use Rattle.laws.specs.Windows.{windows}
+use Rattle.sequence.specs.Needs.{ranksBy, RanksBelow, allRanked, codeBy}
+use Rattle.sequence.specs.Sequences.{allLetters, isRank, codeOrNone, sequenceCodes}
+
+-- ---- a rank as a byte
+
+module _ (x : ℕ) where
+  pub as-none : x ≡ 255 → asRank x ≡ none
+  unfolding asRank
+  as-none e = rw (eq-eqb x 255 e)
+
+  pub as-itself : (x ≡ 255 → ⊥) → asRank x ≡ some x
+  unfolding asRank
+  as-itself e = rw (ne-eqb x 255 e)
+
+-- The rank that stands for a byte in a list of ranks.
+module _ (x : ℕ) where
+  pub zero-none : x ≡ 255 → 0 ≡ rankOrZero (asRank x)
+  zero-none e = rw (as-none x e)
+
+  pub zero-itself : (x ≡ 255 → ⊥) → x ≡ rankOrZero (asRank x)
+  zero-itself e = rw (as-itself x e)
+
+pub length-ranks-by : (rank : ℕ → Option ℕ) (bytes : List ℕ) → length (ranksBy rank bytes) ≡ length bytes
+unfolding ranksBy
+length-ranks-by rank bytes = length-map bytes (λ (b : ℕ). rankOrZero (rank b))
+
+pub ranks-by-at : (rank : ℕ → Option ℕ) (bytes : List ℕ) (i : ℕ) → i < length bytes → getD (ranksBy rank bytes) i 0 ≡ rankOrZero (rank (getD bytes i 0))
+unfolding ranksBy
+ranks-by-at rank [] i h = absurd (omega arith)
+ranks-by-at rank (b ∷ bs) zero h = refl
+ranks-by-at rank (b ∷ bs) (suc i) h = ranks-by-at rank bs i (omega arith)
+
+-- ---- what is worked out by the table
+
+-- A table of the settings' ranks has ranks below the number of letters.
+pub table-below : {letters table : List ℕ} → RankTable letters table → 0 < length letters → RanksBelow (length letters) table
+table-below {letters} T h = record { below = λ b g. rw (T .same b g) (go b (rankIn letters b) refl) }
+  where
+    go : (b : ℕ) (r : Option ℕ) → rankIn letters b ≡ r → rankOrZero r < length letters
+    go b none e = h
+    go b (some x) e = rank-below-count letters b x (sym e)
+
+-- All bytes of a list are below 256.
+pub record Bytes (bytes : List ℕ) : Type 0 where
+  pub below : (i : ℕ) → i < length bytes → getD bytes i 0 < 256
+
+tail-bytes : {b : ℕ} {bs : List ℕ} → Bytes (b ∷ bs) → Bytes bs
+tail-bytes B = record { below = λ i h. B .below (suc i) (omega arith) }
+
+take-bytes : (n : ℕ) (w : List ℕ) → Bytes w → Bytes (take n w)
+take-bytes n w B =
+    record {
+      below = λ i h.
+          let l = length-take n w in
+          let g : i < n = omega arith in
+          rw (getD-take n w i 0 g) (B .below i (omega arith));
+    }
+
+pub drop-bytes : (n : ℕ) (w : List ℕ) → Bytes w → Bytes (drop n w)
+drop-bytes n w B = record { below = λ i h. rw (getD-drop n w i 0) (B .below (n + i) (omega (arith, length-drop n w))) }
+
+pub part-bytes : (i n : ℕ) (w : List ℕ) → Bytes w → Bytes (take n (drop i w))
+part-bytes i n w B = take-bytes n (drop i w) (drop-bytes i w B)
+
+-- Two functions that agree on words of bytes give the windows of bytes the same numbers.
+same-codes : (f g : List ℕ → ℕ) (k : ℕ) → ((word : List ℕ) → Bytes word → f word ≡ g word) → (bytes : List ℕ) → Bytes bytes → map f (windows k bytes) ≡ map g (windows k bytes)
+unfolding windows
+same-codes f g k same [] B = refl
+same-codes f g k same (b ∷ bs) B = go (leb k (suc (length bs))) (same (take k (b ∷ bs)) (take-bytes k (b ∷ bs) B)) (same-codes f g k same bs (tail-bytes B))
+  where
+    go : (t : Bool) → f (take k (b ∷ bs)) ≡ g (take k (b ∷ bs)) → map f (windows k bs) ≡ map g (windows k bs)
+        → map f (cond t (take k (b ∷ bs) ∷ windows k bs) (windows k bs)) ≡ map g (cond t (take k (b ∷ bs) ∷ windows k bs) (windows k bs))
+    go true e h = ap₂ (λ (x : ℕ) (xs : List ℕ). x ∷ xs) e h
+    go false e h = h
+
+pub ranks-below : {s : ℕ} {table : List ℕ} → RanksBelow s table → (bytes : List ℕ) → Bytes bytes → Ranks s (ranksBy (rankByTable table) bytes)
+unfolding ranksBy
+ranks-below T [] B = tt
+ranks-below T (b ∷ bs) B = (T .below b (B .below 0 (omega arith)), ranks-below T bs (tail-bytes B))
+
+module _ {letters table : List ℕ} (T : RankTable letters table) where
+  same-first : {b : ℕ} {bs : List ℕ} → Bytes (b ∷ bs) → rankByTable table b ≡ rankIn letters b
+  same-first {b} B = T .same b (B .below 0 (omega arith))
+
+  ranks-by-table : (bytes : List ℕ) → Bytes bytes → ranksBy (rankByTable table) bytes ≡ ranksOf letters bytes
+  unfolding ranksBy ranksOf
+  ranks-by-table [] B = refl
+  ranks-by-table (b ∷ bs) B = ap₂ (λ (x : ℕ) (xs : List ℕ). x ∷ xs) (ap rankOrZero (same-first B)) (ranks-by-table bs (tail-bytes B))
+
+  letters-by-table : (bytes : List ℕ) → Bytes bytes → allRanked (rankByTable table) bytes ≡ allLetters letters bytes
+  unfolding allRanked allLetters
+  letters-by-table [] B = refl
+  letters-by-table (b ∷ bs) B = ap₂ (λ (x y : Bool). x && y) (ap isRank (same-first B)) (letters-by-table bs (tail-bytes B))
+
+  code-by-table : (k mir : ℕ) (word : List ℕ) → Bytes word → codeBy (rankByTable table) (length letters) (mirrorOf mir) k word ≡ codeOrNone letters k mir word
+  unfolding codeBy codeOrNone
+  code-by-table k mir word B = rw (letters-by-table word B, ranks-by-table word B)
+
+  -- The numbers of all windows.
+  pub codes-by-table : (k mir : ℕ) (bytes : List ℕ) → Bytes bytes
+      → map (codeBy (rankByTable table) (length letters) (mirrorOf mir) k) (windows k bytes) ≡ sequenceCodes letters k mir bytes
+  unfolding sequenceCodes
+  codes-by-table k mir bytes B =
+      same-codes (codeBy (rankByTable table) (length letters) (mirrorOf mir) k) (codeOrNone letters k mir) k (λ word W. code-by-table k mir word W) bytes B

@@ -1,0 +1,117 @@
+-- The grounds of the calls along a sequence one after the other, as the calls meet them, and what the kernels ask under good settings.
+use mathlib.Core.Path.{_≡_, refl, sym, ap, _∙_, subst, subst⁻¹}
+use mathlib.Core.List.{List, map}
+use mathlib.Core.Option.{Option, none, some}
+use Prim.Native.Nat.{ℕ, _+_, _-_, _*_, _^_, _<_, _≤_}
+use native.Mathlib.Omega.{arith}
+use borrow.Author.Tests.{lt-ltb, le-ltb}
+use lib.ListN.{length}
+use Rattle.settings.specs.declared.Refusal.{Refusal}
+use Rattle.settings.specs.declared.Refusal.the-variants.{TooLarge, ShortBuffer}
+use Rattle.settings.specs.declared.Settings.{Settings}
+use Rattle.settings.specs.Grounds.{Ground, refused, groundOf, _orElse_, outcome, overwritten}
+use Rattle.settings.specs.Settings.{mirrorOf, classes, settingsGround, settingsOf}
+use Rattle.settings.proofs.Outcomes.{refused-on}
+use Rattle.settings.proofs.SettingsGrounds.{good-settings, limits}
+use Rattle.encoding.specs.Needs.{palindromes}
+use Rattle.encoding.proofs.ClassNumbers.{twice-classes, palindromes-le}
+use Rattle.sequence.specs.declared.Filled.the-variants.{Count, Refused}
+use Rattle.sequence.specs.declared.kernels.Kernel.{Kernel}
+use Rattle.sequence.specs.declared.kernels.Coder.{Coder}
+use Rattle.sequence.specs.Windows.{windows}
+use Rattle.sequence.specs.Sequences.{sequenceCodes, sequenceGround, FillsCodes}
+use Rattle.settings.specs.RankTables.{rankByTable, RankTable}
+use Rattle.sequence.specs.Needs.{Fills, Powers, Takes, Coding, RanksBelow, codeBy}
+use Rattle.sequence.proofs.Windows.{length-windows}
+use Rattle.sequence.proofs.RankTables.{Bytes, table-below, codes-by-table}
+
+-- A call refused by its first grounds changes nothing, whatever grounds come after.
+refused-leaves : {A : Type 0} (f : Ground) (a : A) (g later : Option Ground) (places old : List ℕ) → refused f ≡ outcome g a → old ≡ overwritten (g orElse later) places old
+refused-leaves f a none later places old e = absurd (let z : _≡_ {A = ℕ} 0 1 = cc in omega arith)
+refused-leaves f a (some g) later places old e = refl
+
+module _ (letters : List ℕ) (k m : ℕ) (sequence old : List ℕ) where
+  -- Bad settings.
+  pub settings-refused : (f : Refusal) → refused (groundOf f) ≡ outcome (settingsGround letters k m) (settingsOf letters k m)
+      → FillsCodes letters k m sequence old (Refused f) old
+  unfolding sequenceGround
+  settings-refused f e =
+      record {
+        answers = refused-on (groundOf f) (settingsOf letters k m) (length (windows k sequence)) (settingsGround letters k m) _ e;
+        leaves = refused-leaves (groundOf f) (settingsOf letters k m) (settingsGround letters k m) _ (sequenceCodes letters k m sequence) old e;
+      }
+
+  module _ (good : settingsGround letters k m ≡ none) where
+    some-k : 1 ≤ k
+    some-k = let ne = good-settings letters k m good .some-k in omega (arith, ne)
+
+    pub too-large : 16777216 < length sequence → FillsCodes letters k m sequence old (Refused TooLarge) old
+    unfolding sequenceGround
+    too-large h = record { answers = rw (good, lt-ltb 16777216 (length sequence) h); leaves = rw (good, lt-ltb 16777216 (length sequence) h) }
+
+    module _ (within : length sequence ≤ 16777216) (needed : ℕ) (is : needed ≡ length sequence + 1 - k) where
+      needed-is : length (windows k sequence) ≡ needed
+      needed-is = length-windows k some-k sequence ∙ sym is
+
+      pub too-short : length old < needed → FillsCodes letters k m sequence old (Refused (ShortBuffer needed)) old
+      unfolding sequenceGround
+      too-short h =
+          record {
+            answers = rw (good, le-ltb 16777216 (length sequence) within, needed-is, lt-ltb (length old) needed h);
+            leaves = rw (good, le-ltb 16777216 (length sequence) within, needed-is, lt-ltb (length old) needed h);
+          }
+
+      pub all-filled : {table new : List ℕ} → needed ≤ length old → RankTable letters table → Bytes sequence
+          → Fills (map (codeBy (rankByTable table) (length letters) (mirrorOf m) k) (windows k sequence)) old new
+          → FillsCodes letters k m sequence old (Count needed) new
+      unfolding sequenceGround
+      all-filled h T B F =
+          record {
+            answers = rw (good, le-ltb 16777216 (length sequence) within, needed-is, le-ltb (length old) needed h);
+            leaves =
+                F .is
+                ∙ rw (codes-by-table T k m sequence B, good, le-ltb 16777216 (length sequence) within, needed-is, le-ltb (length old) needed h);
+          }
+
+-- ---- what the kernels ask holds under good settings
+
+module _ (letters : List ℕ) (k m : ℕ) (good : settingsGround letters k m ≡ none) (kernel : Kernel) (takes : Takes kernel (length letters) m) where
+  abbrev coderOf : Settings → Coder
+  coderOf st = record { kernel = kernel; s = st .s; k = k; mirror = m; palindromes = 2 * st .classes - st .words }
+
+  ready : {powers : List ℕ} → Powers (length letters) k powers → Coding (coderOf (settingsOf letters k m)) powers
+  ready P =
+      let L = limits letters k m good in
+      record {
+        limits = L;
+        some = let ne = good-settings letters k m good .some-k in omega (arith, ne);
+        count = omega (arith, twice-classes (length letters) (mirrorOf m) k (L .even));
+        takes = takes;
+        table = P;
+      }
+
+  module _ (st : Settings) (is : st ≡ settingsOf letters k m) where
+    pub s-is : st .s ≡ length letters
+    s-is = ap (λ (x : Settings). x .s) is
+
+    pub coder-ready : {powers : List ℕ} → Powers (st .s) k powers → Coding (coderOf st) powers
+    coder-ready {powers} P = subst⁻¹ (λ (x : Settings). Coding (coderOf x) powers) is (ready (subst (λ (x : Settings). Powers (x .s) k powers) is P))
+
+    pub ranks-ready : {table : List ℕ} → RankTable letters table → RanksBelow (st .s) table
+    ranks-ready {table} T =
+        let two = limits letters k m good .two in
+        subst⁻¹ (λ (s : ℕ). RanksBelow s table) s-is (table-below T (omega (arith, two)))
+
+    pub palindromes-fit : (2 * st .classes < 2 ^ 64) × (st .words ≤ 2 * st .classes)
+    palindromes-fit =
+        let L = limits letters k m good in
+        let c : st .classes ≡ classes (length letters) (mirrorOf m) k = ap (λ (x : Settings). x .classes) is in
+        let w : st .words ≡ length letters ^ k = ap (λ (x : Settings). x .words) is in
+        let twice = twice-classes (length letters) (mirrorOf m) k (L .even) in
+        let le = palindromes-le (length letters) (mirrorOf m) k (L .two) in
+        (omega (arith, c, twice, le, L .small), omega (arith, c, w, twice))
+
+    pub power-ready : (1 < st .s) × (st .s ^ k ≤ 2 ^ 62)
+    power-ready =
+        let L = limits letters k m good in
+        (rw s-is (L .two), rw s-is (L .small))

@@ -1,0 +1,106 @@
+-- `sequence::two_bit::fill` meets its contract. The invariant: the window at i is known, and the codes of the windows up to it are written.
+use mathlib.Core.Path.{_≡_, refl}
+use Prim.Native.Nat.{_-_}
+use Rattle.encoding.specs.Words.{Complement}
+use native.Mathlib.Omega.{arith}
+use denote.Ref.{now}
+use lib.ListN.{length}
+use Rattle.sequence.specs.Needs.{TwoBitWindow}
+use Rattle.sequence.proofs.Filling.{Filling, fills-none, filling-first, filling-done, filling-length, filling-next, filling-room}
+use Rattle.sequence.proofs.two_bit.fill.Statement.{statement}
+use Rattle.sequence.proofs.two_bit.fill.Tie as tie
+
+abbrev Inv-loop : tie.InvT-loop
+Inv-loop d k e out₀ n t₀ first i₀ out t i = TwoBitWindow k e d i (t .forward) (t .back) × Filling 4 Complement k d out₀ out i × (n ≡ k)
+
+abbrev μ-loop : tie.MeasureT-loop
+μ-loop d k e out₀ n t₀ first i₀ out t i = length d - i
+
+returns : tie.Need-returns Inv-loop μ-loop
+returns c = fills-none _ _ _ _ _ (c .if1 .taken)
+
+first-strands-requires : tie.Need-first-strands-requires Inv-loop μ-loop
+first-strands-requires c κs = (c .before .before .before .pre .0, c .if1 .left)
+
+window-code-requires : tie.Need-window-code-requires Inv-loop μ-loop
+window-code-requires c κs = c .first-strands .ensures
+
+slice-write-out : tie.Need-slice-write-out Inv-loop μ-loop
+slice-write-out c = let p = c .before .before .before .before .before .pre in omega (arith, p .0 .some, p .1)
+
+loop-holds : tie.Need-loop-holds Inv-loop μ-loop
+loop-holds c =
+    let start = c .before .before .before .before .before in
+    let p = start .pre in (
+      c .before .first-strands .ensures,
+      filling-first (now (start .args .out)) (c .window-code .result) (p .0 .some) (c .before .before .if1 .left) (p .1)
+          (c .window-code .ensures),
+      refl,
+    )
+
+add-loop : tie.Need-add-loop Inv-loop μ-loop
+add-loop c = omega (arith, c .loop .inv .0 .inside, c .before .before .before .before .before .before .good)
+
+next-strands-requires : tie.Need-next-strands-requires Inv-loop μ-loop
+next-strands-requires c κs = (c .before .loop .inv .0, c .loop-test .taken)
+
+add-i : tie.Need-add-i Inv-loop μ-loop
+add-i c = omega (arith, c .before .before .loop .inv .0 .inside, c .before .before .before .before .before .before .before .before .good)
+
+window-code-requires-2 : tie.Need-window-code-requires-2 Inv-loop μ-loop
+window-code-requires-2 c κs = c .next-strands .ensures
+
+mul-out : tie.Need-mul-out Inv-loop μ-loop
+mul-out c =
+    let at-loop = c .before .before .before in
+    let start = c .before .before .before .before .before .before .before .before .before in
+    let room = filling-room (at-loop .loop .inv .1) (c .before .before .loop-test .taken) in
+    let same = filling-length (now (start .args .out)) (c .before .before .before .before .window-code .result) (at-loop .loop .inv .1) in
+    omega (arith, start .good)
+
+slice-write-out-2 : tie.Need-slice-write-out-2 Inv-loop μ-loop
+slice-write-out-2 c = filling-room (c .before .before .before .loop .inv .1) (c .before .before .loop-test .taken)
+
+loop-less : tie.Need-loop-less Inv-loop μ-loop
+loop-less c = omega (arith, c .before .before .loop-test .taken)
+
+loop-again : tie.Need-loop-again Inv-loop μ-loop
+loop-again c =
+    let at-loop = c .before .before .before in (
+      c .before .next-strands .ensures,
+      filling-next (at-loop .loop .inv .1) (c .window-code2 .result) (c .before .before .loop-test .taken)
+          (c .window-code2 .ensures),
+      at-loop .loop .inv .2,
+    )
+
+same-length : tie.Need-same-length Inv-loop μ-loop
+same-length c =
+    let start = c .before .before .before .before .before .before .before in
+    filling-length (now (start .args .out)) (c .before .before .window-code .result) (c .before .loop .inv .1)
+
+returns-2 : tie.Need-returns-2 Inv-loop μ-loop
+returns-2 c =
+    let start = c .before .before .before .before .before .before .before in
+    filling-done (now (start .args .out)) (c .before .before .window-code .result) (c .before .loop .inv .1) (c .loop-test .left)
+
+pub fill-spec : {M : Type 1} → statement M
+fill-spec =
+    tie.close
+    (tie.spec
+    Inv-loop
+    μ-loop
+    returns
+    first-strands-requires
+    window-code-requires
+    slice-write-out
+    loop-holds
+    add-loop
+    next-strands-requires
+    add-i
+    window-code-requires-2
+    mul-out
+    slice-write-out-2
+    loop-less
+    loop-again
+    same-length
+    returns-2)

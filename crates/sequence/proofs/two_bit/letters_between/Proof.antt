@@ -1,0 +1,29 @@
+-- `sequence::two_bit::letters_between` meets its contract.
+use native.Mathlib.Omega.{arith}
+use borrow.Author.Needs.{needs}
+use Rattle.sequence.proofs.TwoBit.{four-le, between-is}
+use Rattle.sequence.proofs.two_bit.letters_between.Statement.{statement}
+use Rattle.sequence.proofs.two_bit.letters_between.Tie as tie
+
+power-of-four-requires : tie.Need-power-of-four-requires
+power-of-four-requires c κs = search needs
+
+power-of-four-requires-2 : tie.Need-power-of-four-requires-2
+power-of-four-requires-2 c κs = search needs
+
+sub-result : tie.Need-sub-result
+sub-result c = let a = c .before .before in omega (
+  arith,
+  four-le (a .args .lo) (a .args .hi)
+      (a .pre .0),
+  c .before .power-of-four .ensures,
+  c .power-of-four2 .ensures,
+)
+
+returns : tie.Need-returns
+returns c = let a = c .before .before in between-is (a .args .a) (a .args .lo) (a .args .hi) _ _ (a .pre .0) (c .power-of-four2 .ensures)
+    (c .before .power-of-four .ensures)
+
+pub letters-between-spec : {M : Type 1} → statement M
+letters-between-spec =
+    tie.close (tie.spec power-of-four-requires power-of-four-requires-2 sub-result returns)

@@ -1,0 +1,18 @@
+-- `sequence::two_bit::low_letters` meets its contract.
+use native.Mathlib.Omega.{arith}
+use borrow.Author.Needs.{needs}
+use Rattle.sequence.proofs.TwoBit.{four-pos, low-is}
+use Rattle.sequence.proofs.two_bit.low_letters.Statement.{statement}
+use Rattle.sequence.proofs.two_bit.low_letters.Tie as tie
+
+power-of-four-requires : tie.Need-power-of-four-requires
+power-of-four-requires c κs = search needs
+
+sub-result : tie.Need-sub-result
+sub-result c = omega (arith, c .power-of-four .ensures, four-pos (c .before .args .i))
+
+returns : tie.Need-returns
+returns c = let a = c .before .args in low-is (a .a) (a .i) _ (c .power-of-four .ensures)
+
+pub low-letters-spec : {M : Type 1} → statement M
+low-letters-spec = tie.close (tie.spec power-of-four-requires sub-result returns)

@@ -1,0 +1,128 @@
+-- `sequence::two_bit::pair_code` meets its contract. What is added up is the code, which is below 2^62.
+use native.Mathlib.Omega.{arith}
+use borrow.Author.Needs.{needs}
+use Rattle.sequence.proofs.TwoBit.{rest-lt, two-fits, pair-in, pair-lt, pair-is}
+use Rattle.sequence.proofs.two_bit.pair_code.Statement.{statement}
+use Rattle.sequence.proofs.two_bit.pair_code.Tie as tie
+
+returns : tie.Need-returns
+returns c =
+    let start = c .before .before .before .before .before .before .before .before .before in
+    let at-without-low = c .before .before .before .before .before .before .before in
+    let at-without-low2 = c .before .before .before .before .before .before in
+    let p = start .pre in
+    pair-is (p .0) (p .1 .0) (p .1 .1) _ _ _ _ _ _ _ _ (at-without-low .without-low .ensures) (at-without-low2 .without-low2 .ensures)
+    (c .before .before .before .before .before .pair-rank .ensures) (c .before .before .before .before .power-of-four .ensures)
+    (c .before .before .before .power-of-four2 .ensures)
+    (c .before .before .letters-between .ensures)
+    (c .before .power-of-four3 .ensures)
+    (c .low-letters .ensures)
+
+sub-p : tie.Need-sub-p
+sub-p c = let p = c .before .pre in pair-in (p .0) (p .1 .0) (p .1 .1)
+
+sub-without-low : tie.Need-sub-without-low
+sub-without-low c = search needs
+
+without-low-requires : tie.Need-without-low-requires
+without-low-requires c κs = search needs
+
+sub-without-low-2 : tie.Need-sub-without-low-2
+sub-without-low-2 c = search needs
+
+without-low-requires-2 : tie.Need-without-low-requires-2
+without-low-requires-2 c κs = search needs
+
+pair-rank-requires : tie.Need-pair-rank-requires
+pair-rank-requires c κs =
+    let start = c .before .before .before in
+    let p = start .pre in
+    (rw (c .before .without-low .ensures, c .without-low2 .ensures) (pair-lt (p .0) (p .1 .0) (p .1 .1)), (omega arith, omega arith))
+
+sub-power-of-four : tie.Need-sub-power-of-four
+sub-power-of-four c = search needs
+
+power-of-four-requires : tie.Need-power-of-four-requires
+power-of-four-requires c κs = search needs
+
+sub-power-of-four-2 : tie.Need-sub-power-of-four-2
+sub-power-of-four-2 c = search needs
+
+power-of-four-requires-2 : tie.Need-power-of-four-requires-2
+power-of-four-requires-2 c κs = search needs
+
+sub-letters-between : tie.Need-sub-letters-between
+sub-letters-between c = search needs
+
+letters-between-requires : tie.Need-letters-between-requires
+letters-between-requires c κs = let p = c .before .before .before .before .before .before .pre in omega (
+  arith,
+  pair-in (p .0) (p .1 .0)
+      (p .1 .1),
+  p .0 .input .small,
+  p .1 .1,
+)
+
+power-of-four-requires-3 : tie.Need-power-of-four-requires-3
+power-of-four-requires-3 c κs =
+    let start = c .before .before .before .before .before .before .before in
+    let p = start .pre in
+    omega (arith, pair-in (p .0) (p .1 .0) (p .1 .1), p .0 .input .small, p .1 .1)
+
+low-letters-requires : tie.Need-low-letters-requires
+low-letters-requires c κs =
+    let start = c .before .before .before .before .before .before .before .before in
+    let p = start .pre in
+    omega (arith, pair-in (p .0) (p .1 .0) (p .1 .1), p .0 .input .small, p .1 .1)
+
+add-result : tie.Need-add-result
+add-result c = omega (arith, returns c, two-fits (c .before .before .before .before .before .before .before .before .before .pre .0))
+
+mul-result : tie.Need-mul-result
+mul-result c = omega (arith, returns c, two-fits (c .before .before .before .before .before .before .before .before .before .pre .0))
+
+add-result-2 : tie.Need-add-result-2
+add-result-2 c = omega (arith, returns c, two-fits (c .before .before .before .before .before .before .before .before .before .pre .0))
+
+add-result-3 : tie.Need-add-result-3
+add-result-3 c = omega (arith, returns c, two-fits (c .before .before .before .before .before .before .before .before .before .pre .0))
+
+sub-result : tie.Need-sub-result
+sub-result c =
+    let start = c .before .before .before .before .before .before .before .before .before in
+    rest-lt (start .args .a) _ _ _ (c .before .power-of-four3 .ensures) (c .low-letters .ensures) .0
+
+sub-result-2 : tie.Need-sub-result-2
+sub-result-2 c =
+    let start = c .before .before .before .before .before .before .before .before .before in
+    rest-lt (start .args .a) _ _ _ (c .before .power-of-four3 .ensures) (c .low-letters .ensures) .1
+
+add-result-4 : tie.Need-add-result-4
+add-result-4 c = omega (arith, returns c, two-fits (c .before .before .before .before .before .before .before .before .before .pre .0))
+
+pub pair-code-spec : {M : Type 1} → statement M
+pair-code-spec =
+    tie.close
+    (tie.spec
+    sub-p
+    sub-without-low
+    without-low-requires
+    sub-without-low-2
+    without-low-requires-2
+    pair-rank-requires
+    sub-power-of-four
+    power-of-four-requires
+    sub-power-of-four-2
+    power-of-four-requires-2
+    sub-letters-between
+    letters-between-requires
+    power-of-four-requires-3
+    low-letters-requires
+    add-result
+    mul-result
+    add-result-2
+    add-result-3
+    sub-result
+    sub-result-2
+    add-result-4
+    returns)

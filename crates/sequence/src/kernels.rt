@@ -1,0 +1,66 @@
+// From ranks to codes: the piece that codes along a sequence and adding a file share. It takes good settings as a `Coder` with the powers of s, made
+// once a call, and a list of ranks of any length; longer runs come in pieces that overlap by k - 1 letters.
+use super::general;
+use super::two_bit;
+ghost use mathlib.Core.Path.{_≡_};
+ghost use Prim.Native.Nat.{_+_, _-_, _^_, _<_, _≤_};
+ghost use lib.ListN.{length};
+ghost use Rattle.settings.specs.Settings.{mirrorOf};
+ghost use Rattle.encoding.specs.Words.{Ranks};
+ghost use Rattle.sequence.specs.Windows.{windowCodes};
+ghost use Rattle.sequence.specs.Needs.{Fills, Powers, Coding};
+
+pub enum Kernel {
+    AnyAlphabet,
+    TwoBit,
+}
+
+// What a kernel needs of good settings: the number of letters, k, the mirror's number, the number of palindromes.
+pub struct Coder {
+    pub kernel: Kernel,
+    pub s: u64,
+    pub k: usize,
+    pub mirror: u64,
+    pub palindromes: u64,
+}
+
+fn fill_powers(table: &mut [u64], s: u64, k: usize)
+    requires { ⌜ length (now table) ≡ 64 ⌝ }
+    requires { ⌜ 1 < s ⌝ }
+    requires { ⌜ s ^ k ≤ 2 ^ 62 ⌝ }
+    ensures { λ _. ⌜ Powers s k (now (table .exit)) ⌝ }
+{
+    table[0] = 1;
+    let mut p: u64 = 1;
+    let mut i: usize = 0;
+    while i < k {
+        p = p * s;
+        i += 1;
+        table[i] = p;
+    }
+}
+
+// The powers of s up to s^k. As s is at least 2, k is at most 62.
+pub fn power_table(s: u64, k: usize) -> [u64; 64]
+    requires { ⌜ 1 < s ⌝ }
+    requires { ⌜ s ^ k ≤ 2 ^ 62 ⌝ }
+    ensures { λ r. ⌜ Powers s k r ⌝ }
+{
+    let mut table = [0u64; 64];
+    fill_powers(&mut table, s, k);
+    table
+}
+
+// The codes of all windows of a list of ranks, from the start of a lent list.
+pub fn fill_codes(ranks: &[u8], c: Coder, powers: &[u64; 64], out: &mut [u64])
+    requires { ⌜ Coding c (now powers) ⌝ }
+    requires { ⌜ Ranks (c .s) (now ranks) ⌝ }
+    requires { ⌜ length (now ranks) + 1 - c .k ≤ length (now out) ⌝ }
+    ensures { λ _. ⌜ Fills (windowCodes (c .s) (mirrorOf (c .mirror)) (c .k) (now (ranks .entry))) (now (out .entry)) (now (out .exit)) ⌝ }
+{
+    let kernel = c.kernel;
+    match kernel {
+        Kernel::AnyAlphabet => general::fill(ranks, c.k, c.s, c.mirror, powers, c.palindromes, out),
+        Kernel::TwoBit => two_bit::fill(ranks, c.k as u64, c.palindromes, out),
+    }
+}

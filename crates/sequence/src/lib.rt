@@ -1,0 +1,101 @@
+// Codes along a sequence: the code of every window of plain sequence bytes, by a kernel for every alphabet or, for ACGT under complement, by two-bit
+// numbers. Both calls have one definition in their contracts.
+mod batches;
+pub mod bytes;
+mod general;
+pub mod kernels;
+mod pairs;
+mod two_bit;
+
+use kernels::Coder;
+use kernels::Kernel;
+use settings::Checked;
+use settings::Refusal;
+use settings::Settings;
+ghost use mathlib.Core.Path.{_≡_};
+ghost use mathlib.Core.Option.{none};
+ghost use Prim.Native.Nat.{_+_, _-_, _≤_};
+ghost use lib.ListN.{length};
+ghost use Rattle.laws.specs.Text.{bytes};
+ghost use Rattle.settings.specs.Settings.{settingsGround, settingsOf};
+ghost use Rattle.sequence.specs.Sequences.{FillsCodes};
+ghost use Rattle.sequence.specs.Needs.{Takes};
+
+// How many places of the list were filled, or the refusal.
+pub enum Filled {
+    Count(usize),
+    Refused(Refusal),
+}
+
+fn window_count(n: usize, k: usize) -> usize
+    requires { ⌜ n ≤ 16777216 ⌝ }
+    ensures { λ r. ⌜ r ≡ n + 1 - k ⌝ }
+{
+    if n < k { 0 } else { n - k + 1 }
+}
+
+// Both paths, under good settings.
+fn fill_checked(
+    letters: &[u8],
+    k: usize,
+    mirror: u64,
+    st: Settings,
+    kernel: Kernel,
+    sequence: &[u8],
+    list: &mut [u64],
+) -> Filled
+    requires { ⌜ settingsGround (now letters) k mirror ≡ none ⌝ }
+    requires { ⌜ st ≡ settingsOf (now letters) k mirror ⌝ }
+    requires { ⌜ Takes kernel (length (now letters)) mirror ⌝ }
+    ensures { λ r. ⌜ FillsCodes (now (letters .entry)) k mirror (now (sequence .entry)) (now (list .entry)) r (now (list .exit)) ⌝ }
+{
+    if sequence.len() > 16777216 {
+        return Filled::Refused(Refusal::TooLarge);
+    }
+    let needed = window_count(sequence.len(), k);
+    if list.len() < needed {
+        return Filled::Refused(Refusal::ShortBuffer(needed));
+    }
+    let table = settings::rank_table(letters);
+    let powers = kernels::power_table(st.s, k);
+    let c = Coder {
+        kernel,
+        s: st.s,
+        k,
+        mirror,
+        palindromes: 2 * st.classes - st.words,
+    };
+    batches::fill_sequence(sequence, &table, c, &powers, list);
+    Filled::Count(needed)
+}
+
+fn fill_list(
+    letters: &[u8],
+    k: usize,
+    mirror: u64,
+    kernel: Kernel,
+    sequence: &[u8],
+    list: &mut [u64],
+) -> Filled
+    requires { ⌜ Takes kernel (length (now letters)) mirror ⌝ }
+    ensures { λ r. ⌜ FillsCodes (now (letters .entry)) k mirror (now (sequence .entry)) (now (list .entry)) r (now (list .exit)) ⌝ }
+{
+    match settings::check(letters, k, mirror) {
+        Checked::Good(st) => fill_checked(letters, k, mirror, st, kernel, sequence, list),
+        Checked::Bad(f) => Filled::Refused(f),
+    }
+}
+
+// The general path: every alphabet and both mirrors.
+pub fn codes(letters: &[u8], k: usize, mirror: u64, sequence: &[u8], list: &mut [u64]) -> Filled
+    ensures { λ r. ⌜ FillsCodes (now (letters .entry)) k mirror (now (sequence .entry)) (now (list .entry)) r (now (list .exit)) ⌝ }
+{
+    fill_list(letters, k, mirror, Kernel::AnyAlphabet, sequence, list)
+}
+
+// The two-bit path: ACGT under complement.
+pub fn codes_two_bit(k: usize, sequence: &[u8], list: &mut [u64]) -> Filled
+    ensures { λ r. ⌜ FillsCodes (bytes "ACGT") k 1 (now (sequence .entry)) (now (list .entry)) r (now (list .exit)) ⌝ }
+{
+    fill_list(b"ACGT", k, 1, Kernel::TwoBit, sequence, list)
+}
