@@ -1,6 +1,6 @@
 /*
- * kmer.h: the C calls of libkmer.a, which code k-mers, read codes back, mirror k-mers, and code all k-mers
- * along a sequence.
+ * kmer.h: the C calls of libkmer.a, which code k-mers, read codes back, mirror k-mers, code all k-mers
+ * along a sequence, and count the k-mers of sequence files in a table.
  *
  * A class is a word of k letters together with its mirror. The calls work with the minimal encoding
  * of canonical k-mers (Wittler 2023): each class has one code, from 0 to the number of classes less 1.
@@ -17,7 +17,7 @@
  * Every pointer comes with its length in bytes, may be NULL where that length is 0, and must otherwise
  * point to as many bytes. Nothing need end in a 0 byte. A buffer that is written must not overlap one that
  * is read. Whatever the numbers and bytes are, a call returns and touches no other memory; it never writes
- * to letters, word or sequence. The calls keep no state, so several threads may call at once, each with a
+ * to letters, word, sequence or file. The calls keep no state, so several threads may call at once, each with a
  * buffer of its own.
  *
  * An answer below 2^63 is a result. An answer from 2^63 on is a refusal: see kmer_is_refused below.
@@ -46,10 +46,15 @@ enum kmer_grounds {
     KMER_ODD_COMPLEMENT = 3, /* reverse complement with an odd number of letters */
     KMER_BAD_K = 4,          /* k is 0, or s^k is above 2^62 */
     KMER_BAD_LENGTH = 5,     /* word_len is not k */
-    KMER_TOO_LARGE = 6,      /* sequence_len is above 16,777,216 */
+    KMER_TOO_LARGE = 6,      /* the sequence or file is above 16,777,216 bytes; in table calls also:
+                                there are more than 16,777,216 classes */
     KMER_SHORT_BUFFER = 7,   /* the lent buffer is too short; P is the length needed */
     KMER_BAD_CODE = 8,       /* code is not below the number of classes */
-    KMER_FOREIGN_BYTE = 9    /* a byte of word is no letter of the settings; P is the first such place */
+    KMER_FOREIGN_BYTE = 9,   /* a byte of word is no letter of the settings; P is the first such place */
+    KMER_STRAY_BYTE = 10,    /* a byte of the file belongs neither to a header nor to a line of letters; P is
+                                the offset of the first */
+    KMER_EARLY_LETTER = 11,  /* a letter stands before the file's first header; P is the offset of the first */
+    KMER_COUNTS_FULL = 12    /* some count is above 4,294,967,295 less the file's windows */
 };
 
 /*
@@ -107,6 +112,37 @@ uint64_t kmer_codes(const uint8_t *letters, size_t letters_len, size_t k, uint64
 uint64_t kmer_codes_two_bit(size_t k, const uint8_t *sequence, size_t sequence_len, uint64_t *codes,
                             size_t codes_len);
 
+/*
+ * Clears a table of counts.
+ *   table, table_len  the table and its length in counts. It needs a place for each class; the class with
+ *                     the code q counts at place q. The first places, one a class, are set to 0; later
+ *                     places keep what they held.
+ * Returns the number of classes, which is the number of places set, or 2^63 + P * 256 + the number of the
+ * first ground that applies of 1, 2, 3, 4, 6, 7, where P is the length needed for 7, else 0. A refused call
+ * writes nothing to table.
+ */
+uint64_t kmer_clear(const uint8_t *letters, size_t letters_len, size_t k, uint64_t mirror,
+                    uint32_t *table, size_t table_len);
+
+/*
+ * Adds a sequence file (FASTA) to a table: 1 at the place of its class for each window of k letters.
+ *   table, table_len    a table that was cleared, and perhaps added to, with the same settings.
+ *   file, file_len      the bytes of the file, at most 16,777,216.
+ *   answer, answer_len  a list of at least KMER_NUMBERS numbers. Its first five places receive the file's
+ *                       records (header lines), letters (foreign ones too), foreign letters, edge letters
+ *                       and windows; later places keep what they held.
+ * Returns 5, or 2^63 + P * 256 + the number of the first ground that applies of 1, 2, 3, 4, 6, 7 (of the
+ * table, then of answer), 10 or 11 (the earlier byte), 12, where P is the length needed for 7, the offset of
+ * the byte for 10 and 11, else 0. A refused call writes nothing to table or answer: no part of a damaged
+ * file is counted.
+ */
+uint64_t kmer_add(const uint8_t *letters, size_t letters_len, size_t k, uint64_t mirror,
+                  uint32_t *table, size_t table_len, const uint8_t *file, size_t file_len,
+                  uint64_t *answer, size_t answer_len);
+
+/* How many numbers kmer_add answers with. */
+#define KMER_NUMBERS 5
+
 /* What kmer_codes writes for a window that has a byte which is no letter: 2^64 - 1, which is no code. */
 #define KMER_NO_CODE UINT64_C(0xffffffffffffffff)
 
@@ -126,9 +162,9 @@ static inline unsigned kmer_refusal(uint64_t answer)
 }
 
 /*
- * P of a refusal by kmer_mirror, kmer_codes or kmer_codes_two_bit: the length needed for
- * KMER_SHORT_BUFFER, the place from 0 for KMER_FOREIGN_BYTE, else 0. kmer_code and kmer_word return no P,
- * so for these it is always 0.
+ * P of a refusal by any call but kmer_code and kmer_word: the length needed for KMER_SHORT_BUFFER, the place
+ * or offset from 0 for KMER_FOREIGN_BYTE, KMER_STRAY_BYTE and KMER_EARLY_LETTER, else 0. kmer_code and
+ * kmer_word return no P, so for these it is always 0.
  */
 static inline uint64_t kmer_refusal_p(uint64_t answer)
 {

@@ -1,6 +1,7 @@
-//! Prints nanoseconds a letter, the median of several runs, of both paths of libkmer.a along random sequences, beside plain Rust
-//! versions of the same algorithms in the same run, and the ratios that the repository promises.
+//! Prints nanoseconds a letter, the median of several runs, of both paths of libkmer.a along random sequences and of adding a file to a
+//! table, beside plain Rust versions of the same algorithms in the same run, and the ratios that the repository promises.
 
+mod adding;
 mod baseline;
 
 use std::time::Instant;
@@ -66,6 +67,10 @@ fn medians(sequence: &[u8], versions: &[&dyn Fn(&mut [u64]) -> usize]) -> Vec<f6
 }
 
 fn main() {
+    // The word `adding` as an argument leaves out the codes along a sequence, which take longer.
+    if std::env::args().any(|argument| argument == "adding") {
+        return adding::print();
+    }
     println!("ns a letter, median of {RUNS} runs, {LETTERS} random letters");
     let dna = drawn(b"ACGT", LETTERS);
     let mut at_k = Vec::new();
@@ -112,4 +117,5 @@ fn main() {
             println!("{s} letters, mirror {mirror}, k {k}: general {:.2}, plain Rust {:.2}, ratio {:.2}", ns[0], ns[1], ns[0] / ns[1]);
         }
     }
+    adding::print();
 }

@@ -7,4 +7,5 @@ pub mod expected;
 pub mod second_coder;
 pub mod sequences;
 pub mod settings;
+pub mod tables;
 pub mod vectors;

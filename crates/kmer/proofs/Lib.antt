@@ -1,2 +1,3 @@
 -- What the proofs of the C calls cite.
 pub mod Refusals
+pub mod Adding

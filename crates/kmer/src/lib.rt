@@ -1,8 +1,12 @@
-// The calls for C programs (include/kmer.h): word coding, code reading, mirroring and codes along a sequence, on numbers and slices.
+// The calls for C programs (include/kmer.h): word coding, code reading, mirroring, codes along a sequence, and the table, on numbers and slices.
 ghost use mathlib.Core.Path.{_≡_};
-ghost use Prim.Native.Nat.{_+_, _*_, _^_, _<_};
-ghost use lib.ListN.{length};
-ghost use Rattle.settings.specs.Grounds.{groundOf, overwritten};
+ghost use Prim.Native.Nat.{_+_, _*_, _^_, _<_, _≤_};
+ghost use mathlib.Core.List.{_++_};
+ghost use lib.ListN.{length, drop, replicate};
+ghost use Rattle.settings.specs.Grounds.{groundOf, outcome, overwritten};
+ghost use Rattle.settings.specs.Settings.{ofChecked, settingsOf};
+ghost use Rattle.table.specs.Table.{classCount, clearGround};
+ghost use Rattle.kmer.specs.Adding.{readyGround, fiveNumbers, AddsInto};
 ghost use Rattle.encoding.specs.Calls.{coding, reading, readGround, wordBytes, mirrorGround, mirrorBytes};
 ghost use Rattle.kmer.specs.Returned.{returned, ReturnsPlaces};
 ghost use Rattle.laws.specs.Text.{bytes};
@@ -11,8 +15,12 @@ ghost use Rattle.sequence.specs.Sequences.{sequenceGround, sequenceCodes};
 use encoding::Code;
 use encoding::Coding;
 use encoding::Filling;
+use fasta::Numbers;
 use sequence::Filled;
+use settings::Checked;
 use settings::Refusal;
+use table::Answer;
+use table::Cleared;
 
 // The number of a refusal.
 fn number(f: Refusal) -> u64
@@ -141,5 +149,80 @@ pub extern "C" fn kmer_codes_two_bit(k: usize, sequence: &[u8], codes: &mut [u64
     match sequence::codes_two_bit(k, sequence, codes) {
         Filled::Count(n) => n as u64,
         Filled::Refused(f) => refused_at(f),
+    }
+}
+
+#[no_mangle]
+pub extern "C" fn kmer_clear(letters: &[u8], k: usize, mirror: u64, table: &mut [u32]) -> u64
+    ensures { λ r.
+        ⌜ ReturnsPlaces (clearGround (now (letters .entry)) k mirror (length (now (table .entry)))) (classCount (now (letters .entry)) k mirror)
+        (replicate (classCount (now (letters .entry)) k mirror) 0) (now (table .entry)) r (now (table .exit)) ⌝ }
+{
+    match table::clear(letters, k, mirror, table) {
+        Cleared::Count(n) => n as u64,
+        Cleared::Unchanged(f) => refused_at(f),
+    }
+}
+
+// Whether a file may be read for an add: the settings, the sizes and the table's room.
+fn ready(letters: &[u8], k: usize, mirror: u64, room: usize, file: &[u8]) -> Checked
+    ensures { λ r.
+        ⌜ ofChecked r ≡ outcome (readyGround (now (letters .entry)) k mirror room (now (file .entry))) (settingsOf (now (letters .entry)) k mirror) ⌝ }
+{
+    match settings::check(letters, k, mirror) {
+        Checked::Bad(f) => Checked::Bad(f),
+        Checked::Good(st) => {
+            if file.len() > 16777216 {
+                return Checked::Bad(Refusal::TooLarge);
+            }
+            if st.classes > 16777216 {
+                return Checked::Bad(Refusal::TooLarge);
+            }
+            let classes = st.classes as usize;
+            if room < classes {
+                return Checked::Bad(Refusal::ShortBuffer(classes));
+            }
+            Checked::Good(st)
+        }
+    }
+}
+
+fn write_numbers(n: Numbers, answer: &mut [u64])
+    requires { ⌜ 5 ≤ length (now answer) ⌝ }
+    ensures { λ _. ⌜ now (answer .exit) ≡ fiveNumbers n ++ drop 5 (now (answer .entry)) ⌝ }
+{
+    answer[0] = n.records as u64;
+    answer[1] = n.letters as u64;
+    answer[2] = n.foreign as u64;
+    answer[3] = n.edge as u64;
+    answer[4] = n.windows as u64;
+}
+
+#[no_mangle]
+pub extern "C" fn kmer_add(
+    letters: &[u8],
+    k: usize,
+    mirror: u64,
+    table: &mut [u32],
+    file: &[u8],
+    answer: &mut [u64],
+) -> u64
+    ensures { λ r.
+        ⌜ AddsInto (now (letters .entry)) k mirror (now (table .entry)) (now (file .entry)) (now (answer .entry)) r (now (table .exit)) (now (answer .exit)) ⌝ }
+{
+    match ready(letters, k, mirror, table.len(), file) {
+        Checked::Bad(f) => refused_at(f),
+        Checked::Good(_) => {
+            if answer.len() < 5 {
+                return refused_at(Refusal::ShortBuffer(5));
+            }
+            match table::add(letters, k, mirror, table, file) {
+                Answer::Refused(f) => refused_at(f),
+                Answer::Taken(n) => {
+                    write_numbers(n, answer);
+                    5
+                }
+            }
+        }
     }
 }

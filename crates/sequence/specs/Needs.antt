@@ -1,4 +1,5 @@
--- What private functions ask of each other and promise each other. No claim and no public contract rests on it.
+-- What functions ask of each other and promise each other. The contracts of `codes` and `codes_two_bit` do not rest on it; that of the kernel, which adding
+-- a file uses too, does.
 use mathlib.Core.Path.{_≡_}
 use mathlib.Core.Bool.{Bool, true, false, cond, _&&_}
 use mathlib.Core.List.{List, [], _∷_, _++_, map}

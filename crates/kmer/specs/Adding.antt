@@ -1,0 +1,38 @@
+-- What adding a file through the C call returns and leaves: the file's five numbers go into a lent list of 64-bit numbers.
+use mathlib.Core.Path.{_≡_}
+use mathlib.Core.Bool.{_||_}
+use mathlib.Core.Option.{Option}
+use mathlib.Core.List.{List, [], _∷_}
+use Prim.Native.Nat.{ℕ}
+use lib.ListN.{length}
+use Rattle.settings.specs.Grounds.{Ground, ground, groundAt, tooShort, outcome, overwritten, _orElse_}
+use Rattle.settings.specs.Settings.{rankIn, settingsGround}
+use Rattle.fasta.specs.declared.Numbers.{Numbers}
+use Rattle.fasta.specs.File.{fileFault, fileNumbers}
+use Rattle.fasta.specs.Scan.{tooLong}
+use Rattle.table.specs.Table.{classCount, places, bumps, tooMany, unlessRefused, lateTable}
+use Rattle.kmer.specs.Returned.{returnedWithPlace}
+
+-- The grounds that do not depend on what the file holds: 1 to 4, 6, and 7 of the table.
+unfoldable pub readyGround : (letters : List ℕ) (k mirror room : ℕ) (file : List ℕ) → Option Ground
+readyGround letters k m room file =
+    settingsGround letters k m
+    orElse ground 6 (tooLong file || tooMany (classCount letters k m))
+    orElse groundAt 7 (tooShort room (classCount letters k m))
+
+-- "the table before others": the 7 of the list for the answer comes after that of the table, then 10 or 11, then 12.
+unfoldable pub addIntoGround : (letters : List ℕ) (k mirror : ℕ) (t file : List ℕ) (room : ℕ) → Option Ground
+addIntoGround letters k m t file room =
+    readyGround letters k m (length t) file
+    orElse groundAt 7 (tooShort room 5)
+    orElse fileFault file
+    orElse ground 12 (lateTable letters k m t file)
+
+-- "its records (header lines), letters (foreign ones too), foreign, and edge and windows over all runs"
+abbrev pub fiveNumbers : Numbers → List ℕ
+fiveNumbers n = n .records ∷ n .letters ∷ n .foreign ∷ n .edge ∷ n .windows ∷ []
+
+pub record AddsInto (letters : List ℕ) (k mirror : ℕ) (t file old : List ℕ) (r : ℕ) (t′ new : List ℕ) : Type 0 where
+  pub returns : r ≡ returnedWithPlace (outcome (addIntoGround letters k mirror t file (length old)) 5)
+  pub table-left : t′ ≡ unlessRefused (addIntoGround letters k mirror t file (length old)) (bumps t (places letters k mirror file)) t
+  pub answer-left : new ≡ overwritten (addIntoGround letters k mirror t file (length old)) (fiveNumbers (fileNumbers (rankIn letters) k file)) old

@@ -1,0 +1,199 @@
+-- The grounds of the table calls one after the other, as the calls meet them: what is answered and left at each.
+use mathlib.Core.Path.{_≡_, refl, sym, ap, _∙_, subst}
+use Prim.Native.Nat.{ℕ, _+_, _-_, _<_, _≤_}
+use native.Mathlib.Omega.{arith}
+use mathlib.Core.Bool.{true, false}
+use mathlib.Core.Option.{Option, none, some}
+use mathlib.Core.List.{List, _++_, map}
+use lib.ListN.{length, take, drop, replicate, length-replicate, take-append-drop}
+use borrow.Author.Tests.{lt-ltb, le-ltb}
+use Rattle.settings.specs.declared.Settings.{Settings}
+use Rattle.settings.specs.Grounds.{Ground, Outcome, given, refused, ground, outcome, _orElse_}
+use Rattle.settings.specs.Settings.{rankIn, mirrorOf, classes, settingsGround, settingsOf}
+use Rattle.settings.proofs.Outcomes.{refused-on, passed, kept-by, set-by, kept-on}
+use Rattle.settings.proofs.SettingsGrounds.{known, good-settings}
+use Rattle.encoding.specs.Codes.{code}
+use Rattle.fasta.specs.declared.Numbers.{Numbers}
+use Rattle.fasta.specs.File.{fileFault, fileNumbers, fileWindows}
+use Rattle.fasta.specs.Scan.{tooLong}
+use Rattle.settings.specs.RankTables.{rankByTable, RankTable}
+use Rattle.settings.proofs.Ranks.{rank-below-count}
+use Rattle.fasta.proofs.Ranks.{windows-by-table, numbers-by-table}
+use Rattle.fasta.proofs.Runs.{windows-fit}
+use Rattle.sequence.specs.declared.kernels.Kernel.{Kernel}
+use Rattle.sequence.specs.Needs.{Takes}
+use Rattle.table.specs.Table.{classCount, wins, places, bumps, full, tooMany, addGround, clearGround, unlessRefused, lateTable, tableGround, Added, Clears}
+use Rattle.table.specs.Needs.{Room, RanksUnder, CountedUnlessFull, AddedUnlessFull, CleanFile, ClearsPlaces}
+use Rattle.table.proofs.Bumps.{bumps-front}
+use Rattle.table.proofs.Full.{not-full}
+use Rattle.table.proofs.Classes.{places-below}
+
+-- ---- clearing
+
+module _ (n : ℕ) (t : List ℕ) where
+  pub too-many-to-clear : 16777216 < n → ClearsPlaces n t (refused (6, 0)) t
+  unfolding tooMany
+  too-many-to-clear h = kept-by _ n (replicate n 0) t (6, 0) (rw (lt-ltb 16777216 n h))
+
+  pub too-short-to-clear : n ≤ 16777216 → length t < n → ClearsPlaces n t (refused (7, n)) t
+  unfolding tooMany
+  too-short-to-clear h g = kept-by _ n (replicate n 0) t (7, n) (rw (le-ltb 16777216 n h, lt-ltb (length t) n g))
+
+  pub places-cleared : (t′ : List ℕ) → n ≤ 16777216 → n ≤ length t → t′ ≡ replicate n 0 ++ drop n t → ClearsPlaces n t (given n) t′
+  unfolding tooMany
+  places-cleared t′ h g e = set-by _ n (replicate n 0) t t′ (rw (le-ltb 16777216 n h, le-ltb (length t) n g)) (e ∙ rw (length-replicate {A = ℕ} n 0))
+
+module _ (letters : List ℕ) (k m : ℕ) (t : List ℕ) where
+  pub clearing-refused : (f : Ground) → refused f ≡ outcome (settingsGround letters k m) (settingsOf letters k m) → Clears letters k m t (refused f) t
+  unfolding clearGround
+  clearing-refused f e =
+      kept-on f (settingsOf letters k m) (settingsGround letters k m) _ (classCount letters k m) (replicate (classCount letters k m) 0) t e
+
+  pub clearing : (st : Settings) (answer : Outcome ℕ) (t′ : List ℕ) → given st ≡ outcome (settingsGround letters k m) (settingsOf letters k m)
+      → ClearsPlaces (st .classes) t answer t′
+      → Clears letters k m t answer t′
+  unfolding clearGround
+  clearing st answer t′ e C =
+      let K = known letters k m st e in
+      rw (K .none-applies) (rw (K .classes-are) at C)
+
+-- ---- counting, unless ground 12 applies
+
+pub counts-free : (n : ℕ) (counts : List ℕ) → false ≡ full n counts → n ≤ 16777216 → Room n counts
+counts-free n counts e h = record { free = λ q l. omega (arith, not-full n counts q (sym e) l) }
+
+module _ (n : Numbers) (ps counts : List ℕ) where
+  pub counts-full : true ≡ full (n .windows) counts → CountedUnlessFull n ps counts (refused (12, 0)) counts
+  counts-full e = record { answers = rw (← e); leaves = rw (← e) }
+
+  pub counts-grown : (counts′ : List ℕ) → false ≡ full (n .windows) counts → counts′ ≡ bumps counts ps → CountedUnlessFull n ps counts (given n) counts′
+  counts-grown counts′ e c = record { answers = rw (← e); leaves = c ∙ rw (← e) }
+
+-- ---- adding
+
+refused-leaves : {A B : Type 0} (f : Ground) (a : A) (g later : Option Ground) (new old : B) → refused f ≡ outcome g a
+    → old ≡ unlessRefused (g orElse later) new old
+refused-leaves f a none later new old e = absurd (let z : _≡_ {A = ℕ} 0 1 = cc in omega arith)
+refused-leaves f a (some g) later new old e = refl
+
+module _ (letters : List ℕ) (k m : ℕ) (t file : List ℕ) where
+  refused-at : (f : Ground) → tableGround letters k m t file ≡ some f → Added letters k m t file (refused f) t
+  refused-at f e = record { answers = rw e; leaves = rw e }
+
+  pub settings-refused : (f : Ground) → refused f ≡ outcome (settingsGround letters k m) (settingsOf letters k m) → Added letters k m t file (refused f) t
+  unfolding addGround
+  settings-refused f e =
+      record {
+        answers = refused-on f (settingsOf letters k m) (fileNumbers (rankIn letters) k file) (settingsGround letters k m) _ e;
+        leaves = refused-leaves f (settingsOf letters k m) (settingsGround letters k m) _ (bumps t (places letters k m file)) t e;
+      }
+
+  -- n is the number of classes.
+  module _ (good : settingsGround letters k m ≡ none) (n : ℕ) (n-is : n ≡ classCount letters k m) where
+    pub long-file : 16777216 < length file → Added letters k m t file (refused (6, 0)) t
+    unfolding addGround tooLong
+    long-file h = refused-at (6, 0) (rw (good, lt-ltb 16777216 (length file) h))
+
+    module _ (short : length file ≤ 16777216) where
+      pub many-classes : 16777216 < n → Added letters k m t file (refused (6, 0)) t
+      unfolding addGround tooLong tooMany
+      many-classes h = refused-at (6, 0) (rw (good, le-ltb 16777216 (length file) short, ← n-is, lt-ltb 16777216 n h))
+
+      module _ (few : n ≤ 16777216) where
+        pub short-table : length t < n → Added letters k m t file (refused (7, n)) t
+        unfolding addGround tooLong tooMany
+        short-table h = refused-at (7, n) (simp (good, le-ltb 16777216 (length file) short, sym n-is, le-ltb 16777216 n few, lt-ltb (length t) n h))
+
+        module _ (long : n ≤ length t) where
+          -- What is left of the grounds: a fault of the file, and then ground 12.
+          grounds-left : tableGround letters k m t file ≡ fileFault file orElse ground 12 (lateTable letters k m t file)
+          unfolding addGround tooLong tooMany
+          grounds-left =
+              let fits : classCount letters k m ≤ 16777216 = omega arith in
+              let room : classCount letters k m ≤ length t = omega arith in
+              rw (good, le-ltb 16777216 (length file) short, le-ltb 16777216 (classCount letters k m) fits, le-ltb (length t) (classCount letters k m) room)
+
+          pub faulty : (ranks : List ℕ) (f : Ground) → refused f ≡ outcome (fileFault file) (fileNumbers (rankByTable ranks) k file)
+              → Added letters k m t file (refused f) t
+          faulty ranks f e =
+              record {
+                answers = rw grounds-left (refused-on f (fileNumbers (rankByTable ranks) k file) (fileNumbers (rankIn letters) k file) (fileFault file) _ e);
+                leaves = rw grounds-left (refused-leaves f (fileNumbers (rankByTable ranks) k file) (fileFault file) _ (bumps t (places letters k m file)) t e);
+              }
+
+          pub added : (x : Numbers) (answer : Outcome Numbers) (t′ : List ℕ) → CleanFile letters k file x → AddedUnlessFull letters k m t file answer t′
+              → Added letters k m t file answer t′
+          added x answer t′ F A =
+              let e : tableGround letters k m t file ≡ ground 12 (lateTable letters k m t file) = grounds-left ∙ rw (F .no-fault) in
+              record { answers = A .answers ∙ rw e; leaves = A .leaves ∙ rw e }
+
+-- ---- a file that was scanned without fault
+
+pub clean : (letters : List ℕ) (k : ℕ) (file ranks : List ℕ) → length file ≤ 16777216 → RankTable letters ranks → (n : Numbers)
+    → given n ≡ outcome (fileFault file) (fileNumbers (rankByTable ranks) k file)
+    → CleanFile letters k file n
+clean letters k file ranks short T n e =
+    let p = passed (fileNumbers (rankByTable ranks) k file) (fileFault file) e in
+    record { no-fault = p .none-applies; numbers = p .value ∙ numbers-by-table letters ranks T k file; short = short }
+
+module _ (letters : List ℕ) (k : ℕ) (file : List ℕ) (n : Numbers) (F : CleanFile letters k file n) where
+  n-windows : n .windows ≡ length (wins letters k file)
+  unfolding wins
+  n-windows = ap (λ (x : Numbers). x .windows) (F .numbers)
+
+  pub n-windows-by-table : (ranks : List ℕ) → RankTable letters ranks → n .windows ≡ length (fileWindows (rankByTable ranks) k file)
+  unfolding wins
+  n-windows-by-table ranks T = n-windows ∙ sym (ap length (windows-by-table letters ranks T k file))
+
+  pub few-windows : (m : ℕ) → settingsGround letters k m ≡ none → _≤_ (n .windows) 16777216
+  unfolding wins
+  few-windows m good =
+      let some-k = good-settings letters k m good .some-k in
+      omega (arith, n-windows, windows-fit (rankIn letters) k file (omega arith), F .short)
+
+-- ---- from the table to its counts and back
+
+module _ (letters : List ℕ) (k m : ℕ) (t file : List ℕ) (good : settingsGround letters k m ≡ none) (long : classCount letters k m ≤ length t)
+    (n : Numbers) (F : CleanFile letters k file n) where
+  leaves-by : (g : Option Ground) (counts′ : List ℕ)
+      → counts′ ≡ unlessRefused g (bumps (take (classCount letters k m) t) (places letters k m file)) (take (classCount letters k m) t)
+      → counts′ ++ drop (classCount letters k m) t ≡ unlessRefused g (bumps t (places letters k m file)) t
+  leaves-by none counts′ e =
+      ap (λ (x : List ℕ). x ++ drop (classCount letters k m) t) e
+      ∙ bumps-front (classCount letters k m) t (places letters k m file) long (places-below letters k m good file)
+  leaves-by (some g) counts′ e = ap (λ (x : List ℕ). x ++ drop (classCount letters k m) t) e ∙ take-append-drop (classCount letters k m) t
+
+  by-classes : (ps : List ℕ) (answer : Outcome Numbers) (counts′ : List ℕ) → ps ≡ places letters k m file
+      → CountedUnlessFull n ps (take (classCount letters k m) t) answer counts′
+      → AddedUnlessFull letters k m t file answer (counts′ ++ drop (classCount letters k m) t)
+  by-classes ps answer counts′ e C =
+      let windows-are = n-windows letters k file n F in
+      record {
+        answers =
+            C .answers
+            ∙ ap (λ (w : ℕ). outcome (ground 12 (full w (take (classCount letters k m) t))) n) windows-are
+            ∙ ap (outcome (ground 12 (lateTable letters k m t file))) (F .numbers);
+        leaves = leaves-by (ground 12 (lateTable letters k m t file)) counts′ (C .leaves ∙ rw (windows-are, e));
+      }
+
+  pub whole-table : (cs : ℕ) (ps : List ℕ) (answer : Outcome Numbers) (counts′ : List ℕ) → cs ≡ classCount letters k m → ps ≡ places letters k m file
+      → CountedUnlessFull n ps (take cs t) answer counts′
+      → AddedUnlessFull letters k m t file answer (counts′ ++ drop cs t)
+  whole-table cs ps answer counts′ c e C = rw c (by-classes ps answer counts′ e (rw c at C))
+
+-- A table of the settings' ranks has no other ranks.
+pub ranks-under : (letters table : List ℕ) (s : ℕ) → s ≡ length letters → RankTable letters table → RanksUnder s table
+ranks-under letters table s e T = record { under = λ b x h f. rw e (rank-below-count letters b x (sym f ∙ T .same b h)) }
+
+pub places-by-table : (letters : List ℕ) (k m : ℕ) (table file : List ℕ) (s : ℕ) → s ≡ length letters → RankTable letters table
+    → map (code s (mirrorOf m) k) (fileWindows (rankByTable table) k file) ≡ places letters k m file
+unfolding wins
+places-by-table letters k m table file s e T = rw (e, windows-by-table letters table T k file)
+
+-- The kernel, by the number of letters.
+pub takes-letters : (letters : List ℕ) (k m : ℕ) (st : Settings) (kernel : Kernel) → st ≡ settingsOf letters k m → Takes kernel (st .s) m
+    → Takes kernel (length letters) m
+takes-letters letters k m st kernel is h = subst (λ (x : Settings). Takes kernel (x .s) m) is h
+
+pub classes-of : (letters : List ℕ) (k m : ℕ) (st : Settings) → st ≡ settingsOf letters k m → st .classes ≡ classes (st .s) (mirrorOf m) k
+classes-of letters k m st is = ap (λ (x : Settings). x .classes) is ∙ ap (λ (x : Settings). classes (x .s) (mirrorOf m) k) (sym is)

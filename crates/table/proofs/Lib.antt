@@ -1,0 +1,18 @@
+-- The laws of the table, up to the theorems of demand 3. Each, Bumps, Full: lists, counts that grow, ground 12. WordLists, FileWords, Classes: all
+-- canonical words, the windows of a file, places and classes. Steps: one add beside the book. Lists: the files taken in by a list of adds. Clearing:
+-- the table after it. DemandThree: the theorems. Then what the functions' proofs cite. CountLoops: counts. Cuts, Gathering: a file's windows batch by batch.
+pub mod Each
+pub mod Bumps
+pub mod Full
+pub mod WordLists
+pub mod FileWords
+pub mod Classes
+pub mod Steps
+pub mod Lists
+pub mod Clearing
+pub mod DemandThree
+pub mod Cuts
+pub mod Gathering
+pub mod CountLoops
+pub mod BatchLaws
+pub mod CallGrounds

@@ -1,0 +1,122 @@
+-- `table::batches::gather` meets its contract. The invariant, `Gathering`: the windows to come are those of the letters in the array and
+-- of what is left of the file.
+use Rattle.table.proofs.Gathering.{Gathering, gathering-none, gathered-full, gathered-all, gathered-run, gathers-on, adds-one}
+use native.Mathlib.Omega.{arith}
+use borrow.Author.Needs.{needs}
+use mathlib.Core.Path.{_≡_, refl}
+use Prim.Native.Nat.{_-_}
+use lib.ListN.{length, take, length-set}
+use Rattle.table.proofs.batches.gather.Statement.{statement}
+use Rattle.table.proofs.batches.gather.Tie as tie
+
+abbrev Inv-loop : tie.InvT-loop
+Inv-loop file table from letters array₀ at₀ mode₀ n₀ array at mode n =
+    (length array ≡ length array₀) × Gathering table (take letters array₀) file mode₀ from letters array at mode n
+
+abbrev μ-loop : tie.MeasureT-loop
+μ-loop file table from letters array₀ at₀ mode₀ n₀ array at mode n = length file - at
+
+loop-holds : tie.Need-loop-holds Inv-loop μ-loop
+loop-holds c = let pre = c .before .before .pre in (refl, gathering-none (pre .0) (pre .1))
+
+same-length : tie.Need-same-length Inv-loop μ-loop
+same-length c = c .before .before .loop .inv .0
+
+returns : tie.Need-returns Inv-loop μ-loop
+returns c =
+    let loop = c .before .before in
+    gathered-full (loop .loop .inv .1) (omega (arith, loop .before .before .before .pre .1, loop .loop .inv .0)) (c .if1 .taken)
+
+item-at-requires : tie.Need-item-at-requires Inv-loop μ-loop
+item-at-requires c κs = omega arith
+
+mark-of-requires : tie.Need-mark-of-requires Inv-loop μ-loop
+mark-of-requires c κs = search needs
+
+shared-slice-read-next-mode : tie.Need-shared-slice-read-next-mode Inv-loop μ-loop
+shared-slice-read-next-mode c = omega arith
+
+next-mode-requires : tie.Need-next-mode-requires Inv-loop μ-loop
+next-mode-requires c κs = search needs
+
+add-at : tie.Need-add-at Inv-loop μ-loop
+add-at c = omega arith
+
+same-length-2 : tie.Need-same-length-2 Inv-loop μ-loop
+same-length-2 c = c .before .before .before .before .before .before .before .loop .inv .0
+
+returns-2 : tie.Need-returns-2 Inv-loop μ-loop
+returns-2 c =
+    let next = c .before in
+    let mark = next .before .before in
+    let item = mark .before in
+    let test = item .before .before in
+    gathered-run (test .before .loop .inv .1) (test .loop-test .taken) _ (item .item-at .ensures) _ (mark .mark-of .ensures) _
+    (next .next-mode .ensures) (c .if2 .taken)
+
+slice-write-array : tie.Need-slice-write-array Inv-loop μ-loop
+slice-write-array c =
+    let if1 = c .before .before .before .before .before in
+    omega (arith, if1 .before .before .loop .inv .1 .fits, if1 .if1 .left)
+
+add-n : tie.Need-add-n Inv-loop μ-loop
+add-n c =
+    let next = c .before .before in
+    let mark = next .before .before in
+    let item = mark .before in
+    let test = item .before .before in
+    let loop = test .before in
+    omega (
+      arith,
+      adds-one (loop .loop .inv .1) (test .loop-test .taken) _ (item .item-at .ensures) _ (mark .mark-of .ensures) _ (next .next-mode .ensures),
+      loop .loop .inv .1 .fits,
+      loop .loop .inv .0,
+      loop .before .before .before .good,
+    )
+
+loop-less : tie.Need-loop-less Inv-loop μ-loop
+loop-less c = omega arith
+
+loop-again : tie.Need-loop-again Inv-loop μ-loop
+loop-again c =
+    let if2 = c .before in
+    let next = if2 .before in
+    let known = next .before in
+    let mark = known .before in
+    let item = mark .before in
+    let if1 = item .before in
+    let test = if1 .before in
+    let loop = test .before in (
+      simp length-set (loop .loop .inv .0),
+      gathers-on (loop .loop .inv .1) (test .loop-test .taken) _ (item .item-at .ensures) _ (mark .mark-of .ensures) _ (next .next-mode .ensures)
+          (omega (arith, known .shared-slice-known2 .given (loop .loop .at))) (omega (arith, loop .loop .inv .1 .fits, if1 .if1 .left)) (if2 .if2 .left),
+    )
+
+same-length-3 : tie.Need-same-length-3 Inv-loop μ-loop
+same-length-3 c = c .before .loop .inv .0
+
+returns-3 : tie.Need-returns-3 Inv-loop μ-loop
+returns-3 c = let loop = c .before in gathered-all (loop .loop .inv .1) (loop .before .before .before .pre .0) (c .loop-test .left)
+
+pub gather-spec : {M : Type 1} → statement M
+gather-spec =
+    tie.close
+    (tie.spec
+    Inv-loop
+    μ-loop
+    loop-holds
+    same-length
+    returns
+    item-at-requires
+    mark-of-requires
+    shared-slice-read-next-mode
+    next-mode-requires
+    add-at
+    same-length-2
+    returns-2
+    slice-write-array
+    add-n
+    loop-less
+    loop-again
+    same-length-3
+    returns-3)

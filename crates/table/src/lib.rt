@@ -1,0 +1,196 @@
+// The table of counts, one place a class: clearing it, and adding files to it. What holds of a list of adds, demand 3, is stated in
+// specs/Demand.antt; `survey_two` carries it in its contract.
+mod batches;
+mod counts;
+
+use fasta::Numbers;
+use fasta::Scanned;
+use sequence::kernels::Coder;
+use sequence::kernels::Kernel;
+use settings::Checked;
+use settings::Refusal;
+use settings::Settings;
+ghost use mathlib.Core.Path.{_≡_};
+ghost use mathlib.Core.Option.{none};
+ghost use Prim.Native.Nat.{_-_, _<_, _≤_};
+ghost use lib.ListN.{length};
+ghost use Rattle.settings.specs.Settings.{mirrorOf, classes, settingsGround, settingsOf};
+ghost use Rattle.fasta.specs.File.{fileWindows};
+ghost use Rattle.settings.specs.RankTables.{rankByTable, RankTable};
+ghost use Rattle.sequence.specs.Needs.{Takes, Coding};
+ghost use Rattle.table.specs.Table.{classCount, Added, Clears};
+ghost use Rattle.table.specs.Calls.{ofCleared, ofAnswer, Surveyed};
+ghost use Rattle.table.specs.Needs.{RanksUnder, codesBy, CountedUnlessFull, AddedUnlessFull, CleanFile, ClearsPlaces};
+
+// How many places a clearing set, or the refusal, which leaves the table unchanged.
+pub enum Cleared {
+    Count(usize),
+    Uncleared(Refusal),
+}
+
+// The numbers of a file that was taken in, or the refusal, which leaves the table unchanged.
+pub enum Answer {
+    Taken(Numbers),
+    Refused(Refusal),
+}
+
+// The answers of a clearing and of two adds after it.
+pub struct Survey {
+    pub cleared: Cleared,
+    pub first: Answer,
+    pub second: Answer,
+}
+
+fn clear_places(table: &mut [u32], classes: u64) -> Cleared
+    ensures { λ r. ⌜ ClearsPlaces classes (now (table .entry)) (ofCleared r) (now (table .exit)) ⌝ }
+{
+    if classes > 16777216 {
+        return Cleared::Uncleared(Refusal::TooLarge);
+    }
+    let n = classes as usize;
+    if table.len() < n {
+        return Cleared::Uncleared(Refusal::ShortBuffer(n));
+    }
+    counts::set_zero(table, n);
+    Cleared::Count(n)
+}
+
+// Sets the first places, one a class, to 0. Refused on the grounds 1 to 4, 6 and 7.
+pub fn clear(letters: &[u8], k: usize, mirror: u64, table: &mut [u32]) -> Cleared
+    ensures { λ r. ⌜ Clears (now (letters .entry)) k mirror (now (table .entry)) (ofCleared r) (now (table .exit)) ⌝ }
+{
+    match settings::check(letters, k, mirror) {
+        Checked::Bad(f) => Cleared::Uncleared(f),
+        Checked::Good(st) => clear_places(table, st.classes),
+    }
+}
+
+// The kernel by two-bit numbers where it can be had: four letters under complement.
+fn kernel_for(s: u64, mirror: u64) -> Kernel
+    ensures { λ r. ⌜ Takes r s mirror ⌝ }
+{
+    if s == 4 {
+        if mirror == 1 {
+            return Kernel::TwoBit;
+        }
+    }
+    Kernel::AnyAlphabet
+}
+
+// The second pass over a file, in the counts alone: all its windows are counted, or none where some count is too high for them.
+fn count_unless_full(
+    counts: &mut [u32],
+    file: &[u8],
+    ranks: &[u8; 256],
+    c: Coder,
+    powers: &[u64; 64],
+    n: Numbers,
+) -> Answer
+    requires { ⌜ Coding c (now powers) ⌝ }
+    requires { ⌜ RanksUnder (c .s) (now ranks) ⌝ }
+    requires { ⌜ length (now counts) ≡ classes (c .s) (mirrorOf (c .mirror)) (c .k) ⌝ }
+    requires { ⌜ n .windows ≡ length (fileWindows (rankByTable (now ranks)) (c .k) (now file)) ⌝ }
+    requires { ⌜ _≤_ (n .windows) 16777216 ⌝ }
+    ensures { λ r.
+        ⌜ CountedUnlessFull n (codesBy c (fileWindows (rankByTable (now (ranks .entry))) (c .k) (now (file .entry))))
+        (now (counts .entry)) (ofAnswer r) (now (counts .exit)) ⌝ }
+{
+    if counts::too_full(counts, n.windows) {
+        return Answer::Refused(Refusal::CountsFull);
+    }
+    batches::count_file(counts, file, ranks, c, powers);
+    Answer::Taken(n)
+}
+
+// An add of a file that was scanned without fault, to a table that is long enough.
+fn add_scanned(
+    letters: &[u8],
+    k: usize,
+    mirror: u64,
+    table: &mut [u32],
+    file: &[u8],
+    st: Settings,
+    ranks: &[u8; 256],
+    n: Numbers,
+) -> Answer
+    requires { ⌜ settingsGround (now letters) k mirror ≡ none ⌝ }
+    requires { ⌜ st ≡ settingsOf (now letters) k mirror ⌝ }
+    requires { ⌜ RankTable (now letters) (now ranks) ⌝ }
+    requires { ⌜ CleanFile (now letters) k (now file) n ⌝ }
+    requires { ⌜ classCount (now letters) k mirror ≤ length (now table) ⌝ }
+    ensures { λ r. ⌜ AddedUnlessFull (now (letters .entry)) k mirror (now (table .entry)) (now (file .entry)) (ofAnswer r) (now (table .exit)) ⌝ }
+{
+    let kernel = kernel_for(st.s, mirror);
+    let powers = sequence::kernels::power_table(st.s, k);
+    let c = Coder {
+        kernel,
+        s: st.s,
+        k,
+        mirror,
+        palindromes: 2 * st.classes - st.words,
+    };
+    let classes = st.classes as usize;
+    count_unless_full(&mut table[..classes], file, ranks, c, &powers, n)
+}
+
+// An add under settings that passed the check. The file is read to its end before the table is touched.
+fn add_checked(
+    letters: &[u8],
+    k: usize,
+    mirror: u64,
+    table: &mut [u32],
+    file: &[u8],
+    st: Settings,
+) -> Answer
+    requires { ⌜ settingsGround (now letters) k mirror ≡ none ⌝ }
+    requires { ⌜ st ≡ settingsOf (now letters) k mirror ⌝ }
+    ensures { λ r. ⌜ Added (now (letters .entry)) k mirror (now (table .entry)) (now (file .entry)) (ofAnswer r) (now (table .exit)) ⌝ }
+{
+    if file.len() > 16777216 {
+        return Answer::Refused(Refusal::TooLarge);
+    }
+    if st.classes > 16777216 {
+        return Answer::Refused(Refusal::TooLarge);
+    }
+    let classes = st.classes as usize;
+    if table.len() < classes {
+        return Answer::Refused(Refusal::ShortBuffer(classes));
+    }
+    let ranks = settings::rank_table(letters);
+    match fasta::scan_file(file, &ranks, k) {
+        Scanned::Refused(f) => Answer::Refused(f),
+        Scanned::Taken(n) => add_scanned(letters, k, mirror, table, file, st, &ranks, n),
+    }
+}
+
+// Adds 1 for each window of a file, or refuses the file on the grounds 1 to 4, 6, 7, 10, 11 or 12 and changes no count.
+pub fn add(letters: &[u8], k: usize, mirror: u64, table: &mut [u32], file: &[u8]) -> Answer
+    ensures { λ r. ⌜ Added (now (letters .entry)) k mirror (now (table .entry)) (now (file .entry)) (ofAnswer r) (now (table .exit)) ⌝ }
+{
+    match settings::check(letters, k, mirror) {
+        Checked::Bad(f) => Answer::Refused(f),
+        Checked::Good(st) => add_checked(letters, k, mirror, table, file, st),
+    }
+}
+
+// Clears the table and adds two files, one after the other: what is shown of every list of adds, stated of this one.
+pub fn survey_two(
+    letters: &[u8],
+    k: usize,
+    mirror: u64,
+    table: &mut [u32],
+    one: &[u8],
+    other: &[u8],
+) -> Survey
+    ensures { λ r.
+        ⌜ Surveyed (now (letters .entry)) k mirror (now (table .entry)) (now (one .entry)) (now (other .entry)) r (now (table .exit)) ⌝ }
+{
+    let cleared = clear(letters, k, mirror, table);
+    let first = add(letters, k, mirror, table, one);
+    let second = add(letters, k, mirror, table, other);
+    Survey {
+        cleared,
+        first,
+        second,
+    }
+}
