@@ -27,6 +27,7 @@ extern "C" {
 }
 
 const RUNS: usize = 7;
+const LETTERS: usize = 16_500_000;
 
 /// Letters in a batch.
 const BATCH: usize = 1024;
@@ -185,7 +186,7 @@ fn plain_add(survey: &Survey, table: &mut [u32], file: &[u8]) -> Numbers {
 /// A file of one record in lines of 80 letters, nearly as long as the library takes, with some foreign letters.
 fn drawn_file(letters: &[u8], foreign: u8) -> Vec<u8> {
     let mut file = b">drawn\n".to_vec();
-    let mut sequence = drawn(letters, 16_500_000);
+    let mut sequence = drawn(letters, LETTERS);
     sequence.iter_mut().step_by(9973).for_each(|byte| *byte = foreign);
     for line in sequence.chunks(80) {
         file.extend(line);
@@ -212,7 +213,7 @@ fn medians(survey: &Survey, file: &[u8], table: &mut [u32]) -> (f64, f64) {
 }
 
 /// Runs another counter several times: the median in nanoseconds a letter, or why there is none.
-fn other_counter(program: &str, arguments: &[&str], letters: f64) -> Result<f64, &'static str> {
+fn other_counter(program: &str, arguments: &[&str]) -> Result<f64, &'static str> {
     let mut times = Vec::new();
     for _ in 0..3 {
         let start = Instant::now();
@@ -221,7 +222,7 @@ fn other_counter(program: &str, arguments: &[&str], letters: f64) -> Result<f64,
         if !status.success() {
             return Err("failed");
         }
-        times.push(start.elapsed().as_nanos() as f64 / letters);
+        times.push(start.elapsed().as_nanos() as f64 / LETTERS as f64);
     }
     times.sort_by(f64::total_cmp);
     Ok(times[1])
@@ -237,7 +238,7 @@ fn print_others(k: usize, file: &[u8], ours: f64, folder: &Path) {
     let jellyfish = ["count", "-m", &k_text, "-s", "16M", "-t", "1", "-C", "-o", &to, &from];
     let kmc = [&kmc_k[..], "-t1", "-ci1", "-cs4294967295", "-fm", &from, &to, &at];
     for (program, arguments) in [("jellyfish", &jellyfish[..]), ("kmc", &kmc)] {
-        match other_counter(program, arguments, file.len() as f64) {
+        match other_counter(program, arguments) {
             Ok(ns) => println!("adding, ACGT complement k {k}: {program} {ns:.2}, ratio {:.2}", ours / ns),
             Err(why) => println!("adding, ACGT complement k {k}: {program} {why}, left out"),
         }

@@ -450,8 +450,8 @@ fn check_long(k: usize, step: usize, times: u32, counts: &[u32], table: &Table) 
     }
 }
 
-/// Files of the most bytes there may be, taken in twice. A stray byte at the very end is refused with no count
-/// changed, and so is one byte more.
+/// Files of the most bytes there may be, taken in twice. A stray byte at the very end is refused with no
+/// count changed, and so is one byte more.
 #[test]
 fn the_longest_file_is_taken_in_and_one_byte_more_refused_6() {
     let mut file = long_file(&mut Random::new(39), b"ACGTacgt", MOST_BYTES);

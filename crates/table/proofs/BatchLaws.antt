@@ -43,7 +43,7 @@ module _ {c : Coder} {powers : List ℕ} (C : Coding c powers) (ranks : List ℕ
       let codes = codesBy c (windows (c .k) ranks) in
       rw (F .is) (take-at codes (drop (length codes) old) n (codes-length ∙ sym e))
 
-  pub codes-below : Ranks (c .s) ranks → Each (Below (classes (c .s) (mirrorOf (c .mirror)) (c .k))) (codesBy c (windows (c .k) ranks))
+  codes-below : Ranks (c .s) ranks → Each (Below (classes (c .s) (mirrorOf (c .mirror)) (c .k))) (codesBy c (windows (c .k) ranks))
   codes-below R =
       each-map (IsWord (c .s) (c .k)) (Below (classes (c .s) (mirrorOf (c .mirror)) (c .k))) (code (c .s) (mirrorOf (c .mirror)) (c .k))
       (windows (c .k) ranks)
@@ -75,9 +75,6 @@ carried array n k new some-k long fits e =
       fits = rw e (omega (arith, length-append last (drop (k - 1) array)));
       letters = rw (e, take-at last (drop (k - 1) array) (k - 1) l) (sym (drop-of-take array (n + 1 - k) (k - 1) n m (omega arith)));
     }
-
-pub carried-none : (array : List ℕ) (n k : ℕ) → 1 ≤ k → Carries array n k true 0 array
-carried-none array n k some-k = record { few = omega arith; fits = omega arith; letters = refl }
 
 -- ---- batch after batch
 

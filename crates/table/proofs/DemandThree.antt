@@ -19,7 +19,7 @@ use Rattle.table.specs.Demand.{Adds, takenIn, allWins, counts, Agrees, K
 use Rattle.table.specs.Demand.Calls.{done, then}
 use Rattle.table.proofs.Classes.{place-below, one-place-a-class, canonical-word, canonical-place, hits-of-canonical}
 use Rattle.table.proofs.Steps.{step}
-use Rattle.table.proofs.Lists.{all-windows-are-words, taken-more, added-up, tally-is-hits}
+use Rattle.table.proofs.TakenIn.{all-windows-are-words, taken-more, added-up, tally-is-hits}
 use Rattle.table.proofs.Clearing.{settings-good, cleared-agrees, cleared-sum, cleared-later, cleared-length}
 
 module _ (letters : List ℕ) (k m : ℕ) (good : settingsGround letters k m ≡ none) where
@@ -102,19 +102,18 @@ demand-three letters k m {files = files} {answers = answers} no-ground clearing 
     let good = settings-good letters k m no-ground clearing in
     let K = kept letters k m good clearedBook (cleared-agrees letters k m no-ground clearing) adds in
     let some-k = good-settings letters k m good .some-k in
+    let letters-are = added-up letters k (takenIn files answers) (omega arith) in
+    let sum-is = K .counts-grow-by-the-windows-taken-in in
+    let none-yet = cleared-sum letters k m no-ground clearing in
     record {
       each-add-answered-what-the-book-did = K .each-add-answered-what-the-book-did;
       each-count-equals-its-class's-tally = K .each-count-equals-its-class's-tally;
       later-places-never-change = K .later-places-never-change ∙ cleared-later letters k m no-ground clearing;
       as-many-places-as-before = K .as-many-places-as-before ∙ cleared-length letters k m no-ground clearing;
       places-and-classes = places-and-classes letters k m good;
-      sum-of-the-counts =
-          omega (
-            arith,
-            K .counts-grow-by-the-windows-taken-in,
-            cleared-sum letters k m no-ground clearing,
-            added-up letters k (takenIn files answers) (omega arith),
-          );
+      sum-is-the-windows-taken-in = omega (arith, sum-is, none-yet);
+      sum-of-the-counts = omega (arith, sum-is, none-yet, letters-are);
+      no-more-foreign-and-edge-than-letters = omega (arith, letters-are);
     }
 
 -- "Two such lists with the same settings": each from a cleared table of its own.

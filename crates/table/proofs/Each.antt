@@ -9,14 +9,6 @@ pub each-append : {A : Type 0} (P : A → Type 0) (xs ys : List A) → Each P xs
 each-append P [] ys h g = g
 each-append P (x ∷ xs) ys h g = (h .0, each-append P xs ys (h .1) g)
 
-pub each-left : {A : Type 0} (P : A → Type 0) (xs ys : List A) → Each P (xs ++ ys) → Each P xs
-each-left P [] ys h = tt
-each-left P (x ∷ xs) ys h = (h .0, each-left P xs ys (h .1))
-
-pub each-right : {A : Type 0} (P : A → Type 0) (xs ys : List A) → Each P (xs ++ ys) → Each P ys
-each-right P [] ys h = h
-each-right P (x ∷ xs) ys h = each-right P xs ys (h .1)
-
 pub each-map : {A B : Type 0} (P : A → Type 0) (Q : B → Type 0) (f : A → B) (xs : List A) → ((x : A) → P x → Q (f x)) → Each P xs → Each Q (map f xs)
 each-map P Q f [] h a = tt
 each-map P Q f (x ∷ xs) h a = (h x (a .0), each-map P Q f xs h (a .1))

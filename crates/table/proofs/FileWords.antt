@@ -22,7 +22,7 @@ use Rattle.table.specs.Needs.{Each}
 use Rattle.table.proofs.Each.{each-append}
 
 -- A mark of a rank below s, or of a break.
-pub Ranked : ℕ → Option ℕ → Type 0
+Ranked : ℕ → Option ℕ → Type 0
 Ranked s none = Unit {0}
 Ranked s (some x) = x < s
 

@@ -28,7 +28,7 @@ use Rattle.table.proofs.Cuts.{cut-item}
 -- ---- the mark of a byte
 
 -- A byte adds one letter at most.
-pub one-letter : (rank : ℕ → Option ℕ) (it : Item) → markOf rank it .letters ≤ 1
+one-letter : (rank : ℕ → Option ℕ) (it : Item) → markOf rank it .letters ≤ 1
 one-letter rank Opens = omega arith
 one-letter rank Skip = omega arith
 one-letter rank Stray = omega arith
@@ -56,7 +56,7 @@ module _ {s : ℕ} {table : List ℕ} (T : RanksUnder s table) (b : ℕ) (byte :
       go false false = tt
 
   -- The letter that a byte adds is a rank below s.
-  pub item-rank : (mode : Mode) (lf : Bool) → Ranks s (added (rankByTable table) (item mode b lf))
+  item-rank : (mode : Mode) (lf : Bool) → Ranks s (added (rankByTable table) (item mode b lf))
   unfolding item
   item-rank Header lf = tt
   item-rank Sequence lf = line-rank lf

@@ -98,11 +98,16 @@ pub record DemandThree (letters : List ℕ) (k mirror : ℕ) (t₀ : List ℕ) (
   pub later-places-never-change : drop (classCount letters k mirror) t ≡ drop (classCount letters k mirror) t₀
   pub as-many-places-as-before : length t ≡ length t₀
   pub places-and-classes : OnePlaceAClass letters k mirror
-  -- "sum of the counts = letters − foreign letters − edge letters, each added up over the files taken in"
+  pub sum-is-the-windows-taken-in : sum (counts letters k mirror t) ≡ length (allWins letters k (takenIn files answers))
+  -- "sum of the counts = letters − foreign letters − edge letters, each added up over the files taken in". Numbers here end at 0, so the last
+  -- field says that neither subtraction is cut off.
   pub sum-of-the-counts :
       sum (counts letters k mirror t)
       ≡ addedUp (lettersOf letters k) (takenIn files answers) - addedUp (foreignOf letters k) (takenIn files answers)
       - addedUp (edgeOf letters k) (takenIn files answers)
+  pub no-more-foreign-and-edge-than-letters :
+      addedUp (foreignOf letters k) (takenIn files answers) + addedUp (edgeOf letters k) (takenIn files answers)
+      ≤ addedUp (lettersOf letters k) (takenIn files answers)
 
 -- "Two such lists with the same settings leave the same counts exactly when, for every word of k letters, the files taken in by the one hold
 -- as many windows equal to that word or its mirror as the files taken in by the other."
