@@ -160,7 +160,7 @@ pub extern "C" fn kmer_clear(letters: &[u8], k: usize, mirror: u64, table: &mut 
 {
     match table::clear(letters, k, mirror, table) {
         Cleared::Count(n) => n as u64,
-        Cleared::Unchanged(f) => refused_at(f),
+        Cleared::Uncleared(f) => refused_at(f),
     }
 }
 

@@ -1,6 +1,6 @@
 -- `table::counts::highest` meets its contract. The invariant: the highest count is m or among those left.
 use mathlib.Core.Path.{_≡_}
-use Prim.Native.Nat.{_-_, _≤_, max}
+use Prim.Native.Nat.{_-_, max}
 use native.Mathlib.Omega.{arith}
 use borrow.Author.Needs.{needs}
 use lib.ListN.{length, drop}
@@ -10,13 +10,13 @@ use Rattle.table.proofs.counts.highest.Statement.{statement}
 use Rattle.table.proofs.counts.highest.Tie as tie
 
 abbrev Inv-loop : tie.InvT-loop
-Inv-loop counts m₀ i₀ m i = (i ≤ length counts) × (highestOf counts ≡ max m (highestOf (drop i counts)))
+Inv-loop counts m₀ i₀ m i = highestOf counts ≡ max m (highestOf (drop i counts))
 
 abbrev μ-loop : tie.MeasureT-loop
 μ-loop counts m₀ i₀ m i = length counts - i
 
 loop-holds : tie.Need-loop-holds Inv-loop μ-loop
-loop-holds c = (omega arith, omega arith)
+loop-holds c = omega arith
 
 mul-larger : tie.Need-mul-larger Inv-loop μ-loop
 mul-larger c = omega arith
@@ -34,10 +34,10 @@ loop-less : tie.Need-loop-less Inv-loop μ-loop
 loop-less c = omega arith
 
 loop-again : tie.Need-loop-again Inv-loop μ-loop
-loop-again c = let test = c .before .before in (omega arith, higher _ _ _ (test .before .loop .inv .1) _ (test .loop-test .taken) (c .larger .ensures))
+loop-again c = let test = c .before .before in higher _ _ _ (test .before .loop .inv) _ (test .loop-test .taken) (c .larger .ensures)
 
 returns : tie.Need-returns Inv-loop μ-loop
-returns c = highest-all _ _ _ (c .before .loop .inv .1) (c .loop-test .left)
+returns c = highest-all _ _ _ (c .before .loop .inv) (c .loop-test .left)
 
 pub highest-spec : {M : Type 1} → statement M
 highest-spec =
