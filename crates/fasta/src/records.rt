@@ -135,7 +135,9 @@ impl<'a> Reader<'a> {
     pub fn next(self) -> Found
         ensures { λ f. ⌜ f ≡ recordFrom (now (self .entry .file)) (self .entry .at) ⌝ }
     {
-        record_at(self.file, self.at)
+        let file = self.file;
+        let at = self.at;
+        record_at(file, at)
     }
 
     pub fn advanced(self) -> Reader<'a>
@@ -143,10 +145,9 @@ impl<'a> Reader<'a> {
             ⌜ (r .file ≡ self .entry .file)
             × (r .at ≡ offsetAfter (self .entry .at) (recordFrom (now (self .entry .file)) (self .entry .at))) ⌝ }
     {
-        let at = offset_after(self.file, self.at);
-        Reader {
-            file: self.file,
-            at,
-        }
+        let file = self.file;
+        let mut at = self.at;
+        at = offset_after(file, at);
+        Reader { file, at }
     }
 }
