@@ -3,28 +3,13 @@
 //! increments), and beside jellyfish and KMC where they are on PATH.
 
 use crate::baseline::{general, rank_table, two_bit};
+use crate::c_calls::{kmer_add, kmer_clear};
 use crate::drawn;
 use std::fs;
 use std::hint::black_box;
 use std::path::Path;
 use std::process::{Command, Stdio};
 use std::time::Instant;
-
-extern "C" {
-    fn kmer_clear(letters: *const u8, letters_len: usize, k: usize, mirror: u64, table: *mut u32, table_len: usize) -> u64;
-    fn kmer_add(
-        letters: *const u8,
-        letters_len: usize,
-        k: usize,
-        mirror: u64,
-        table: *mut u32,
-        table_len: usize,
-        file: *const u8,
-        file_len: usize,
-        answer: *mut u64,
-        answer_len: usize,
-    ) -> u64;
-}
 
 const RUNS: usize = 7;
 const LETTERS: usize = 16_500_000;

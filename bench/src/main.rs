@@ -3,22 +3,18 @@
 
 mod adding;
 mod baseline;
+// Two files of the tests by their path: the declarations of the C calls and the random numbers. Each has more than is
+// used here.
+#[allow(dead_code)]
+#[path = "../../tests/src/c_calls.rs"]
+mod c_calls;
+#[allow(dead_code)]
+#[path = "../../tests/src/draw.rs"]
+mod draw;
 
+use c_calls::{kmer_codes, kmer_codes_two_bit};
+use draw::Random;
 use std::time::Instant;
-
-extern "C" {
-    fn kmer_codes(
-        letters: *const u8,
-        letters_len: usize,
-        k: usize,
-        mirror: u64,
-        sequence: *const u8,
-        sequence_len: usize,
-        codes: *mut u64,
-        codes_len: usize,
-    ) -> u64;
-    fn kmer_codes_two_bit(k: usize, sequence: *const u8, sequence_len: usize, codes: *mut u64, codes_len: usize) -> u64;
-}
 
 const LETTERS: usize = 16_000_000;
 const RUNS: usize = 11;
@@ -36,16 +32,10 @@ fn two_bit(k: usize, sequence: &[u8], codes: &mut [u64]) -> usize {
     unsafe { kmer_codes_two_bit(k, sequence.as_ptr(), sequence.len(), codes.as_mut_ptr(), codes.len()) as usize }
 }
 
-/// A random sequence over some letters (SplitMix64).
+/// A random sequence over some letters.
 fn drawn(letters: &[u8], length: usize) -> Vec<u8> {
-    let mut state = 1u64;
-    let mut next = || {
-        state = state.wrapping_add(0x9e37_79b9_7f4a_7c15);
-        let z = (state ^ (state >> 30)).wrapping_mul(0xbf58_476d_1ce4_e5b9);
-        let z = (z ^ (z >> 27)).wrapping_mul(0x94d0_49bb_1331_11eb);
-        z ^ (z >> 31)
-    };
-    (0..length).map(|_| letters[(next() % letters.len() as u64) as usize]).collect()
+    let mut random = Random::new(1);
+    (0..length).map(|_| letters[random.below(letters.len() as u64) as usize]).collect()
 }
 
 /// The medians of several versions in nanoseconds a letter; their runs take turns, and all must fill the same codes.
@@ -66,6 +56,17 @@ fn medians(sequence: &[u8], versions: &[&dyn Fn(&mut [u64]) -> usize]) -> Vec<f6
     times.iter().map(|times| times[RUNS / 2]).collect()
 }
 
+/// The medians for DNA under complement: the two-bit path and its plain version, the general path and its own.
+fn dna_medians(k: usize, dna: &[u8]) -> Vec<f64> {
+    let versions: [&dyn Fn(&mut [u64]) -> usize; 4] = [
+        &|codes| two_bit(k, dna, codes),
+        &|codes| baseline::two_bit(k, dna, codes),
+        &|codes| general(b"ACGT", k, 1, dna, codes),
+        &|codes| baseline::general(b"ACGT", k, true, dna, codes),
+    ];
+    medians(dna, &versions)
+}
+
 fn main() {
     // The word `adding` as an argument leaves out the codes along a sequence, which take longer.
     if std::env::args().any(|argument| argument == "adding") {
@@ -75,13 +76,7 @@ fn main() {
     let dna = drawn(b"ACGT", LETTERS);
     let mut at_k = Vec::new();
     for k in [12, 31] {
-        let versions: [&dyn Fn(&mut [u64]) -> usize; 4] = [
-            &|codes| two_bit(k, &dna, codes),
-            &|codes| baseline::two_bit(k, &dna, codes),
-            &|codes| general(b"ACGT", k, 1, &dna, codes),
-            &|codes| baseline::general(b"ACGT", k, true, &dna, codes),
-        ];
-        let ns = medians(&dna, &versions);
+        let ns = dna_medians(k, &dna);
         println!("ACGT complement k {k}: two-bit {:.2}, plain Rust {:.2}, ratio {:.2} (at most 1.3)", ns[0], ns[1], ns[0] / ns[1]);
         println!("ACGT complement k {k}: general {:.2}, plain Rust {:.2}, ratio {:.2}", ns[2], ns[3], ns[2] / ns[3]);
         println!("ACGT complement k {k}: general / two-bit {:.2} (at most 2.5)", ns[2] / ns[0]);
@@ -94,13 +89,7 @@ fn main() {
     let mut with_n = dna.clone();
     with_n.iter_mut().step_by(997).for_each(|byte| *byte = b'N');
     for k in [12, 31] {
-        let versions: [&dyn Fn(&mut [u64]) -> usize; 4] = [
-            &|codes| two_bit(k, &with_n, codes),
-            &|codes| baseline::two_bit(k, &with_n, codes),
-            &|codes| general(b"ACGT", k, 1, &with_n, codes),
-            &|codes| baseline::general(b"ACGT", k, true, &with_n, codes),
-        ];
-        let ns = medians(&with_n, &versions);
+        let ns = dna_medians(k, &with_n);
         println!("ACGT and N, k {k}: two-bit {:.2}, plain Rust {:.2}, ratio {:.2}", ns[0], ns[1], ns[0] / ns[1]);
         println!("ACGT and N, k {k}: general {:.2}, plain Rust {:.2}, ratio {:.2}", ns[2], ns[3], ns[2] / ns[3]);
     }

@@ -1,8 +1,9 @@
 //! What document 01 says that each call answers and leaves in the buffer: the second coder behind a
 //! plain reference of the grounds for refusing; and the comparisons that the tests make with it.
 
-use crate::calls::{self, filled, REFUSED};
+use crate::calls::{self, REFUSED};
 use crate::draw::spelled;
+use crate::lent::filled;
 use crate::second_coder::Coder;
 use crate::settings::{shown, Settings, COMPLEMENT, MOST_WORDS, REVERSAL};
 
@@ -11,6 +12,13 @@ use crate::settings::{shown, Settings, COMPLEMENT, MOST_WORDS, REVERSAL};
 pub struct Refusal {
     pub number: u64,
     pub p: u64,
+}
+
+impl Refusal {
+    /// As the C calls return it that carry P: 2^63 + P * 256 + the number.
+    pub fn packed(&self) -> u64 {
+        REFUSED + self.p * 256 + self.number
+    }
 }
 
 fn refuse(number: u64) -> Result<(), Refusal> {
@@ -114,8 +122,7 @@ pub fn check_word(settings: &Settings, code: u64, room: usize, expected: &Result
 
 /// Compares kmer_mirror with an expectation, answer and whole buffer. Its refusals carry P.
 pub fn check_mirror(settings: &Settings, word: &[u8], room: usize, expected: &Result<Vec<u8>, Refusal>) {
-    let packed = |refusal: &Refusal| REFUSED + refusal.p * 256 + refusal.number;
-    let right = expected.as_ref().map_or_else(packed, |mirror| mirror.len() as u64);
+    let right = expected.as_ref().map_or_else(Refusal::packed, |mirror| mirror.len() as u64);
     let what = format!("kmer_mirror of {} with room {room}", shown(word));
     check_filled(settings, &what, calls::mirror(settings, word, room), right, expected);
 }

@@ -1,11 +1,17 @@
-//! What the tests of libkmer.a share: the second coder, the reference of the grounds for refusing, the
-//! calls themselves, and the settings and words that the tests go over.
+//! What the tests share. The C calls and what is lent to them: `c_calls`, `lent`, `calls`, `sequences`, `tables`.
+//! What document 01 says that they answer, written apart from the library: `second_coder`, `expected`, `book`.
+//! What the tests go over: `settings`, `draw`, `draw_files`, and the stored answers in `vectors`, `table_vectors`.
 
+pub mod book;
+pub mod c_calls;
 pub mod calls;
 pub mod draw;
+pub mod draw_files;
 pub mod expected;
+pub mod lent;
 pub mod second_coder;
 pub mod sequences;
 pub mod settings;
+pub mod table_vectors;
 pub mod tables;
 pub mod vectors;

@@ -25,14 +25,20 @@ pub fn bytes(hex: &str) -> Vec<u8> {
     digits.chunks(2).map(|two| two[0] * 16 + two[1]).collect()
 }
 
-/// The lines of one call; their number is asked for, so that a cut file does not pass.
-pub fn vectors(call: &str, number: usize) -> Vec<Vector> {
-    let lines = include_str!("../vectors/words.txt").lines().enumerate();
+/// The numbers and columns of one call's lines; how many there are is asked for, so that a cut file does not
+/// pass.
+pub fn rows(text: &'static str, call: &str, count: usize) -> Vec<(usize, Vec<&'static str>)> {
+    let lines = text.lines().enumerate();
     let split = lines.map(|(place, line)| (place + 1, line.split(' ').collect::<Vec<&str>>()));
-    let wanted = split.filter(|(_, columns)| columns[0] == call);
-    let vectors: Vec<Vector> = wanted.map(|(line, columns)| parsed(line, &columns)).collect();
-    assert_eq!(vectors.len(), number, "lines for {call}");
-    vectors
+    let found: Vec<(usize, Vec<&str>)> = split.filter(|(_, columns)| columns[0] == call).collect();
+    assert_eq!(found.len(), count, "lines for {call}");
+    found
+}
+
+/// The stored calls of one kind.
+pub fn vectors(call: &str, count: usize) -> Vec<Vector> {
+    let rows = rows(include_str!("../vectors/words.txt"), call, count);
+    rows.iter().map(|(line, columns)| parsed(*line, columns)).collect()
 }
 
 fn parsed(line: usize, columns: &[&'static str]) -> Vector {

@@ -1,8 +1,9 @@
 //! The cases of document 01 that concern words, with its own numbers and no second coder.
 
 use kmer_tests::calls;
-use kmer_tests::calls::{filled, REFUSED};
+use kmer_tests::calls::REFUSED;
 use kmer_tests::draw::first_capitals;
+use kmer_tests::lent::filled;
 use kmer_tests::settings::*;
 
 fn code(letters: &str, k: usize, mirror: u64, word: &str) -> u64 {

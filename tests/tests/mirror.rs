@@ -1,15 +1,13 @@
-//! Mirroring through kmer_mirror, beside the second coder, with the grounds for refusing and their P.
+//! Mirroring through kmer_mirror, beside the second coder, with grounds 5, 7 and 9 and their P. The order of all
+//! its grounds is in refusals.rs.
 
-use kmer_tests::calls::{self, filled, REFUSED};
+use kmer_tests::calls;
 use kmer_tests::draw::*;
 use kmer_tests::expected::*;
 use kmer_tests::settings::*;
 use kmer_tests::vectors::{bytes, vectors};
 
 const DRAWN: usize = 300;
-
-/// Letters, k, mirror, word, room; the number and P of the refusal.
-type Faulty<'a> = (&'a [u8], usize, u64, &'a [u8], usize, u64, u64);
 
 /// Written out, with no reference: the mirrors of some words of document 01's cases.
 #[test]
@@ -50,52 +48,6 @@ fn drawn_words_of_all_settings_have_their_mirrors() {
                 "{settings}: {}",
                 shown(&spelling)
             );
-        }
-    }
-}
-
-/// Where several grounds apply the lowest number wins, with its P: written out, with no reference.
-#[test]
-fn grounds_go_in_number_order() {
-    let cases: [Faulty; 10] = [
-        (b"AcG", 0, 2, b"#", 0, 1, 0),
-        (b"ACG", 0, 2, b"#", 0, 2, 0),
-        (b"ACG", 0, 1, b"#", 0, 3, 0),
-        (b"ACGT", 0, 1, b"#", 0, 4, 0),
-        (b"ACGT", 32, 1, b"#", 0, 4, 0),
-        (b"ACGT", 3, 1, b"##", 2, 5, 0),
-        (b"ACGT", 3, 1, b"AC##", 2, 5, 0),
-        (b"ACGT", 3, 1, b"AC#", 2, 7, 3),
-        (b"ACGT", 3, 1, b"A##", 3, 9, 1),
-        (b"ACGT", 3, 1, b"#C#", 9, 9, 0),
-    ];
-    for (letters, k, mirror, word, room, number, p) in cases {
-        let settings = Settings::new(letters, k, mirror);
-        let left = calls::mirror(&settings, word, room);
-        assert_eq!(
-            left,
-            (REFUSED + p * 256 + number, filled(room)),
-            "{settings}: {}, room {room}",
-            shown(word)
-        );
-    }
-}
-
-/// Every combination of good and bad arguments, beside the reference of the grounds.
-#[test]
-fn combinations_of_faults_answer_as_the_reference() {
-    let letters: [&[u8]; 7] = [b"ACGT", b"ACG", b"TB", b"ACgT", b"A", b"", b"ABCDEFGHIJKLMNOPQ"];
-    let words: [&[u8]; 9] = [b"", b"A", b"T", b"tB", b"AC", b"A#", b"ACG", b"GcA", b"AC\n"];
-    for letters in letters {
-        for mirror in [0, 1, 2, 256, 1 << 32, u64::MAX] {
-            for k in [0, 1, 2, 3, 31, 32, 39, 40, 62, 63, 1 << 32, usize::MAX] {
-                let settings = Settings::new(letters, k, mirror);
-                for word in words {
-                    for room in [0, 1, 2, 3, 4, 30, 70] {
-                        check_mirror(&settings, word, room, &mirroring(&settings, word, room));
-                    }
-                }
-            }
         }
     }
 }

@@ -1,9 +1,10 @@
-//! The grounds for refusing, through word coding and code reading: each ground alone, their order where
+//! The grounds for refusing, through word coding, code reading and mirroring: each ground alone, their order where
 //! several apply, and no byte changed (which the calls themselves check for what they lend).
 
-use kmer_tests::calls::{self, filled, REFUSED};
+use kmer_tests::calls::{self, REFUSED};
 use kmer_tests::draw::*;
 use kmer_tests::expected::*;
+use kmer_tests::lent::filled;
 use kmer_tests::settings::*;
 
 const MEGABYTE: usize = 1 << 20;
@@ -11,8 +12,9 @@ const MEGABYTE: usize = 1 << 20;
 /// Numbers that a call might cut to fewer bits.
 const WIDE: [u64; 8] = [255, 256, 257, 1 << 32, (1 << 32) + 1, 1 << 63, (1 << 63) + 1, u64::MAX];
 
-/// Letters, k, mirror, word, room; the number from coding, and from reading the code 2^64 - 1.
-type Faulty<'a> = (&'a [u8], usize, u64, &'a [u8], usize, u64, u64);
+/// Letters, k, mirror, word, room; the number from coding, the number from reading the code 2^64 - 1, and number
+/// and P from mirroring.
+type Faulty<'a> = (&'a [u8], usize, u64, &'a [u8], usize, (u64, u64, (u64, u64)));
 
 /// Both calls refuse with this number, whatever else is right.
 fn check_refused(settings: &Settings, number: u64) {
@@ -163,49 +165,60 @@ fn a_foreign_byte_at_any_place_is_refused_9() {
     }
 }
 
-/// Where several grounds apply the lowest number wins: written out, with no reference.
+/// Where several grounds apply the lowest number wins, in mirroring with its P: written out, with no reference.
 #[test]
 fn grounds_go_in_number_order() {
-    let cases: [Faulty; 8] = [
-        (b"AcG", 0, 2, b"#", 0, 1, 1),
-        (b"ACG", 0, 2, b"#", 0, 2, 2),
-        (b"ACG", 0, 1, b"#", 0, 3, 3),
-        (b"ACG", 40, 1, b"#", 0, 3, 3),
-        (b"ACGT", 0, 1, b"#", 0, 4, 4),
-        (b"ACGT", 32, 1, b"#", 0, 4, 4),
-        (b"ACGT", 3, 1, b"##", 2, 5, 7),
-        (b"ACGT", 3, 1, b"AC#", 3, 9, 8),
+    let cases: [Faulty; 12] = [
+        (b"AcG", 0, 2, b"#", 0, (1, 1, (1, 0))),
+        (b"ACG", 0, 2, b"#", 0, (2, 2, (2, 0))),
+        (b"ACG", 0, 1, b"#", 0, (3, 3, (3, 0))),
+        (b"ACG", 40, 1, b"#", 0, (3, 3, (3, 0))),
+        (b"ACGT", 0, 1, b"#", 0, (4, 4, (4, 0))),
+        (b"ACGT", 32, 1, b"#", 0, (4, 4, (4, 0))),
+        (b"ACGT", 3, 1, b"##", 2, (5, 7, (5, 0))),
+        (b"ACGT", 3, 1, b"AC##", 2, (5, 7, (5, 0))),
+        (b"ACGT", 3, 1, b"AC#", 2, (9, 7, (7, 3))),
+        (b"ACGT", 3, 1, b"AC#", 3, (9, 8, (9, 2))),
+        (b"ACGT", 3, 1, b"A##", 3, (9, 8, (9, 1))),
+        (b"ACGT", 3, 1, b"#C#", 9, (9, 8, (9, 0))),
     ];
-    for (letters, k, mirror, word, room, coding, reading) in cases {
+    for (letters, k, mirror, word, room, (coding, reading, (number, p))) in cases {
         let settings = Settings::new(letters, k, mirror);
-        assert_eq!(
-            calls::code(&settings, word),
-            REFUSED + coding,
-            "{settings}: kmer_code of {}",
-            shown(word)
-        );
+        let what = format!("{settings}: {}, room {room}", shown(word));
+        assert_eq!(calls::code(&settings, word), REFUSED + coding, "{what}: kmer_code");
         let left = calls::word(&settings, u64::MAX, room);
-        assert_eq!(left, (REFUSED + reading, filled(room)), "{settings}: kmer_word with room {room}");
+        assert_eq!(left, (REFUSED + reading, filled(room)), "{what}: kmer_word");
+        let left = calls::mirror(&settings, word, room);
+        assert_eq!(left, (REFUSED + p * 256 + number, filled(room)), "{what}: kmer_mirror");
     }
 }
 
-/// Every combination of good and bad arguments, beside the reference of the grounds.
+/// Words through coding and mirroring, and some codes through reading, into buffers of many lengths, beside the
+/// reference of the grounds.
+fn check_calls(settings: &Settings, words: &[&[u8]]) {
+    let rooms = [0, 1, 2, 3, 4, 30, 31, 39, 62, 63, 70];
+    for word in words {
+        check_code(settings, word, coding(settings, word));
+        for room in rooms {
+            check_mirror(settings, word, room, &mirroring(settings, word, room));
+        }
+    }
+    for code in [0, 1, 2, 3, 5, 6, 10, 40, 1 << 61, 1 << 62, 1 << 63, u64::MAX] {
+        for room in rooms {
+            check_word(settings, code, room, &reading(settings, code, room));
+        }
+    }
+}
+
+/// Every combination of good and bad arguments.
 #[test]
 fn combinations_of_faults_answer_as_the_reference() {
     let letters: [&[u8]; 7] = [b"ACGT", b"ACG", b"TB", b"ACgT", b"A", b"", b"ABCDEFGHIJKLMNOPQ"];
-    let words: [&[u8]; 9] = [b"", b"A", b"T", b"tB", b"AC", b"A#", b"ACG", b"GCA", b"AC\n"];
+    let words: [&[u8]; 10] = [b"", b"A", b"T", b"tB", b"AC", b"A#", b"ACG", b"GCA", b"GcA", b"AC\n"];
     for letters in letters {
-        for mirror in [0, 1, 2, u64::MAX] {
-            for k in [0, 1, 2, 3, 31, 32, 39, 40, 62, 63, usize::MAX] {
-                let settings = Settings::new(letters, k, mirror);
-                for word in words {
-                    check_code(&settings, word, coding(&settings, word));
-                }
-                for code in [0, 1, 2, 3, 5, 6, 10, 40, 1 << 61, 1 << 62, 1 << 63, u64::MAX] {
-                    for room in [0, 1, 2, 3, 4, 30, 31, 39, 62, 63] {
-                        check_word(&settings, code, room, &reading(&settings, code, room));
-                    }
-                }
+        for mirror in [0, 1, 2, 256, 1 << 32, u64::MAX] {
+            for k in [0, 1, 2, 3, 31, 32, 39, 40, 62, 63, 1 << 32, usize::MAX] {
+                check_calls(&Settings::new(letters, k, mirror), &words);
             }
         }
     }

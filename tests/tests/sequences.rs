@@ -1,7 +1,9 @@
 //! Codes along a sequence: both paths beside the second coder and beside each other, the list's later places, and the grounds.
 
 use kmer_tests::draw::*;
+use kmer_tests::draw_files::drawn_sequence;
 use kmer_tests::expected::settings_ground;
+use kmer_tests::lent::filled;
 use kmer_tests::sequences::*;
 use kmer_tests::settings::*;
 
@@ -43,7 +45,8 @@ fn short_lengths_and_exact_room() {
     for settings in all {
         let k = settings.k;
         for length in [0, 1, k - 1, k, k + 1, 2 * k] {
-            let sequence = drawn_sequence(&mut random, &settings, length, if length % 2 == 0 { 0 } else { 8 });
+            let sequence =
+                drawn_sequence(&mut random, &settings, length, if length % 2 == 0 { 0 } else { 8 });
             let needed = window_count(&settings, &sequence);
             for room in [needed, needed + 1, needed + 100] {
                 check_along(&settings, &sequence, room);
@@ -59,7 +62,9 @@ fn short_lengths_and_exact_room() {
 /// Some sizes whose k are small, middling and the largest.
 fn some_settings(random: &mut Random) -> Vec<Settings> {
     let mut all: Vec<Settings> = [1, 2, 5, 12, 31].into_iter().map(two_bit_settings).collect();
-    for (s, mirror, k) in [(2, 0, 62), (2, 1, 61), (3, 0, 39), (6, 1, 11), (10, 0, 18), (16, 1, 15), (4, 0, 31)] {
+    for (s, mirror, k) in
+        [(2, 0, 62), (2, 1, 61), (3, 0, 39), (6, 1, 11), (10, 0, 18), (16, 1, 15), (4, 0, 31)]
+    {
         all.push(Settings::new(&drawn_capitals(random, s), k, mirror));
     }
     all
@@ -158,10 +163,15 @@ fn check_long(k: usize, sequence: &[u8]) {
     assert!(general == codes_two_bit(k, sequence, room), "{settings}: the two paths differ");
     let (answer, list) = general;
     assert_eq!(answer as usize, room - 3, "{settings}");
-    assert_eq!(list[room - 3..], filled_list(room)[room - 3..], "{settings}: a later place changed");
-    let about_batches = (BATCH..room - 3).step_by(BATCH - k + 1).take(50).flat_map(|place| place - k - 1..place + 1);
+    assert_eq!(list[room - 3..], filled::<u64>(room)[room - 3..], "{settings}: a later place changed");
+    let about_batches =
+        (BATCH..room - 3).step_by(BATCH - k + 1).take(50).flat_map(|place| place - k - 1..place + 1);
     for place in (0..room - 3).step_by(40_009).chain(about_batches).chain(room - 13..room - 3) {
-        assert_eq!(list[place], window_number(&settings, &sequence[place..place + k]), "{settings}: place {place}");
+        assert_eq!(
+            list[place],
+            window_number(&settings, &sequence[place..place + k]),
+            "{settings}: place {place}"
+        );
     }
 }
 
