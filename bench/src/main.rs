@@ -67,6 +67,23 @@ fn dna_medians(k: usize, dna: &[u8]) -> Vec<f64> {
     medians(dna, &versions)
 }
 
+/// The general path for alphabets of other sizes, under both mirrors.
+fn print_alphabets() {
+    let capitals: Vec<u8> = (b'A'..=b'P').collect();
+    for (s, k) in [(2, 31), (6, 12), (10, 12), (16, 12)] {
+        let letters = &capitals[..s];
+        let sequence = drawn(letters, LETTERS);
+        for mirror in [0, 1] {
+            let versions: [&dyn Fn(&mut [u64]) -> usize; 2] = [
+                &|codes| general(letters, k, mirror, &sequence, codes),
+                &|codes| baseline::general(letters, k, mirror == 1, &sequence, codes),
+            ];
+            let ns = medians(&sequence, &versions);
+            println!("{s} letters, mirror {mirror}, k {k}: general {:.2}, plain Rust {:.2}, ratio {:.2}", ns[0], ns[1], ns[0] / ns[1]);
+        }
+    }
+}
+
 fn main() {
     // The word `adding` as an argument leaves out the codes along a sequence, which take longer.
     if std::env::args().any(|argument| argument == "adding") {
@@ -93,18 +110,6 @@ fn main() {
         println!("ACGT and N, k {k}: two-bit {:.2}, plain Rust {:.2}, ratio {:.2}", ns[0], ns[1], ns[0] / ns[1]);
         println!("ACGT and N, k {k}: general {:.2}, plain Rust {:.2}, ratio {:.2}", ns[2], ns[3], ns[2] / ns[3]);
     }
-    let capitals: Vec<u8> = (b'A'..=b'P').collect();
-    for (s, k) in [(2, 31), (6, 12), (10, 12), (16, 12)] {
-        let letters = &capitals[..s];
-        let sequence = drawn(letters, LETTERS);
-        for mirror in [0, 1] {
-            let versions: [&dyn Fn(&mut [u64]) -> usize; 2] = [
-                &|codes| general(letters, k, mirror, &sequence, codes),
-                &|codes| baseline::general(letters, k, mirror == 1, &sequence, codes),
-            ];
-            let ns = medians(&sequence, &versions);
-            println!("{s} letters, mirror {mirror}, k {k}: general {:.2}, plain Rust {:.2}, ratio {:.2}", ns[0], ns[1], ns[0] / ns[1]);
-        }
-    }
+    print_alphabets();
     adding::print();
 }
