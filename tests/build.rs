@@ -1,4 +1,5 @@
-//! Links libkmer.a, from target/staticlib at the repository's root or from the folder KMER_LIB_DIR.
+//! Links libkmer.a, from target/staticlib at the repository's root or from the folder KMER_LIB_DIR. The build
+//! script of tests/ and, by its path, of bench/, which both stand next to target/.
 
 use std::env;
 use std::path::PathBuf;

@@ -1,5 +1,5 @@
-//! The tally book of document 01 ("Table") as a map from canonical words to counts, fed by a reader of sequence
-//! files that goes line by line; and the grounds that refuse a table call.
+//! The tally book of document 01 ("Table") as a map from canonical words to counts, fed by a reader of
+//! sequence files that goes line by line; and the grounds that refuse a table call.
 
 use crate::expected::{coder, settings_ground, Refusal};
 use crate::second_coder::Coder;

@@ -1,5 +1,5 @@
-//! Sequences and sequence files drawn from a fixed seed: letters with foreign ones among them, records in lines
-//! of any width with either line end, and files with one damage.
+//! Sequences and sequence files drawn from a fixed seed: letters with foreign ones among them, records in
+//! lines of any width with either line end, and files with one damage.
 
 use crate::draw::{drawn_near_palindrome, drawn_word, spelled_mixed, Random};
 use crate::settings::{Settings, COMPLEMENT};

@@ -1,15 +1,21 @@
-//! What the tests share. The C calls and what is lent to them: `c_calls`, `lent`, `calls`, `sequences`, `tables`.
-//! What document 01 says that they answer, written apart from the library: `second_coder`, `expected`, `book`.
-//! What the tests go over: `settings`, `draw`, `draw_files`, and the stored answers in `vectors`, `table_vectors`.
+//! What the tests share. The C calls and what is lent to them: `c_calls`, `lent`, `calls`, `sequences`,
+//! `tables`. What document 01 says that they answer, written apart from the library: `second_coder`,
+//! `expected`, `book`. What the tests go over: `settings`, `draw`, `draw_files`, and the stored answers in
+//! `vectors`, `table_vectors`. For the counter program: its runs in `program`, the second counter,
+//! `draw_inputs` and `program_cases`.
 
 pub mod book;
 pub mod c_calls;
 pub mod calls;
 pub mod draw;
 pub mod draw_files;
+pub mod draw_inputs;
 pub mod expected;
 pub mod lent;
+pub mod program;
+pub mod program_cases;
 pub mod second_coder;
+pub mod second_counter;
 pub mod sequences;
 pub mod settings;
 pub mod table_vectors;

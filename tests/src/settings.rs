@@ -35,6 +35,15 @@ pub fn shown(bytes: &[u8]) -> String {
     format!("b\"{}\"{}", head.escape_ascii(), rest)
 }
 
+/// A whole file or input where it is short, so that a failure can be repeated.
+pub fn shown_file(file: &[u8]) -> String {
+    if file.len() <= 6000 {
+        format!("b\"{}\"", file.escape_ascii())
+    } else {
+        shown(file)
+    }
+}
+
 /// The largest k that ground 4 allows for s letters.
 pub fn largest_k(s: usize) -> usize {
     let mut k = 0;

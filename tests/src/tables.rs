@@ -1,12 +1,12 @@
-//! The table calls as safe functions that lend copies between guards, their comparison with the tally book, and
-//! what the tests of tables begin with: sizes, cleared tables, files of one record.
+//! The table calls as safe functions that lend copies between guards, their comparison with the tally book,
+//! and what the tests of tables begin with: sizes, cleared tables, files of one record.
 
 use crate::book::{class_count, table_ground, Book, Numbers};
 use crate::c_calls::{kmer_add, kmer_clear};
 use crate::draw::first_capitals;
 use crate::expected::Refusal;
 use crate::lent::{check_places, Lent};
-use crate::settings::{good_sizes, shown, Settings};
+use crate::settings::{good_sizes, shown_file, Settings};
 
 /// A table is lent to one call after the other, as the call before left it.
 pub type Table = Lent<u32>;
@@ -38,15 +38,6 @@ pub fn add(settings: &Settings, table: &mut Table, file: &[u8], numbers: &mut Le
     table.check_guards(settings, "table");
     numbers.check_guards(settings, "answer list");
     answer
-}
-
-/// A whole file where it is short, so that a failure can be repeated.
-pub fn shown_file(file: &[u8]) -> String {
-    if file.len() <= 6000 {
-        format!("b\"{}\"", file.escape_ascii())
-    } else {
-        shown(file)
-    }
 }
 
 /// Clears a table and compares the answer and every place; later places and those of a refused call keep

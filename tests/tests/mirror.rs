@@ -1,5 +1,5 @@
-//! Mirroring through kmer_mirror, beside the second coder, with grounds 5, 7 and 9 and their P. The order of all
-//! its grounds is in refusals.rs.
+//! Mirroring through kmer_mirror, beside the second coder, with grounds 5, 7 and 9 and their P. The order of
+//! all its grounds is in refusals.rs.
 
 use kmer_tests::calls;
 use kmer_tests::draw::*;

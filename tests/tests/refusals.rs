@@ -1,5 +1,5 @@
-//! The grounds for refusing, through word coding, code reading and mirroring: each ground alone, their order where
-//! several apply, and no byte changed (which the calls themselves check for what they lend).
+//! The grounds for refusing, through word coding, code reading and mirroring: each ground alone, their order
+//! where several apply, and no byte changed (which the calls themselves check for what they lend).
 
 use kmer_tests::calls::{self, REFUSED};
 use kmer_tests::draw::*;
@@ -12,8 +12,8 @@ const MEGABYTE: usize = 1 << 20;
 /// Numbers that a call might cut to fewer bits.
 const WIDE: [u64; 8] = [255, 256, 257, 1 << 32, (1 << 32) + 1, 1 << 63, (1 << 63) + 1, u64::MAX];
 
-/// Letters, k, mirror, word, room; the number from coding, the number from reading the code 2^64 - 1, and number
-/// and P from mirroring.
+/// Letters, k, mirror, word, room; the number from coding, the number from reading the code 2^64 - 1, and
+/// number and P from mirroring.
 type Faulty<'a> = (&'a [u8], usize, u64, &'a [u8], usize, (u64, u64, (u64, u64)));
 
 /// Both calls refuse with this number, whatever else is right.
@@ -165,7 +165,8 @@ fn a_foreign_byte_at_any_place_is_refused_9() {
     }
 }
 
-/// Where several grounds apply the lowest number wins, in mirroring with its P: written out, with no reference.
+/// Where several grounds apply the lowest number wins, in mirroring with its P: written out, with no
+/// reference.
 #[test]
 fn grounds_go_in_number_order() {
     let cases: [Faulty; 12] = [
@@ -193,8 +194,8 @@ fn grounds_go_in_number_order() {
     }
 }
 
-/// Words through coding and mirroring, and some codes through reading, into buffers of many lengths, beside the
-/// reference of the grounds.
+/// Words through coding and mirroring, and some codes through reading, into buffers of many lengths, beside
+/// the reference of the grounds.
 fn check_calls(settings: &Settings, words: &[&[u8]]) {
     let rooms = [0, 1, 2, 3, 4, 30, 31, 39, 62, 63, 70];
     for word in words {

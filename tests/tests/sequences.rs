@@ -1,4 +1,5 @@
-//! Codes along a sequence: both paths beside the second coder and beside each other, the list's later places, and the grounds.
+//! Codes along a sequence: both paths beside the second coder and beside each other, the list's later places,
+//! and the grounds.
 
 use kmer_tests::draw::*;
 use kmer_tests::draw_files::drawn_sequence;
@@ -155,7 +156,8 @@ fn two_bit_k_out_of_range_is_refused_4() {
     }
 }
 
-/// Compares both paths on a long sequence with each other everywhere, and with the second coder at some windows.
+/// Compares both paths on a long sequence with each other everywhere, and with the second coder at some
+/// windows.
 fn check_long(k: usize, sequence: &[u8]) {
     let settings = two_bit_settings(k);
     let room = window_count(&settings, sequence) + 3;

@@ -1,5 +1,6 @@
-//! Clearing a table and adding sequence files to it: lists of files beside the tally book, with every count and
-//! every answer after every call; every class at its place; the example of document 01; the stored answers.
+//! Clearing a table and adding sequence files to it: lists of files beside the tally book, with every count
+//! and every answer after every call; every class at its place; the example of document 01; the stored
+//! answers.
 
 use kmer_tests::book::*;
 use kmer_tests::draw::*;

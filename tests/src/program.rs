@@ -1,0 +1,107 @@
+//! Runs the counter program: bytes through a pipe into its standard input, what it prints back. Every run
+//! must end in time with status 0 and with nothing on standard error.
+
+use crate::second_counter::MOST_INPUT;
+use crate::settings::shown_file;
+use std::env;
+use std::io::{self, Read, Write};
+use std::path::{Path, PathBuf};
+use std::process::{Child, ChildStdin, Command, ExitStatus, Stdio};
+use std::thread;
+use std::time::{Duration, Instant};
+
+/// The program from the repository's root, where COUNTER_BIN does not name another one.
+const BUILT: &str = "target/bin/counter";
+
+/// A run that takes longer counts as one that hangs.
+const LONGEST: Duration = Duration::from_secs(30);
+
+/// How many runs may go on at the same time.
+const AT_ONCE: usize = 2;
+
+fn path() -> PathBuf {
+    let root = Path::new(env!("CARGO_MANIFEST_DIR")).join("..");
+    root.join(env::var_os("COUNTER_BIN").unwrap_or(BUILT.into()))
+}
+
+fn start() -> Child {
+    let mut command = Command::new(path());
+    command.stdin(Stdio::piped()).stdout(Stdio::piped()).stderr(Stdio::piped());
+    command.spawn().unwrap_or_else(|error| panic!("{} does not start: {error}", path().display()))
+}
+
+/// Writes the input and closes the pipe.
+fn feed(mut pipe: ChildStdin, input: &[u8], piece: usize) -> io::Result<()> {
+    for part in input.chunks(piece) {
+        pipe.write_all(part)?;
+        if piece < input.len() {
+            thread::sleep(Duration::from_millis(1));
+        }
+    }
+    Ok(())
+}
+
+fn collected(mut pipe: impl Read) -> Vec<u8> {
+    let mut bytes = Vec::new();
+    pipe.read_to_end(&mut bytes).expect("the program's output");
+    bytes
+}
+
+/// Waits for the program's end; none where it took too long and was stopped.
+fn ended(child: &mut Child) -> Option<ExitStatus> {
+    let start = Instant::now();
+    while start.elapsed() < LONGEST {
+        if let Some(status) = child.try_wait().expect("the program's status") {
+            return Some(status);
+        }
+        thread::sleep(Duration::from_micros(200));
+    }
+    child.kill().and_then(|()| child.wait()).expect("the program stops when killed");
+    None
+}
+
+/// What the program prints for an input that reaches it in pieces of so many bytes.
+pub fn run_in_pieces(input: &[u8], piece: usize) -> Vec<u8> {
+    let mut child = start();
+    let stdin = child.stdin.take().expect("a pipe");
+    let (stdout, stderr) = (child.stdout.take().expect("a pipe"), child.stderr.take().expect("a pipe"));
+    let (fed, status, printed, complaints) = thread::scope(|scope| {
+        let fed = scope.spawn(|| feed(stdin, input, piece));
+        let printed = scope.spawn(|| collected(stdout));
+        let complaints = scope.spawn(|| collected(stderr));
+        let status = ended(&mut child);
+        (
+            fed.join().expect("feeding"),
+            status,
+            printed.join().expect("output"),
+            complaints.join().expect("errors"),
+        )
+    });
+    let status = status.unwrap_or_else(|| panic!("no end within {LONGEST:?}: input {}", shown_file(input)));
+    assert_eq!(status.code(), Some(0), "{status}: input {}", shown_file(input));
+    assert!(complaints.is_empty(), "{}: input {}", shown_file(&complaints), shown_file(input));
+    // The program must know whether there are more than MOST_INPUT bytes: only then may it leave some unread.
+    assert!(fed.is_ok() || input.len() > MOST_INPUT, "{fed:?}: input {}", shown_file(input));
+    printed
+}
+
+/// The program prints just this for an input.
+pub fn check_prints(input: &[u8], right: &[u8]) {
+    let printed = run_in_pieces(input, input.len().max(1));
+    assert!(
+        printed == right,
+        "printed {}, expected {}: input {}",
+        shown_file(&printed),
+        shown_file(right),
+        shown_file(input)
+    );
+}
+
+/// Runs a check for each item of a list, a few at once.
+pub fn check_each<T: Sync>(items: &[T], check: impl Fn(&T) + Sync) {
+    thread::scope(|scope| {
+        for part in items.chunks(items.len().div_ceil(AT_ONCE).max(1)) {
+            scope.spawn(|| part.iter().for_each(&check));
+        }
+    });
+}

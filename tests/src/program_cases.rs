@@ -1,0 +1,74 @@
+//! Reads the stored runs of the counter program, vectors/program.txt and program/cases.txt, and the lines of
+//! program/malformed.txt; the heads of these files say how they are written.
+
+use crate::vectors::bytes;
+
+/// A stored run.
+pub struct Case {
+    pub name: &'static str,
+    pub input: Vec<u8>,
+    pub output: Vec<u8>,
+}
+
+/// The bytes of a piece.
+fn unescaped(text: &str) -> Vec<u8> {
+    let mut found = Vec::new();
+    let mut rest = text;
+    while let Some(at) = rest.find('\\') {
+        found.extend(&rest.as_bytes()[..at]);
+        let (byte, length) = match &rest[at + 1..at + 2] {
+            "n" => (b'\n', 2),
+            "r" => (b'\r', 2),
+            "\\" => (b'\\', 2),
+            "x" => (bytes(&rest[at + 2..at + 4])[0], 4),
+            other => panic!("\\{other} in {text}"),
+        };
+        found.push(byte);
+        rest = &rest[at + length..];
+    }
+    found.extend(rest.as_bytes());
+    found
+}
+
+/// A line's mark and what follows it after one space.
+fn marked(line: &'static str) -> (&'static str, &'static str) {
+    line.split_once(' ').unwrap_or_else(|| panic!("no mark: {line}"))
+}
+
+/// The cases of a file; how many is asked for, so that a cut file does not pass.
+fn cases(text: &'static str, count: usize) -> Vec<Case> {
+    let mut found: Vec<Case> = Vec::new();
+    for (mark, rest) in text.lines().filter(|line| !line.starts_with('#')).map(marked) {
+        if mark == "=" {
+            found.push(Case { name: rest, input: Vec::new(), output: Vec::new() });
+            continue;
+        }
+        let case = found.last_mut().expect("a name before the first piece");
+        match (mark.strip_prefix('<'), mark) {
+            (Some(""), _) => case.input.extend(unescaped(rest)),
+            (Some(times), _) => case.input.extend(unescaped(rest).repeat(times.parse().expect("a number"))),
+            (None, ">") => case.output.extend([rest.as_bytes(), b"\n"].concat()),
+            _ => panic!("{mark} is no mark: {rest}"),
+        }
+    }
+    assert_eq!(found.len(), count, "cases");
+    found
+}
+
+/// The stored answers of the independent reference implementation.
+pub fn vectors(count: usize) -> Vec<Case> {
+    cases(include_str!("../vectors/program.txt"), count)
+}
+
+/// The cases whose outputs were worked out by hand.
+pub fn cases_by_hand(count: usize) -> Vec<Case> {
+    cases(include_str!("../program/cases.txt"), count)
+}
+
+/// First lines that are no survey lines, without their ends.
+pub fn malformed_lines(count: usize) -> Vec<Vec<u8>> {
+    let lines = include_str!("../program/malformed.txt").lines().filter(|line| !line.starts_with('#'));
+    let found: Vec<Vec<u8>> = lines.map(unescaped).collect();
+    assert_eq!(found.len(), count, "lines");
+    found
+}
