@@ -1,8 +1,9 @@
 /*
  * Counts the 2-mers of two small sequence files under reverse complement, as the lab would: clear a table,
- * add the files, list the classes with a count above 0. The second file is damaged and is refused whole.
+ * add the files, print the listing. The second file is damaged and is refused whole.
  */
 #include <stdio.h>
+#include <stdlib.h>
 #include <string.h>
 
 #include "kmer.h"
@@ -25,21 +26,26 @@ static void add(uint32_t *table, const char *file)
            (unsigned long long)numbers[4]);
 }
 
+/* Prints the listing: a first call without a buffer is refused with the length needed as its P. */
+static int list(const uint32_t *table)
+{
+    uint64_t needed = kmer_refusal_p(kmer_listing(letters, sizeof letters, K, KMER_COMPLEMENT, table, CLASSES, NULL, 0));
+    uint8_t *text = malloc(needed);
+    if (text == NULL) {
+        return 1;
+    }
+    kmer_listing(letters, sizeof letters, K, KMER_COMPLEMENT, table, CLASSES, text, needed);
+    fwrite(text, 1, needed, stdout);
+    free(text);
+    return 0;
+}
+
 int main(void)
 {
     uint32_t table[CLASSES];
-    uint8_t word[K];
-    uint64_t code;
 
     printf("%llu classes\n", (unsigned long long)kmer_clear(letters, sizeof letters, K, KMER_COMPLEMENT, table, CLASSES));
     add(table, ">a\nACGTN\n>b\nAG\nCT\n");
     add(table, ">c\nAC-GT\n");
-    for (code = 0; code < CLASSES; code++) {
-        if (table[code] == 0) {
-            continue;
-        }
-        kmer_word(letters, sizeof letters, K, KMER_COMPLEMENT, code, word, K);
-        printf("%.*s %lu\n", K, (const char *)word, (unsigned long)table[code]);
-    }
-    return 0;
+    return list(table);
 }

@@ -1,6 +1,6 @@
 /*
  * kmer.h: the C calls of libkmer.a, which code k-mers, read codes back, mirror k-mers, code all k-mers
- * along a sequence, and count the k-mers of sequence files in a table.
+ * along a sequence, count the k-mers of sequence files in a table, and list the table.
  *
  * A class is a word of k letters together with its mirror. The calls work with the minimal encoding
  * of canonical k-mers (Wittler 2023): each class has one code, from 0 to the number of classes less 1.
@@ -17,8 +17,8 @@
  * Every pointer comes with its length in bytes, may be NULL where that length is 0, and must otherwise
  * point to as many bytes. Nothing need end in a 0 byte. A buffer that is written must not overlap one that
  * is read. Whatever the numbers and bytes are, a call returns and touches no other memory; it never writes
- * to letters, word, sequence or file. The calls keep no state, so several threads may call at once, each with a
- * buffer of its own.
+ * to letters, word, sequence or file, and only kmer_clear and kmer_add write to a table. The calls keep no
+ * state, so several threads may call at once, each with a buffer of its own.
  *
  * An answer below 2^63 is a result. An answer from 2^63 on is a refusal: see kmer_is_refused below.
  * Of several grounds for refusing that apply, the one with the lowest number is returned.
@@ -139,6 +139,19 @@ uint64_t kmer_clear(const uint8_t *letters, size_t letters_len, size_t k, uint64
 uint64_t kmer_add(const uint8_t *letters, size_t letters_len, size_t k, uint64_t mirror,
                   uint32_t *table, size_t table_len, const uint8_t *file, size_t file_len,
                   uint64_t *answer, size_t answer_len);
+
+/*
+ * Lists a table: the survey line, a line for each class with a count above 0 by rising code, the total.
+ *   table, table_len  a table that was cleared, and perhaps added to, with the same settings. Only read.
+ *   text, text_len    the buffer for the listing and its length in bytes. Its first bytes receive the
+ *                     listing, each line ending in LF and no end byte after the last; later bytes keep
+ *                     what they held.
+ * Returns how many bytes were written, or 2^63 + P * 256 + the number of the first ground that applies of
+ * 1, 2, 3, 4, 6, 7 (of the table, then of text), where P is the length needed for 7, else 0. A refused call
+ * writes nothing to text: call with an empty text first to learn the length, which is below 2^31.
+ */
+uint64_t kmer_listing(const uint8_t *letters, size_t letters_len, size_t k, uint64_t mirror,
+                      const uint32_t *table, size_t table_len, uint8_t *text, size_t text_len);
 
 /* How many numbers kmer_add answers with. */
 #define KMER_NUMBERS 5

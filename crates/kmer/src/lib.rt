@@ -1,4 +1,5 @@
-// The calls for C programs (include/kmer.h): word coding, code reading, mirroring, codes along a sequence, and the table, on numbers and slices.
+// The calls for C programs (include/kmer.h): word coding, code reading, mirroring, codes along a sequence, the table and its listing, on
+// numbers and slices.
 ghost use mathlib.Core.Path.{_≡_};
 ghost use Prim.Native.Nat.{_+_, _*_, _^_, _<_, _≤_};
 ghost use mathlib.Core.List.{_++_};
@@ -9,6 +10,7 @@ ghost use Rattle.table.specs.Table.{classCount, clearGround};
 ghost use Rattle.kmer.specs.Adding.{readyGround, fiveNumbers, AddsInto};
 ghost use Rattle.encoding.specs.Calls.{coding, reading, readGround, wordBytes, mirrorGround, mirrorBytes};
 ghost use Rattle.kmer.specs.Returned.{returned, ReturnsPlaces};
+ghost use Rattle.listing.specs.Listing.{listing, listingGround};
 ghost use Rattle.laws.specs.Text.{bytes};
 ghost use Rattle.laws.specs.Windows.{windows};
 ghost use Rattle.sequence.specs.Sequences.{sequenceGround, sequenceCodes};
@@ -16,61 +18,18 @@ use encoding::Code;
 use encoding::Coding;
 use encoding::Filling;
 use fasta::Numbers;
+use listing::Listed;
 use sequence::Filled;
 use settings::Checked;
 use settings::Refusal;
 use table::Answer;
 use table::Cleared;
 
-// The number of a refusal.
-fn number(f: Refusal) -> u64
-    ensures { λ r. ⌜ r ≡ groundOf f .0 ⌝ }
-{
-    match f {
-        Refusal::BadLetters => 1,
-        Refusal::BadMirror => 2,
-        Refusal::OddComplement => 3,
-        Refusal::BadK => 4,
-        Refusal::WrongLength => 5,
-        Refusal::TooLarge => 6,
-        Refusal::ShortBuffer(_) => 7,
-        Refusal::NoSuchCode => 8,
-        Refusal::ForeignByte(_) => 9,
-        Refusal::StrayByte(_) => 10,
-        Refusal::EarlyLetter(_) => 11,
-        Refusal::CountsFull => 12,
-        Refusal::NoSurveyLine => 13,
-        Refusal::LongInput => 14,
-    }
-}
-
-// The P of a refusal.
-fn place(f: Refusal) -> u64
-    ensures { λ r. ⌜ r ≡ groundOf f .1 ⌝ }
-{
-    match f {
-        Refusal::BadLetters => 0,
-        Refusal::BadMirror => 0,
-        Refusal::OddComplement => 0,
-        Refusal::BadK => 0,
-        Refusal::WrongLength => 0,
-        Refusal::TooLarge => 0,
-        Refusal::ShortBuffer(needed) => needed as u64,
-        Refusal::NoSuchCode => 0,
-        Refusal::ForeignByte(at) => at as u64,
-        Refusal::StrayByte(at) => at as u64,
-        Refusal::EarlyLetter(at) => at as u64,
-        Refusal::CountsFull => 0,
-        Refusal::NoSurveyLine => 0,
-        Refusal::LongInput => 0,
-    }
-}
-
 // 2^63 plus the number.
 fn refused(f: Refusal) -> u64
     ensures { λ r. ⌜ r ≡ 2 ^ 63 + groundOf f .0 ⌝ }
 {
-    9223372036854775808 + number(f)
+    9223372036854775808 + settings::number_of(f)
 }
 
 // 2^63 plus P * 256 plus the number; every P is below 2^32.
@@ -78,7 +37,7 @@ fn refused_at(f: Refusal) -> u64
     requires { ⌜ groundOf f .1 < 2 ^ 32 ⌝ }
     ensures { λ r. ⌜ r ≡ 2 ^ 63 + groundOf f .1 * 256 + groundOf f .0 ⌝ }
 {
-    9223372036854775808 + place(f) * 256 + number(f)
+    9223372036854775808 + settings::place_of(f) * 256 + settings::number_of(f)
 }
 
 #[no_mangle]
@@ -224,5 +183,24 @@ pub extern "C" fn kmer_add(
                 }
             }
         }
+    }
+}
+
+#[no_mangle]
+pub extern "C" fn kmer_listing(
+    letters: &[u8],
+    k: usize,
+    mirror: u64,
+    table: &[u32],
+    text: &mut [u8],
+) -> u64
+    ensures { λ r.
+        ⌜ ReturnsPlaces (listingGround (now (letters .entry)) k mirror (now (table .entry)) (length (now (text .entry))))
+        (length (listing (now (letters .entry)) k mirror (now (table .entry)))) (listing (now (letters .entry)) k mirror (now (table .entry)))
+        (now (text .entry)) r (now (text .exit)) ⌝ }
+{
+    match listing::list(letters, k, mirror, table, text) {
+        Listed::Bytes(n) => n as u64,
+        Listed::Refused(f) => refused_at(f),
     }
 }

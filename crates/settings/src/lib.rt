@@ -3,7 +3,7 @@
 ghost use mathlib.Core.Path.{_≡_};
 ghost use Prim.Native.Nat.{_^_, _<_, _≤_, min};
 ghost use lib.ListN.{length, drop};
-ghost use Rattle.settings.specs.Grounds.{ground, outcome};
+ghost use Rattle.settings.specs.Grounds.{groundOf, ground, outcome};
 ghost use Rattle.settings.specs.RankTables.{asRank, RankTable};
 ghost use Rattle.settings.specs.Settings.{classes, capitalOf, rankIn, isIn, goodLetters, settingsGround, badSize, settingsFor, settingsOf, ofChecked, ofRank};
 
@@ -29,6 +29,50 @@ pub enum Refusal {
     CountsFull,
     NoSurveyLine,
     LongInput,
+}
+
+// The number of a refusal.
+pub fn number_of(f: Refusal) -> u64
+    ensures { λ r. ⌜ r ≡ groundOf f .0 ⌝ }
+{
+    match f {
+        Refusal::BadLetters => 1,
+        Refusal::BadMirror => 2,
+        Refusal::OddComplement => 3,
+        Refusal::BadK => 4,
+        Refusal::WrongLength => 5,
+        Refusal::TooLarge => 6,
+        Refusal::ShortBuffer(_) => 7,
+        Refusal::NoSuchCode => 8,
+        Refusal::ForeignByte(_) => 9,
+        Refusal::StrayByte(_) => 10,
+        Refusal::EarlyLetter(_) => 11,
+        Refusal::CountsFull => 12,
+        Refusal::NoSurveyLine => 13,
+        Refusal::LongInput => 14,
+    }
+}
+
+// The P of a refusal.
+pub fn place_of(f: Refusal) -> u64
+    ensures { λ r. ⌜ r ≡ groundOf f .1 ⌝ }
+{
+    match f {
+        Refusal::BadLetters => 0,
+        Refusal::BadMirror => 0,
+        Refusal::OddComplement => 0,
+        Refusal::BadK => 0,
+        Refusal::WrongLength => 0,
+        Refusal::TooLarge => 0,
+        Refusal::ShortBuffer(needed) => needed as u64,
+        Refusal::NoSuchCode => 0,
+        Refusal::ForeignByte(at) => at as u64,
+        Refusal::StrayByte(at) => at as u64,
+        Refusal::EarlyLetter(at) => at as u64,
+        Refusal::CountsFull => 0,
+        Refusal::NoSurveyLine => 0,
+        Refusal::LongInput => 0,
+    }
 }
 
 // Settings to which no ground applies: the number of letters, k, the mirror, the number of words s^k and of classes.

@@ -2,16 +2,13 @@
 use mathlib.Core.Path.{_≡_, refl, ap, _∙_}
 use Prim.Native.Nat.{ℕ, zero, suc, _≤_}
 use native.Mathlib.Omega.{arith}
-use mathlib.Core.Bool.{Bool, true, false, cond}
-use mathlib.Core.Option.{none, some}
+use mathlib.Core.Option.{none}
 use mathlib.Core.List.{List, _++_}
 use lib.ListN.{length, drop, replicate, length-replicate, getD-replicate, length-append, length-drop, List·getD-append}
 use lib.Seq.{take-at, drop-at}
-use lib.Dec.{ltb}
-use borrow.Author.Tests.{ltb-false}
-use Rattle.settings.specs.Grounds.{Outcome, ground, tooShort}
+use Rattle.settings.specs.Grounds.{Outcome, ground}
 use Rattle.settings.specs.Settings.{settingsGround}
-use Rattle.settings.proofs.Outcomes.{first-none, later-none, nowhere-met}
+use Rattle.settings.proofs.Outcomes.{first-none, later-none, nowhere-met, room-enough}
 use Rattle.table.specs.Table.{classCount, placeOf, tooMany, clearGround, Clears}
 use Rattle.table.specs.Book.{clearedBook}
 use Rattle.table.specs.Demand.{sum, counts, Agrees}
@@ -21,13 +18,6 @@ sum-zeros : (n : ℕ) → sum (replicate n 0) ≡ 0
 unfolding sum
 sum-zeros zero = refl
 sum-zeros (suc n) = omega (arith, sum-zeros n)
-
-long-enough : (room needed : ℕ) → tooShort room needed ≡ none → needed ≤ room
-long-enough room needed e = go (ltb room needed) refl e
-  where
-    go : (b : Bool) → ltb room needed ≡ b → cond b (some needed) none ≡ none → needed ≤ room
-    go true f g = absurd (let z : _≡_ {A = ℕ} 0 1 = cc in omega arith)
-    go false f g = ltb-false room needed f
 
 module _ (letters : List ℕ) (k m : ℕ) {t₀ t : List ℕ} {answer : Outcome ℕ} (no-ground : clearGround letters k m (length t₀) ≡ none)
     (clearing : Clears letters k m t₀ answer t) where
@@ -40,7 +30,7 @@ module _ (letters : List ℕ) (k m : ℕ) {t₀ t : List ℕ} {answer : Outcome 
   room =
       let g6 = later-none (settingsGround letters k m) _ no-ground in
       let g7 = later-none (ground 6 (tooMany (classCount letters k m))) _ g6 in
-      long-enough (length t₀) (classCount letters k m) (nowhere-met 7 _ g7)
+      room-enough (length t₀) (classCount letters k m) (nowhere-met 7 _ g7)
 
   n-zeros : length {A = ℕ} (replicate (classCount letters k m) 0) ≡ classCount letters k m
   n-zeros = length-replicate {A = ℕ} (classCount letters k m) 0

@@ -5,14 +5,14 @@ use borrow.Author.Needs.{needs}
 use Rattle.kmer.proofs.refused.Statement.{statement}
 use Rattle.kmer.proofs.refused.Tie as tie
 
-number-requires : tie.Need-number-requires
-number-requires c κs = search needs
+number-of-requires : tie.Need-number-of-requires
+number-of-requires c κs = search needs
 
 add-result : tie.Need-add-result
-add-result c = omega (arith, number-small (c .before .args .f), c .number .ensures)
+add-result c = omega (arith, number-small (c .before .args .f), c .number-of .ensures)
 
 returns : tie.Need-returns
 returns c = search needs
 
 pub refused-spec : {M : Type 1} → statement M
-refused-spec = tie.close (tie.spec number-requires add-result returns)
+refused-spec = tie.close (tie.spec number-of-requires add-result returns)

@@ -5,8 +5,8 @@ use borrow.Author.Needs.{needs}
 use Rattle.kmer.proofs.refused_at.Statement.{statement}
 use Rattle.kmer.proofs.refused_at.Tie as tie
 
-place-requires : tie.Need-place-requires
-place-requires c κs = search needs
+place-of-requires : tie.Need-place-of-requires
+place-of-requires c κs = search needs
 
 mul-result : tie.Need-mul-result
 mul-result c = search needs
@@ -14,15 +14,15 @@ mul-result c = search needs
 add-result : tie.Need-add-result
 add-result c = search needs
 
-number-requires : tie.Need-number-requires
-number-requires c κs = search needs
+number-of-requires : tie.Need-number-of-requires
+number-of-requires c κs = search needs
 
 add-result-2 : tie.Need-add-result-2
-add-result-2 c = omega (arith, number-small (c .before .before .args .f), c .number .ensures)
+add-result-2 c = omega (arith, number-small (c .before .before .args .f), c .number-of .ensures)
 
 returns : tie.Need-returns
 returns c = search needs
 
 pub refused-at-spec : {M : Type 1} → statement M
 refused-at-spec =
-    tie.close (tie.spec place-requires mul-result add-result number-requires add-result-2 returns)
+    tie.close (tie.spec place-of-requires mul-result add-result number-of-requires add-result-2 returns)

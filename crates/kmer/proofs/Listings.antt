@@ -1,0 +1,23 @@
+-- The P of a refused listing is below 2^32: it is the number of classes or the length of a listing, both bounded.
+use mathlib.Core.Path.{_≡_}
+use mathlib.Core.Option.{none}
+use mathlib.Core.List.{List}
+use Prim.Native.Nat.{ℕ}
+use native.Mathlib.Omega.{arith}
+use lib.ListN.{length}
+use Rattle.settings.specs.Grounds.{groundAt, tooShort}
+use Rattle.settings.proofs.Places.{Small, place-small, then-small, room-small}
+use Rattle.table.specs.Table.{clearGround}
+use Rattle.listing.specs.Listing.{listing, listingGround}
+use Rattle.listing.proofs.Lengths.{Small as SmallCounts}
+use Rattle.listing.proofs.ListingAnswers.{listing-fits}
+use Rattle.kmer.proofs.Adding.{clear-small}
+
+pub listing-small : (letters : List ℕ) (k m : ℕ) (table : List ℕ) (room : ℕ) → SmallCounts table → Small 1375731804 (listingGround letters k m table room)
+unfolding listingGround
+listing-small letters k m table room small =
+    let needed = length (listing letters k m table) in
+    then-small 1375731804 (clearGround letters k m (length table)) (groundAt 7 (tooShort room needed))
+    (λ f e. omega (arith, clear-small letters k m (length table) f e))
+    (λ passed. place-small 1375731804 7 (tooShort room needed)
+    (λ p e. omega (arith, room-small room needed p e, listing-fits letters k m table passed small)))

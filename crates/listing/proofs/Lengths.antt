@@ -1,0 +1,114 @@
+-- How long a listing is: as long as its lines, at most 82 bytes for each class and 92 more. So the length that ground 7 asks for stands beside
+-- the number of a ground in 64 bits.
+use mathlib.Core.Path.{_≡_, refl}
+use Prim.Native.Nat.{ℕ, zero, suc, _+_, _*_, _<_, _≤_}
+use native.Mathlib.Omega.{arith}
+use mathlib.Core.List.{List, [], _∷_}
+use lib.ListN.{length, getD, drop, length-append, drop-of-length-le}
+use lib.Seq.{drop-cons}
+use native.Mathlib.Numerals.{add-one}
+use Rattle.settings.proofs.SettingsGrounds.{limits}
+use Rattle.encoding.specs.Calls.{wordBytes}
+use Rattle.table.specs.Table.{classCount}
+use Rattle.table.specs.Demand.{sum}
+use Rattle.texts.specs.Decimals.{decimal}
+use Rattle.texts.proofs.Decimals.{decimal-length}
+use Rattle.texts.specs.Needs.{Puts}
+use Rattle.texts.proofs.Writing.{measured}
+use Rattle.survey.specs.Line.{mirrorName, surveyLine}
+use Rattle.listing.specs.Listing.{countLine, classLine, countLines, totalLine, listingOf}
+use Rattle.listing.specs.Needs.{AllCounts, lineLength, linesLength}
+use Rattle.listing.proofs.Lines.{k-short, length-wordBytes}
+
+-- Each of some numbers fits 32 bits.
+abbrev pub Small : List ℕ → Type 0
+Small xs = (i : ℕ) → getD xs i 0 < 4294967296
+
+sum-le : (counts : List ℕ) → Small counts → sum counts ≤ 4294967296 * length counts
+unfolding sum
+sum-le [] h = omega arith
+sum-le (n ∷ counts) h = omega (arith, h 0, sum-le counts (λ i. h (suc i)))
+
+line-is : (k : ℕ) (w : List ℕ) (n : ℕ) → length w ≡ k → length (classLine w n) ≡ lineLength k n
+unfolding countLine
+line-is k w zero h = refl
+line-is k w (suc n) h = simp length-append (omega (arith, h))
+
+lines-are : (k : ℕ) (word : ℕ → List ℕ) (n : ℕ) → ((q : ℕ) → q < n → length (word q) ≡ k) → (q : ℕ) (counts : List ℕ) → q + length counts ≤ n
+    → length (countLines word q counts) ≡ linesLength k counts
+unfolding countLines linesLength
+lines-are k word n w q [] l = refl
+lines-are k word n w q (x ∷ counts) l =
+    omega (
+      arith,
+      length-append (classLine (word q) x) (countLines word (suc q) counts),
+      line-is k (word q) x (w q (omega arith)),
+      lines-are k word n w (suc q) counts (omega arith),
+    )
+
+pub counted-length : (k n : ℕ) → (n ≡ 0 → ⊥) → lineLength k n ≡ 10 + k + length (decimal n)
+counted-length k zero d = absurd (d refl)
+counted-length k (suc n) d = refl
+
+pub line-short : (k n : ℕ) → k ≤ 62 → n < 4294967296 → lineLength k n ≤ 82
+line-short k zero h g = omega arith
+line-short k (suc n) h g = omega (arith, decimal-length 9 (suc n) (omega arith))
+
+lines-short : (k : ℕ) (counts : List ℕ) → k ≤ 62 → Small counts → linesLength k counts ≤ 82 * length counts
+unfolding linesLength
+lines-short k [] h g = omega arith
+lines-short k (n ∷ counts) h g = omega (arith, line-short k n h (g 0), lines-short k counts h (λ i. g (suc i)))
+
+pub lines-step : (k : ℕ) (counts : List ℕ) (i : ℕ) → i < length counts
+    → linesLength k (drop i counts) ≡ lineLength k (getD counts i 0) + linesLength k (drop (i + 1) counts)
+unfolding linesLength
+lines-step k counts i h = rw (add-one i, drop-cons counts i 0 h)
+
+pub lines-end : (k : ℕ) (counts : List ℕ) (i : ℕ) → length counts ≤ i → linesLength k (drop i counts) ≡ 0
+unfolding linesLength
+lines-end k counts i h = rw (drop-of-length-le counts h)
+
+mirror-length : (m : ℕ) → length (mirrorName m) ≤ 10
+mirror-length zero = omega arith
+mirror-length (suc m) = omega arith
+
+survey-length : (letters : List ℕ) (k m : ℕ) → length letters ≤ 16 → k ≤ 62 → length (surveyLine letters k m) ≤ 64
+unfolding surveyLine
+survey-length letters k m h g = simp length-append (omega (arith, decimal-length 1 k (omega arith), mirror-length m))
+
+total-length : (n : ℕ) → n < 10000000000000000000 → length (totalLine n) ≤ 28
+unfolding totalLine
+total-length n h = simp length-append (omega (arith, decimal-length 18 n (omega arith)))
+
+module _ (letters : List ℕ) (k m : ℕ) (counts : List ℕ) (A : AllCounts letters k m counts) where
+  -- A listing is as long as its lines.
+  pub listing-is : length (listingOf letters k m counts)
+      ≡ length (surveyLine letters k m) + linesLength k counts + length (totalLine (sum counts))
+  unfolding listingOf
+  listing-is =
+      let words = length-wordBytes letters k m (A .good) in
+      let lines = lines-are k (wordBytes letters k m) (classCount letters k m) words 0 counts (omega (arith, A .one-a-class)) in
+      simp length-append (omega (arith, lines))
+
+  pub survey-short : length (surveyLine letters k m) ≤ 64
+  survey-short = survey-length letters k m (limits letters k m (A .good) .few) (k-short letters k m (A .good))
+
+  module _ (small : Small counts) where
+    pub total-short : length (totalLine (sum counts)) ≤ 28
+    total-short = total-length (sum counts) (omega (arith, sum-le counts small, A .few))
+
+    pub all-lines-short : linesLength k counts ≤ 82 * length counts
+    all-lines-short = lines-short k counts (k-short letters k m (A .good)) small
+
+    pub listing-length : length (listingOf letters k m counts) ≤ 92 + 82 * length counts
+    listing-length = omega (arith, listing-is, survey-short, all-lines-short, total-short)
+
+    -- The places after the survey line and after the total, each written from the start, and the length of the lines between: their sum is the
+    -- length of the listing, and no sum on the way is too large.
+    pub parts-are : {o o′ s s′ : List ℕ} {survey lines total : ℕ} → Puts o o′ 0 survey (surveyLine letters k m) → lines ≡ linesLength k counts
+        → Puts s s′ 0 total (totalLine (sum counts))
+        → (survey + lines + total ≡ length (listingOf letters k m counts)) × (survey + lines + total ≤ 1375731804)
+    parts-are P lines Q =
+        let a = measured P (omega (arith, survey-short)) in
+        let b = measured Q (omega (arith, total-short)) in
+        (omega (arith, a, b, lines, listing-is), omega (arith, a, b, lines, survey-short, all-lines-short, total-short, A .few))

@@ -1,0 +1,5 @@
+-- Computed cases, and laws of listings.
+pub mod Cases
+pub mod Lines
+pub mod Lengths
+pub mod ListingAnswers

@@ -1,0 +1,52 @@
+-- `listing::put_survey` meets its contract.
+use borrow.Author.Needs.{needs}
+use Rattle.laws.specs.Text.{bytes}
+use Rattle.survey.specs.Line.{surveyLine}
+use Rattle.texts.proofs.Writing.{then, then-field}
+use Rattle.listing.proofs.put_survey.Statement.{statement}
+use Rattle.listing.proofs.put_survey.Tie as tie
+
+slice-aggregate-put-text : tie.Need-slice-aggregate-put-text
+slice-aggregate-put-text c = search needs
+
+put-text-requires : tie.Need-put-text-requires
+put-text-requires c κs = search needs
+
+put-text-requires-2 : tie.Need-put-text-requires-2
+put-text-requires-2 c κs = search needs
+
+slice-aggregate-put-field : tie.Need-slice-aggregate-put-field
+slice-aggregate-put-field c = search needs
+
+put-field-requires : tie.Need-put-field-requires
+put-field-requires c κs = search needs
+
+put-mirror-requires : tie.Need-put-mirror-requires
+put-mirror-requires c κs = search needs
+
+same-length : tie.Need-same-length
+same-length c = search needs
+
+returns : tie.Need-returns
+unfolding surveyLine
+returns c =
+    let mirror = c .before .before in
+    let k = mirror .before .before .before .before in
+    let letters = k .before .before .before .before .before in
+    let start = letters .before .before .before .before in
+    let a = start .before .before .before .before .before .args in
+    then (start .put-text .ensures)
+    (then (letters .put-text2 .ensures) (then-field (bytes ") (k ") (a .k) (k .put-field .ensures) (mirror .put-mirror .ensures)))
+
+pub put-survey-spec : {M : Type 1} → statement M
+put-survey-spec =
+    tie.close
+    (tie.spec
+    slice-aggregate-put-text
+    put-text-requires
+    put-text-requires-2
+    slice-aggregate-put-field
+    put-field-requires
+    put-mirror-requires
+    same-length
+    returns)

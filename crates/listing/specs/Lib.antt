@@ -1,0 +1,3 @@
+-- The listing of a table.
+pub mod Listing
+pub mod Needs

@@ -1,0 +1,67 @@
+-- Computed checks of the program's definition: the worked example of document 01 from input to output, and refusals.
+use mathlib.Core.Path.{_≡_, refl}
+use mathlib.Core.List.{_++_}
+use Prim.Native.String.{String}
+use Rattle.laws.specs.Text.{bytes}
+use Rattle.laws.specs.Windows.{windows}
+use Rattle.settings.specs.Settings.{isCapital, isIn, differentCapitals, goodLetters, capitalOf, placeFrom, isOdd, halfUp, classes, badSize, settingsGround}
+use Rattle.encoding.specs.Words.{mirrorRank, mirror, plain, canonical}
+use Rattle.encoding.specs.Codes.{pairRank, digits, differingPair, shift, oddShift, codeOfCanonical, code}
+use Rattle.encoding.specs.WordsOfCodes.{wordOfPlain, pairOfRank, middleOfCode, wordOf}
+use Rattle.encoding.specs.Calls.{inCapitals, wordBytes}
+use Rattle.fasta.specs.Items.{recordsIn, lettersIn, oneIfForeign, foreignIn, marks, onFirst, runs, edge, edgesOf, windowsOf}
+use Rattle.fasta.specs.File.{isLetter, lfNext, lineItem, item, next, itemsFrom, faultFrom}
+use Rattle.fasta.specs.Scan.{tooLong}
+use Rattle.table.specs.Table.{wins, bump, bumps, full, tooMany, addGround}
+use Rattle.table.specs.Demand.{sum}
+use Rattle.texts.specs.Decimals.{decimalFrom, decimal}
+use Rattle.survey.specs.Grammar.{spelt}
+use Rattle.survey.specs.Line.{surveyLine}
+use Rattle.survey.specs.Reading as reading
+use Rattle.listing.specs.Listing.{countLine, countLines, totalLine, listingOf}
+use Rattle.program.specs.Program.{fileLine, refusedLine, clearedTable, surveyText, lineText, programText}
+
+abbrev Prints : String → String → Type 0
+Prints input output = programText (bytes input) ≡ bytes output
+
+-- The refusal of an input that is no survey line, of settings, of a file.
+refusals :
+    Prints "" "(refused 13 0)\n"
+    × Prints "(survey (letters ACGT) (k 2))\n>a\nAC\n" "(refused 13 0)\n"
+    × Prints "(survey (letters ACCT) (k 2) (mirror complement))\n" "(refused 1 0)\n"
+    × Prints "(survey (letters ACGT) (k 2) (mirror inverse))\n" "(refused 2 0)\n"
+    × Prints "(survey (letters ACGTN) (k 2) (mirror complement))\n" "(refused 3 0)\n"
+    × Prints "(survey (letters ACGT) (k 0) (mirror complement))\n" "(refused 4 0)\n"
+unfolding programText lineText surveyText refusedLine decimal decimalFrom addGround settingsGround goodLetters differentCapitals isCapital isIn
+    isOdd badSize reading.readLine reading.lineFrom reading.headOf reading.took reading.lineEnd reading.endAfter reading.nextForm reading.formAt
+    reading.formFrom reading.formOf reading.numberOf reading.mirrorNumber reading.sized reading.valueByte reading.stretch
+    reading.startsWith spelt
+refusals = (refl, refl, refl, refl, refl, refl)
+
+-- Too many classes for any table; too many for the program's; a stray byte and an early letter, with their offsets in the file.
+more-refusals :
+    Prints "(survey (letters ACGT) (k 13) (mirror complement))\n" "(refused 6 0)\n"
+    × Prints "(survey (letters ACGT) (k 8) (mirror complement))\n" "(refused 7 32896)\n"
+    × Prints "(survey (letters ACGT) (k 2) (mirror complement))\n>a\nAC-GT\n" "(refused 10 5)\n"
+    × Prints "(survey (letters ACGT) (k 2) (mirror complement))\n\nACGT\n" "(refused 11 1)\n"
+unfolding programText lineText surveyText refusedLine decimal decimalFrom addGround settingsGround goodLetters differentCapitals isCapital isIn
+    isOdd halfUp classes badSize tooLong tooMany faultFrom itemsFrom item next lineItem isLetter lfNext
+    reading.readLine reading.lineFrom reading.headOf reading.took reading.lineEnd reading.endAfter reading.nextForm reading.formAt
+    reading.formFrom reading.formOf reading.numberOf reading.mirrorNumber reading.sized reading.valueByte reading.stretch
+    reading.startsWith spelt
+more-refusals = (refl, refl, refl, refl)
+
+worked-example :
+    programText (bytes "(survey (letters ACGT) (k 2) (mirror complement))\n>a\nACGTN\n>b\nAG\nCT\n")
+    ≡ bytes "(survey (letters ACGT) (k 2) (mirror complement))\n(count CG 1)\n(count GC 1)\n(count AG 2)\n(count AC 2)\n(total 6)\n"
+    ++ bytes "(file (records 2) (letters 9) (foreign 1) (edge 2) (windows 6))\n"
+unfolding programText lineText surveyText fileLine clearedTable listingOf surveyLine countLines countLine totalLine sum decimal decimalFrom
+    wordBytes inCapitals wordOf wordOfPlain pairOfRank middleOfCode mirrorRank
+    addGround settingsGround goodLetters differentCapitals isCapital isIn
+    isOdd halfUp classes badSize tooLong tooMany faultFrom itemsFrom item next lineItem isLetter lfNext
+    recordsIn lettersIn foreignIn oneIfForeign marks runs onFirst windowsOf windows edgesOf edge placeFrom capitalOf wins full bump bumps
+    code codeOfCanonical canonical plain mirror digits pairRank differingPair shift oddShift
+    reading.readLine reading.lineFrom reading.headOf reading.took reading.lineEnd reading.endAfter reading.nextForm reading.formAt
+    reading.formFrom reading.formOf reading.numberOf reading.mirrorNumber reading.sized reading.valueByte reading.stretch
+    reading.startsWith spelt
+worked-example = refl

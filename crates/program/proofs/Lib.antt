@@ -1,0 +1,3 @@
+-- Laws of the program's output.
+pub mod Cases
+pub mod Outputs

@@ -1,0 +1,148 @@
+-- The program's output for settings and a file: from what the add to the cleared table answers and leaves. Every output fits 2 MiB.
+use mathlib.Core.Path.{_≡_, sym, ap, _∙_}
+use Prim.Native.Nat.{ℕ, _+_, _-_, _*_, _<_, _≤_}
+use native.Mathlib.Omega.{arith}
+use mathlib.Core.Bool.{_||_}
+use mathlib.Core.List.{List, _++_}
+use borrow.Author.Tests.{lt-ltb, le-ltb}
+use lib.ListN.{length, take, drop, length-append, length-replicate}
+use lib.Seq.{length-take-le}
+use Rattle.settings.specs.Grounds.{Ground, Outcome, given, refused, ground, groundAt, tooShort, outcome}
+use Rattle.settings.specs.Settings.{rankIn, settingsGround, settingsOf}
+use Rattle.settings.proofs.Outcomes.{passed, refused-on, first-none, later-none, nowhere-met, room-enough}
+use Rattle.fasta.specs.declared.Numbers.{Numbers}
+use Rattle.fasta.specs.File.{fileNumbers}
+use Rattle.fasta.specs.Scan.{tooLong}
+use Rattle.table.specs.Table.{classCount, tooMany, places, bumps, lateTable, tableGround, addGround, addAnswer, Added}
+use Rattle.table.proofs.Bumps.{length-bumps}
+use Rattle.texts.proofs.Decimals.{decimal-length}
+use Rattle.texts.specs.Needs.{Puts}
+use Rattle.texts.proofs.Writing.{measured, then}
+use Rattle.survey.specs.declared.Head.the-variants.{Survey, NoSurvey}
+use Rattle.survey.specs.Reading.{readLine}
+use Rattle.listing.specs.Listing.{listingOf}
+use Rattle.listing.specs.Needs.{AllCounts}
+use Rattle.program.specs.Program.{fileLine, refusedLine, clearedTable, answerText, surveyText, lineText, programText, Prints}
+
+-- ---- lengths
+
+pub printed : {text old new : List ℕ} {r : ℕ} → Puts old new 0 r text → length text ≤ 2097152 → Prints text old r new
+printed P h = let m = measured P (omega arith) in record { answers = m; leaves = P .leaves; short = omega (arith, m) }
+
+pub refused-short : (g : Ground) → g .0 < 100000000000000000000 → g .1 < 100000000000000000000 → length (refusedLine g) ≤ 100
+unfolding refusedLine
+refused-short g h i = simp length-append (omega (arith, decimal-length 19 (g .0) (omega arith), decimal-length 19 (g .1) (omega arith)))
+
+-- Each of a file's numbers fits 64 bits.
+pub record SmallNumbers (n : Numbers) : Type 0 where
+  pub records : n .records < 18446744073709551616
+  pub letters : n .letters < 18446744073709551616
+  pub foreign : n .foreign < 18446744073709551616
+  pub edge : n .edge < 18446744073709551616
+  pub windows : n .windows < 18446744073709551616
+
+pub file-line-short : (n : Numbers) → SmallNumbers n → length (fileLine n) ≤ 200
+unfolding fileLine
+file-line-short n S =
+    simp length-append
+    (omega (
+      arith,
+      decimal-length 19 (n .records) (omega (arith, S .records)),
+      decimal-length 19 (n .letters) (omega (arith, S .letters)),
+      decimal-length 19 (n .foreign) (omega (arith, S .foreign)),
+      decimal-length 19 (n .edge) (omega (arith, S .edge)),
+      decimal-length 19 (n .windows) (omega (arith, S .windows)),
+    ))
+
+-- ---- the add to the cleared table
+
+length-cleared : length clearedTable ≡ 16384
+unfolding clearedTable
+length-cleared = length-replicate {A = ℕ} 16384 0
+
+module _ (letters : List ℕ) (k m : ℕ) (file : List ℕ) where
+  pub settings-text : (f : Ground) → refused f ≡ outcome (settingsGround letters k m) (settingsOf letters k m) → surveyText letters k m file ≡ refusedLine f
+  unfolding surveyText addGround
+  settings-text f e =
+      ap (answerText letters k m file)
+      (sym (refused-on f (settingsOf letters k m) (fileNumbers (rankIn letters) k file) (settingsGround letters k m) _ e))
+
+  answered-text : {t t′ : List ℕ} {answer : Outcome Numbers} → t ≡ clearedTable → Added letters k m t file answer t′
+      → surveyText letters k m file ≡ answerText letters k m file answer
+  unfolding surveyText
+  answered-text {t} cleared A =
+      let e :
+      addAnswer letters k m (length t) (lateTable letters k m t file) file
+      ≡ addAnswer letters k m 16384 (lateTable letters k m clearedTable file) file =
+      rw (cleared, length-cleared) in
+      ap (answerText letters k m file) (sym (A .answers ∙ e))
+
+  pub refused-text : {t t′ : List ℕ} {answer : Outcome Numbers} (f : Ground) → answer ≡ refused f → t ≡ clearedTable → Added letters k m t file answer t′
+      → surveyText letters k m file ≡ refusedLine f
+  refused-text f e cleared A = answered-text cleared A ∙ ap (answerText letters k m file) e
+
+  -- A file that is taken in leaves the counts of all classes in the table, which has room for them.
+  pub record TakenIn (t′ : List ℕ) : Type 0 where
+    pub grown : t′ ≡ bumps clearedTable (places letters k m file)
+    pub long : classCount letters k m ≤ length t′
+    pub all : AllCounts letters k m (take (classCount letters k m) t′)
+    pub few : classCount letters k m ≤ 16384
+
+  module _ {t t′ : List ℕ} {answer : Outcome Numbers} (n : Numbers) (e : answer ≡ given n) (cleared : t ≡ clearedTable)
+      (A : Added letters k m t file answer t′) where
+    pub taken-in : TakenIn t′
+    unfolding addGround
+    taken-in =
+        let no-ground = passed (fileNumbers (rankIn letters) k file) (tableGround letters k m t file) (sym e ∙ A .answers) .none-applies in
+        let good = first-none (settingsGround letters k m) _ no-ground in
+        let sizes = later-none (settingsGround letters k m) _ no-ground in
+        let rooms = later-none (ground 6 (tooLong file || tooMany (classCount letters k m))) _ sizes in
+        let g7 = first-none (groundAt 7 (tooShort (length t) (classCount letters k m))) _ rooms in
+        let room = room-enough (length t) (classCount letters k m) (nowhere-met 7 _ g7) in
+        let grown : t′ ≡ bumps clearedTable (places letters k m file) = A .leaves ∙ (rw (no-ground, cleared)) in
+        let same : length t′ ≡ 16384 = ap length grown ∙ length-bumps (places letters k m file) clearedTable ∙ length-cleared in
+        let few : classCount letters k m ≤ 16384 = omega (arith, room, ap length cleared, length-cleared) in
+        let long : classCount letters k m ≤ length t′ = omega arith in
+        let counted = length-take-le (classCount letters k m) t′ long in
+        record { grown = grown; long = long; all = record { good = good; one-a-class = counted; few = omega (arith, counted) }; few = few }
+
+    -- The listing of its counts and then the file line are the output.
+    pub taken-prints : {out out′ out″ : List ℕ} {a r : ℕ} → SmallNumbers n
+        → length (listingOf letters k m (take (classCount letters k m) t′)) ≤ 92 + 82 * length (take (classCount letters k m) t′)
+        → Puts out out′ 0 a (listingOf letters k m (take (classCount letters k m) t′))
+        → Puts out′ out″ a r (fileLine n)
+        → Prints (surveyText letters k m file) out r out″
+    taken-prints small short P Q =
+        let T = taken-in in
+        let text : surveyText letters k m file ≡ listingOf letters k m (take (classCount letters k m) t′) ++ fileLine n =
+        answered-text cleared A ∙ ap (answerText letters k m file) e
+        ∙ ap (λ (t : List ℕ). listingOf letters k m (take (classCount letters k m) t) ++ fileLine n) (sym (T .grown)) in
+        let counted = length-take-le (classCount letters k m) t′ (T .long) in
+        rw text
+        (printed (then P Q)
+        (omega (
+          arith,
+          length-append (listingOf letters k m (take (classCount letters k m) t′)) (fileLine n),
+          file-line-short n small,
+          short,
+          counted,
+          T .few,
+        )))
+
+-- ---- the whole input
+
+module _ (input : List ℕ) where
+  pub long-text : 65536 < length input → programText input ≡ refusedLine (14, 0)
+  unfolding programText
+  long-text h = rw (lt-ltb 65536 (length input) h)
+
+  module _ (short : length input ≤ 65536) where
+    pub no-survey-text : readLine input ≡ NoSurvey → programText input ≡ refusedLine (13, 0)
+    unfolding programText lineText
+    no-survey-text e = rw (le-ltb 65536 (length input) short, e)
+
+    -- The letters end at the place from + len.
+    pub line-text : {from len k m next : ℕ} → readLine input ≡ Survey from len k m next
+        → programText input ≡ surveyText (take (from + len - from) (drop from input)) k m (drop next input)
+    unfolding programText lineText
+    line-text {from} {len} e = let n : from + len - from ≡ len = omega arith in rw (le-ltb 65536 (length input) short, e, n)

@@ -1,0 +1,2 @@
+-- What the counter program prints.
+pub mod Program

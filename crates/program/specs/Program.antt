@@ -1,0 +1,56 @@
+-- Document 01, "Listing and counter program": what the program prints for every input.
+use mathlib.Core.Path.{_≡_}
+use Prim.Native.Nat.{ℕ, _≤_}
+use mathlib.Core.Bool.{cond}
+use mathlib.Core.List.{List, _++_}
+use lib.ListN.{length, take, drop, replicate}
+use lib.Dec.{ltb}
+use lib.Seq.{sets}
+use Rattle.laws.specs.Text.{bytes}
+use Rattle.settings.specs.Grounds.{Ground, Outcome, given, refused}
+use Rattle.fasta.specs.declared.Numbers.{Numbers}
+use Rattle.table.specs.Table.{places, bumps, lateTable, addAnswer}
+use Rattle.texts.specs.Decimals.{decimal}
+use Rattle.survey.specs.declared.Head.{Head}
+use Rattle.survey.specs.declared.Head.the-variants.{Survey, NoSurvey}
+use Rattle.survey.specs.Reading.{readLine}
+use Rattle.listing.specs.Listing.{listing}
+
+-- (file (records 2) (letters 9) (foreign 1) (edge 2) (windows 6)) and LF
+unfoldable pub fileLine : Numbers → List ℕ
+fileLine n =
+    bytes "(file (records " ++ (decimal (n .records) ++ (bytes ") (letters " ++ (decimal (n .letters) ++ (bytes ") (foreign "
+    ++ (decimal (n .foreign) ++ (bytes ") (edge " ++ (decimal (n .edge) ++ (bytes ") (windows " ++ (decimal (n .windows) ++ bytes "))\n")))))))))
+
+-- "A refusal prints only `(refused N P)`": the number, P, and LF.
+unfoldable pub refusedLine : Ground → List ℕ
+refusedLine g = bytes "(refused " ++ (decimal (g .0) ++ (bytes " " ++ (decimal (g .1) ++ bytes ")\n")))
+
+-- "It has 16,384 places": the table, cleared.
+unfoldable pub clearedTable : List ℕ
+clearedTable = replicate 16384 0
+
+-- It "prints the whole listing, then the file line", of the table that the add of the file leaves; or the refusal.
+abbrev pub answerText : (letters : List ℕ) (k mirror : ℕ) (file : List ℕ) → Outcome Numbers → List ℕ
+answerText letters k m file (given n) = listing letters k m (bumps clearedTable (places letters k m file)) ++ fileLine n
+answerText letters k m file (refused g) = refusedLine g
+
+-- What is printed for settings and a file: the add to a cleared table of 16,384 places answers it.
+unfoldable pub surveyText : (letters : List ℕ) (k mirror : ℕ) (file : List ℕ) → List ℕ
+surveyText letters k m file = answerText letters k m file (addAnswer letters k m 16384 (lateTable letters k m clearedTable file) file)
+
+-- "a survey line, then a sequence file"; 13: "standard input's first line is no survey line".
+unfoldable pub lineText : (input : List ℕ) → Head → List ℕ
+lineText input (Survey from len k m next) = surveyText (take len (drop from input)) k m (drop next input)
+lineText input NoSurvey = refusedLine (13, 0)
+
+-- 14, "standard input above 65,536 bytes", comes before 13.
+unfoldable pub programText : (input : List ℕ) → List ℕ
+programText input = cond (ltb 65536 (length input)) (refusedLine (14, 0)) (lineText input (readLine input))
+
+-- The contract of the program's function: the text stands at the start of the buffer, as far as the buffer goes; r is its length, and 2 MiB are
+-- room enough for it.
+pub record Prints (text old : List ℕ) (r : ℕ) (new : List ℕ) : Type 0 where
+  pub answers : r ≡ length text
+  pub leaves : new ≡ sets old 0 text
+  pub short : r ≤ 2097152

@@ -1,0 +1,136 @@
+-- Computed checks of the reading's definition: lines with their answers, and inputs that start with no survey line, by the rule that they keep or
+-- break. A place counts from the first byte: `Survey 17 4 2 1 50` has its letters in the 4 bytes from 17 on, k 2, mirror 1, and the file from 50 on.
+use mathlib.Core.Path.{_≡_, refl}
+use mathlib.Core.List.{_∷_, _++_}
+use Prim.Native.String.{String}
+use Rattle.laws.specs.Text.{bytes}
+use Rattle.survey.specs.declared.Head.{Head}
+use Rattle.survey.specs.declared.Head.the-variants.{Survey, NoSurvey}
+use Rattle.settings.specs.Settings.{isIn}
+use Rattle.survey.specs.Grammar.{spelt}
+use Rattle.survey.specs.Reading.{startsWith, stretch, valueByte, sized, mirrorNumber, numberOf, formOf, formFrom, formAt, nextForm, endAfter, lineEnd, took, headOf, lineFrom, readLine}
+
+abbrev Reads : String → Head → Type 0
+Reads line answer = readLine (bytes line) ≡ answer
+
+abbrev Refused : String → Type 0
+Refused line = Reads line NoSurvey
+
+-- ---- survey lines
+
+-- "its three inner forms may stand in any order": the worked example's line, and the five other orders.
+any-order :
+    Reads "(survey (letters ACGT) (k 2) (mirror complement))\n>a" (Survey 17 4 2 1 50)
+    × Reads "(survey (letters ACGT) (mirror complement) (k 2))\n>a" (Survey 17 4 2 1 50)
+    × Reads "(survey (k 2) (letters ACGT) (mirror complement))\n>a" (Survey 23 4 2 1 50)
+    × Reads "(survey (k 2) (mirror complement) (letters ACGT))\n>a" (Survey 43 4 2 1 50)
+    × Reads "(survey (mirror complement) (letters ACGT) (k 2))\n>a" (Survey 37 4 2 1 50)
+    × Reads "(survey (mirror complement) (k 2) (letters ACGT))\n>a" (Survey 43 4 2 1 50)
+unfolding readLine lineFrom headOf took lineEnd endAfter nextForm formAt formFrom formOf numberOf mirrorNumber
+    sized valueByte isIn stretch startsWith spelt
+any-order = (refl, refl, refl, refl, refl, refl)
+
+-- "ends in LF, CR LF or with the input"
+line-ends :
+    Reads "(survey (letters AB) (k 7) (mirror reversal))\n" (Survey 17 2 7 0 46)
+    × Reads "(survey (letters AB) (k 7) (mirror reversal))\r\n>a" (Survey 17 2 7 0 47)
+    × Reads "(survey (letters AB) (k 7) (mirror reversal))" (Survey 17 2 7 0 45)
+unfolding readLine lineFrom headOf took lineEnd endAfter nextForm formAt formFrom formOf numberOf mirrorNumber
+    sized valueByte isIn stretch startsWith spelt
+line-ends = (refl, refl, refl)
+
+-- Whether k, the letters and the mirror are good settings is judged later: "`reversal` is 0, `complement` 1, others give 2".
+values :
+    Reads "(survey (letters AB) (k 0) (mirror reversal))\n" (Survey 17 2 0 0 46)
+    × Reads "(survey (letters AB) (k 999) (mirror reversal))\n" (Survey 17 2 999 0 48)
+    × Reads "(survey (letters acgt) (k 10) (mirror foo))\n" (Survey 17 4 10 2 44)
+    × Reads "(survey (letters A-Z>\"{}) (k 7) (mirror reversals))\n" (Survey 17 7 7 2 52)
+    × Reads "(survey (letters A) (k 7) (mirror complemen))\n" (Survey 17 1 7 2 46)
+unfolding readLine lineFrom headOf took lineEnd endAfter nextForm formAt formFrom formOf numberOf mirrorNumber
+    sized valueByte isIn stretch startsWith spelt
+values = (refl, refl, refl, refl, refl)
+
+-- Bytes above 127 are letters too.
+high-bytes : readLine (bytes "(survey (letters A" ++ (128 ∷ 255 ∷ bytes ") (k 7) (mirror reversal))\n")) ≡ Survey 17 3 7 0 47
+unfolding readLine lineFrom headOf took lineEnd endAfter nextForm formAt formFrom formOf numberOf mirrorNumber
+    sized valueByte isIn stretch startsWith spelt
+high-bytes = refl
+
+-- ---- no survey lines
+
+-- No survey line, or something before it.
+no-line :
+    Refused ""
+    × Refused ">a\nACGT\n"
+    × Refused "(survey"
+    × Refused " (survey (letters AB) (k 7) (mirror reversal))\n"
+    × Refused "(Survey (letters AB) (k 7) (mirror reversal))\n"
+unfolding readLine lineFrom headOf took lineEnd endAfter nextForm formAt formFrom formOf numberOf mirrorNumber
+    sized valueByte isIn stretch startsWith spelt
+no-line = (refl, refl, refl, refl, refl)
+
+-- "Forms are parted by one space."
+parted :
+    Refused "(survey (letters AB)  (k 7) (mirror reversal))\n"
+    × Refused "(survey (letters AB)(k 7) (mirror reversal))\n"
+    × Refused "(survey (letters AB)\t(k 7) (mirror reversal))\n"
+    × Refused "(survey  (letters AB) (k 7) (mirror reversal))\n"
+unfolding readLine lineFrom headOf took lineEnd endAfter nextForm formAt formFrom formOf numberOf mirrorNumber
+    sized valueByte isIn stretch startsWith spelt
+parted = (refl, refl, refl, refl)
+
+-- "its three inner forms .. each once"
+each-once :
+    Refused "(survey (k 7) (mirror reversal))\n"
+    × Refused "(survey (letters AB) (mirror reversal))\n"
+    × Refused "(survey (letters AB) (k 7))\n"
+    × Refused "(survey (letters AB) (k 7) (k 7))\n"
+    × Refused "(survey (letters AB) (letters AB) (mirror reversal))\n"
+    × Refused "(survey (letters AB) (k 7) (mirror reversal) (k 7))\n"
+unfolding readLine lineFrom headOf took lineEnd endAfter nextForm formAt formFrom formOf numberOf mirrorNumber
+    sized valueByte isIn stretch startsWith spelt
+each-once = (refl, refl, refl, refl, refl, refl)
+
+-- "k is 1 to 3 digits with no leading zero except 0 itself"
+k-digits :
+    Refused "(survey (letters AB) (k 01) (mirror reversal))\n"
+    × Refused "(survey (letters AB) (k 00) (mirror reversal))\n"
+    × Refused "(survey (letters AB) (k 1000) (mirror reversal))\n"
+    × Refused "(survey (letters AB) (k ) (mirror reversal))\n"
+    × Refused "(survey (letters AB) (k -1) (mirror reversal))\n"
+unfolding readLine lineFrom headOf took lineEnd endAfter nextForm formAt formFrom formOf numberOf mirrorNumber
+    sized valueByte isIn stretch startsWith spelt
+k-digits = (refl, refl, refl, refl, refl)
+
+-- "The mirror is one or more small letters"
+mirror-letters :
+    Refused "(survey (letters AB) (k 7) (mirror Reversal))\n"
+    × Refused "(survey (letters AB) (k 7) (mirror ))\n"
+unfolding readLine lineFrom headOf took lineEnd endAfter nextForm formAt formFrom formOf numberOf mirrorNumber
+    sized valueByte isIn stretch startsWith spelt
+mirror-letters = (refl, refl)
+
+-- "letters are one or more bytes other than brackets, spaces, CR and LF"
+letter-bytes :
+    Refused "(survey (letters ) (k 7) (mirror reversal))\n"
+    × Refused "(survey (letters A(B) (k 7) (mirror reversal))\n"
+    × Refused "(survey (letters A)B) (k 7) (mirror reversal))\n"
+    × Refused "(survey (letters A B) (k 7) (mirror reversal))\n"
+    × Refused "(survey (letters A\rB) (k 7) (mirror reversal))\n"
+    × Refused "(survey (letters A\nB) (k 7) (mirror reversal))\n"
+unfolding readLine lineFrom headOf took lineEnd endAfter nextForm formAt formFrom formOf numberOf mirrorNumber
+    sized valueByte isIn stretch startsWith spelt
+letter-bytes = (refl, refl, refl, refl, refl, refl)
+
+-- "ends in LF, CR LF or with the input": not in a CR, nor after anything else.
+no-end :
+    Refused "(survey (letters AB) (k 7) (mirror reversal)) \n"
+    × Refused "(survey (letters AB) (k 7) (mirror reversal) )\n"
+    × Refused "(survey (letters AB) (k 7) (mirror reversal)\n"
+    × Refused "(survey (letters AB) (k 7) (mirror rever"
+    × Refused "(survey (letters AB) (k 7) (mirror reversal))\r"
+    × Refused "(survey (letters AB) (k 7) (mirror reversal))\r>a\n"
+    × Refused "(survey (letters AB) (k 7) (mirror reversal))>a\n"
+unfolding readLine lineFrom headOf took lineEnd endAfter nextForm formAt formFrom formOf numberOf mirrorNumber
+    sized valueByte isIn stretch startsWith spelt
+no-end = (refl, refl, refl, refl, refl, refl, refl)

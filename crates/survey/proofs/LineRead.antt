@@ -1,0 +1,162 @@
+-- From the reader to the grammar, `line-good`: where the reader finds a survey line, the input is one, with these letters, k, mirror and file.
+-- From the laws of one form (FormLaws) and of the line's end (LineEnds).
+use mathlib.Core.Path.{_≡_}
+use mathlib.Core.Bool.{true}
+use mathlib.Core.List.{List, _++_}
+use Prim.Native.Nat.{ℕ, _+_, _≤_}
+use lib.ListN.{length, take, drop}
+use Rattle.laws.specs.Text.{bytes}
+use Rattle.survey.specs.declared.Name.{Name}
+use Rattle.survey.specs.declared.Name.the-variants.{Letters, K, Mirror}
+use Rattle.survey.specs.declared.Form.{Form}
+use Rattle.survey.specs.declared.Form.the-variants.{Of, NoForm}
+use Rattle.survey.specs.declared.End.{End}
+use Rattle.survey.specs.declared.End.the-variants.{At, Nowhere}
+use Rattle.survey.specs.declared.Head.{Head}
+use Rattle.survey.specs.declared.Head.the-variants.{Survey, NoSurvey}
+use Rattle.survey.specs.Grammar.{parted, AnyOrder, xyz, xzy, yxz, yzx, zxy, zyx, LineEnd, LettersText, KText, MirrorText}
+use Rattle.survey.specs.Claims.{Says}
+use Rattle.survey.specs.Reading.{startsWith, formAt, nextForm, endAfter, lineEnd, took, headOf, answerOf, lineFrom, readLine}
+use Rattle.survey.proofs.TextLaws.{by-test, starts-at}
+use Rattle.survey.proofs.ValueLaws.{ValueText}
+use Rattle.survey.proofs.FormLaws.{opening, written, row, flat-row, FormRead, FormGood, form-good}
+use Rattle.survey.proofs.LineEnds.{EndRead, EndGood, end-good}
+
+-- An input that is made of these parts, one after the other.
+joined : (a x b y c z end file : List ℕ) {t d e d′ e′ d″ e″ : List ℕ} → t ≡ bytes "(survey " ++ d → d ≡ a ++ (x ++ e)
+    → e ≡ bytes ") " ++ d′ → d′ ≡ b ++ (y ++ e′) → e′ ≡ bytes ") " ++ d″ → d″ ≡ c ++ (z ++ e″) → e″ ≡ bytes "))" ++ (end ++ file)
+    → t ≡ row (a ++ (x ++ bytes ")")) (b ++ (y ++ bytes ")")) (c ++ (z ++ bytes ")")) end file
+joined a x b y c z end file p q r s u v w = rw (p, q, r, s, u, v, w) (flat-row a x b y c z end file)
+
+-- What an answer says of the input; that there is no survey line says nothing.
+abbrev pub Fine : List ℕ → Head → Type 0
+Fine t NoSurvey = Unit
+Fine t (Survey from len k mirror next) = Says t from len k mirror next
+
+-- Three forms and an end, as they were read: the names are a, b and c, the values the l, m and n bytes from f, g and h on, the numbers v, w
+-- and x, and the line ends before the place `next`.
+record RowRead (t : List ℕ) (a : Name) (f l v : ℕ) (b : Name) (g m w : ℕ) (c : Name) (h n x : ℕ) (next : ℕ) : Type 0 where
+  end : List ℕ
+  first : ValueText a (take l (drop f t)) v
+  second : ValueText b (take m (drop g t)) w
+  third : ValueText c (take n (drop h t)) x
+  first-in : f + l ≤ length t
+  second-in : g + m ≤ length t
+  third-in : h + n ≤ length t
+  next-in : next ≤ length t
+  ends : LineEnd end (drop next t)
+  whole : t ≡ row (written a (take l (drop f t))) (written b (take m (drop g t))) (written c (take n (drop h t))) end (drop next t)
+
+-- Such a row, whichever of its forms has the letters, is a survey line.
+fine : {t : List ℕ} {a b c : Name} {f l v g m w h n x next : ℕ} {from len k mirror : ℕ} {kText mirrorText : List ℕ}
+    → RowRead t a f l v b g m w c h n x next → from + len ≤ length t → LettersText (take len (drop from t)) → KText kText k → MirrorText mirrorText mirror
+    → AnyOrder (written Letters (take len (drop from t))) (written K kText) (written Mirror mirrorText)
+    (parted (written a (take l (drop f t))) (written b (take m (drop g t))) (written c (take n (drop h t))))
+    → Says t from len k mirror next
+fine r inside letters k mirror order = record {
+  letters-inside = inside;
+  file-inside = r .next-in;
+  survey = record {
+    kText = _;
+    mirrorText = _;
+    forms = _;
+    end = r .end;
+    letters-good = letters;
+    k-good = k;
+    mirror-good = mirror;
+    any-order = order;
+    ends = r .ends;
+    whole = r .whole;
+  };
+}
+
+module _ (t : List ℕ) (next f l v g m w h n x : ℕ) where
+  -- Only six of the orders of three names have each once; in the others a form is missing.
+  by-order : (a b c : Name) → RowRead t a f l v b g m w c h n x next
+      → Fine t (answerOf (At next) (Of a f l v) (Of b g m w) (Of c h n x))
+  unfolding took headOf
+  by-order Letters Letters Letters r = tt
+  by-order Letters Letters K r = tt
+  by-order Letters Letters Mirror r = tt
+  by-order Letters K Letters r = tt
+  by-order Letters K K r = tt
+  by-order Letters K Mirror r = fine r (r .first-in) (r .first .0) (r .second) (r .third) xyz
+  by-order Letters Mirror Letters r = tt
+  by-order Letters Mirror K r = fine r (r .first-in) (r .first .0) (r .third) (r .second) xzy
+  by-order Letters Mirror Mirror r = tt
+  by-order K Letters Letters r = tt
+  by-order K Letters K r = tt
+  by-order K Letters Mirror r = fine r (r .second-in) (r .second .0) (r .first) (r .third) yxz
+  by-order K K Letters r = tt
+  by-order K K K r = tt
+  by-order K K Mirror r = tt
+  by-order K Mirror Letters r = fine r (r .third-in) (r .third .0) (r .first) (r .second) yzx
+  by-order K Mirror K r = tt
+  by-order K Mirror Mirror r = tt
+  by-order Mirror Letters Letters r = tt
+  by-order Mirror Letters K r = fine r (r .second-in) (r .second .0) (r .third) (r .first) zxy
+  by-order Mirror Letters Mirror r = tt
+  by-order Mirror K Letters r = fine r (r .third-in) (r .third .0) (r .second) (r .first) zyx
+  by-order Mirror K K r = tt
+  by-order Mirror K Mirror r = tt
+  by-order Mirror Mirror Letters r = tt
+  by-order Mirror Mirror K r = tt
+  by-order Mirror Mirror Mirror r = tt
+
+-- The reading step by step: each form that is found stands after the one before.
+module _ (t : List ℕ) where
+  module _ {a b c : Name} {f l v g m w h n x : ℕ} (opened : startsWith (bytes "(survey ") t ≡ true) (A : FormRead t 8 a f l v)
+      (p : startsWith (bytes ") ") (drop (f + l) t) ≡ true) (B : FormRead t (f + l + 2) b g m w)
+      (q : startsWith (bytes ") ") (drop (g + m) t) ≡ true) (C : FormRead t (g + m + 2) c h n x) where
+    row-read : (next : ℕ) → EndRead t (h + n) next → RowRead t a f l v b g m w c h n x next
+    row-read next E =
+        let P = starts-at _ t (f + l) p in
+        let Q = starts-at _ t (g + m) q in
+        record {
+          end = E .end;
+          first = A .means _ P;
+          second = B .means _ Q;
+          third = C .means _ (E .text);
+          first-in = A .inside;
+          second-in = B .inside;
+          third-in = C .inside;
+          next-in = E .inside;
+          ends = E .ends;
+          whole = joined (opening a) (take l (drop f t)) (opening b) (take m (drop g t)) (opening c) (take n (drop h t)) (E .end) (drop next t)
+              (starts-at _ t 0 opened) (A .text) P (B .text) Q (C .text) (E .text);
+        }
+
+    ended : (e : End) → EndGood t (h + n) e
+        → Fine t (answerOf e (Of a f l v) (Of b g m w) (Of c h n x))
+    unfolding headOf
+    ended Nowhere E = tt
+    ended (At next) E = by-order t next f l v g m w h n x a b c (row-read next E)
+
+  third-good : {a b : Name} {f l v g m w : ℕ} → startsWith (bytes "(survey ") t ≡ true → FormRead t 8 a f l v
+      → startsWith (bytes ") ") (drop (f + l) t) ≡ true → FormRead t (f + l + 2) b g m w
+      → startsWith (bytes ") ") (drop (g + m) t) ≡ true → (c : Form) → FormGood t (g + m + 2) c
+      → Fine t (answerOf (lineEnd t c) (Of a f l v) (Of b g m w) c)
+  unfolding lineEnd headOf
+  third-good s A p B q NoForm C = tt
+  third-good s A p B q (Of c h n x) C = ended s A p B q C (endAfter t (h + n)) (end-good t (h + n))
+
+  second-good : {a : Name} {f l v : ℕ} → startsWith (bytes "(survey ") t ≡ true → FormRead t 8 a f l v
+      → startsWith (bytes ") ") (drop (f + l) t) ≡ true → (b : Form) → FormGood t (f + l + 2) b
+      → Fine t (answerOf (lineEnd t (nextForm t b)) (Of a f l v) b (nextForm t b))
+  unfolding nextForm lineEnd headOf
+  second-good s A p NoForm B = tt
+  second-good {a} {f} {l} {v} s A p (Of b g m w) B =
+      by-test (λ (c : Form). Fine t (answerOf (lineEnd t c) (Of a f l v) (Of b g m w) c)) (startsWith (bytes ") ") (drop (g + m) t))
+      (λ q. third-good s A p B q (formAt t (g + m + 2)) (form-good t (g + m + 2))) (λ q. tt)
+
+  first-good : startsWith (bytes "(survey ") t ≡ true → (a : Form) → FormGood t 8 a
+      → Fine t (let b = nextForm t a in let c = nextForm t b in answerOf (lineEnd t c) a b c)
+  unfolding nextForm lineEnd headOf
+  first-good s NoForm A = tt
+  first-good s (Of a f l v) A =
+      by-test (λ (b : Form). Fine t (answerOf (lineEnd t (nextForm t b)) (Of a f l v) b (nextForm t b))) (startsWith (bytes ") ") (drop (f + l) t))
+      (λ p. second-good s A p (formAt t (f + l + 2)) (form-good t (f + l + 2))) (λ p. tt)
+
+  pub line-good : Fine t (readLine t)
+  unfolding readLine lineFrom
+  line-good = by-test (Fine t) (startsWith (bytes "(survey ") t) (λ s. first-good s (formAt t 8) (form-good t 8)) (λ s. tt)

@@ -1,0 +1,88 @@
+-- Document 01, "Listing and counter program": what a survey line is, sentence by sentence. `SurveyInput` is the whole; it says what the input
+-- is made of and nothing of how it is read.
+use mathlib.Core.Path.{_≡_}
+use mathlib.Core.Logic.{_≢_}
+use mathlib.Core.List.{List, [], _∷_, _++_}
+use Prim.Native.Nat.{ℕ, _+_, _-_, _*_, _≤_}
+use lib.ListN.{length, getD}
+use Rattle.laws.specs.Text.{bytes}
+
+-- Each byte of a text is such a byte.
+abbrev pub Each : (ℕ → Type 0) → List ℕ → Type 0
+Each P [] = Unit
+Each P (b ∷ text) = P b × Each P text
+
+-- "letters are one or more bytes other than brackets, spaces, CR and LF"
+abbrev pub LetterByte : ℕ → Type 0
+LetterByte b = Each (λ (other : ℕ). b ≢ other) (bytes "() \r\n")
+
+pub record LettersText (text : List ℕ) : Type 0 where
+  pub some : 1 ≤ length text
+  pub each : Each LetterByte text
+
+-- The bytes 0 to 9, and the number that they spell after the number v.
+abbrev pub Digit : ℕ → Type 0
+Digit b = (48 ≤ b) × (b ≤ 57)
+
+unfoldable pub spelt : (v : ℕ) → List ℕ → ℕ
+spelt v [] = v
+spelt v (d ∷ digits) = spelt (v * 10 + (d - 48)) digits
+
+-- "k is 1 to 3 digits with no leading zero except 0 itself": where the first digit is 0, it is the only one.
+pub record KText (text : List ℕ) (k : ℕ) : Type 0 where
+  pub some : 1 ≤ length text
+  pub few : length text ≤ 3
+  pub each : Each Digit text
+  pub no-leading-zero : getD text 0 0 ≡ 48 → length text ≡ 1
+  pub value : k ≡ spelt 0 text
+
+-- "The mirror is one or more small letters: `reversal` is 0, `complement` 1, others give 2."
+abbrev pub SmallLetter : ℕ → Type 0
+SmallLetter b = (97 ≤ b) × (b ≤ 122)
+
+pub data MirrorNumber : List ℕ → ℕ → Type 0 where
+  reversal : MirrorNumber (bytes "reversal") 0
+  complement : MirrorNumber (bytes "complement") 1
+  another : {text : List ℕ} → text ≢ bytes "reversal" → text ≢ bytes "complement" → MirrorNumber text 2
+
+pub record MirrorText (text : List ℕ) (mirror : ℕ) : Type 0 where
+  pub some : 1 ≤ length text
+  pub each : Each SmallLetter text
+  pub number : MirrorNumber text mirror
+
+-- (letters ACGT), (k 2), (mirror complement): a form's name and its value.
+abbrev pub form : (name value : List ℕ) → List ℕ
+form name value = bytes "(" ++ (name ++ (bytes " " ++ (value ++ bytes ")")))
+
+-- "Forms are parted by one space."
+abbrev pub parted : (x y z : List ℕ) → List ℕ
+parted x y z = x ++ (bytes " " ++ (y ++ (bytes " " ++ z)))
+
+-- "its three inner forms may stand in any order, each once"
+pub data AnyOrder (x y z : List ℕ) : List ℕ → Type 0 where
+  xyz : AnyOrder x y z (parted x y z)
+  xzy : AnyOrder x y z (parted x z y)
+  yxz : AnyOrder x y z (parted y x z)
+  yzx : AnyOrder x y z (parted y z x)
+  zxy : AnyOrder x y z (parted z x y)
+  zyx : AnyOrder x y z (parted z y x)
+
+-- "The survey line read ends in LF, CR LF or with the input": the line's end and the file after it.
+pub data LineEnd : (end file : List ℕ) → Type 0 where
+  lf : {file : List ℕ} → LineEnd (bytes "\n") file
+  crlf : {file : List ℕ} → LineEnd (bytes "\r\n") file
+  with-the-input : LineEnd [] []
+
+-- "The program reads standard input: a survey line, then a sequence file." The input is a survey line with these letters, k and mirror,
+-- and then this file.
+pub record SurveyInput (input letters : List ℕ) (k mirror : ℕ) (file : List ℕ) : Type 0 where
+  pub kText : List ℕ
+  pub mirrorText : List ℕ
+  pub forms : List ℕ
+  pub end : List ℕ
+  pub letters-good : LettersText letters
+  pub k-good : KText kText k
+  pub mirror-good : MirrorText mirrorText mirror
+  pub any-order : AnyOrder (form (bytes "letters") letters) (form (bytes "k") kText) (form (bytes "mirror") mirrorText) forms
+  pub ends : LineEnd end file
+  pub whole : input ≡ bytes "(survey " ++ (forms ++ (bytes ")" ++ (end ++ file)))

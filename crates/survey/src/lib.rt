@@ -1,0 +1,216 @@
+// Reading the survey line that the counter's input starts with: document 01, "Listing and counter program".
+// The line is read from left to right: the opening text, three forms, the closing bracket, the line's end.
+mod values; // the value of a form
+
+ghost use mathlib.Core.Path.{_≡_};
+ghost use Rattle.survey.specs.Needs.{Within};
+ghost use Rattle.survey.specs.Reading.{formFrom, formAt, nextForm, endAfter, lineEnd, took as Took, headOf, lineFrom, readLine};
+use values::number_of;
+use values::sized;
+use values::starts;
+use values::value_end;
+
+// The names of the three forms.
+enum Name {
+    Letters,
+    K,
+    Mirror,
+}
+
+// A form that was read: its name, where the bytes of its value are, and the number that they stand for
+// (k or the mirror; 0 for letters).
+enum Form {
+    Of {
+        name: Name,
+        from: usize,
+        len: usize,
+        number: u64,
+    },
+    NoForm,
+}
+
+// The forms met so far, by name.
+struct Forms {
+    letters: Form,
+    k: Form,
+    mirror: Form,
+}
+
+// The place after the survey line.
+enum End {
+    At(usize),
+    Nowhere,
+}
+
+// A survey line: where its letters are, k, the mirror, and the place after the line's end.
+pub enum Head {
+    Survey {
+        from: usize,
+        len: usize,
+        k: usize,
+        mirror: u64,
+        next: usize,
+    },
+    NoSurvey,
+}
+
+// The form whose value starts at a place.
+fn form_from(s: &[u8], name: Name, from: usize) -> Form
+    ensures { λ r. ⌜ r ≡ formFrom (now (s .entry)) name from ⌝ }
+{
+    let end = value_end(s, name, from);
+    let len = end - from;
+    if !sized(s, name, from, len) {
+        return Form::NoForm;
+    }
+    let number = number_of(s, name, from, len);
+    Form::Of {
+        name,
+        from,
+        len,
+        number,
+    }
+}
+
+// The form that stands at a place, without its closing bracket.
+fn form_at(s: &[u8], at: usize) -> Form
+    ensures { λ r. ⌜ r ≡ formAt (now (s .entry)) at ⌝ }
+{
+    if starts(s, at, b"(letters ") {
+        return form_from(s, Name::Letters, at + 9);
+    }
+    if starts(s, at, b"(k ") {
+        return form_from(s, Name::K, at + 3);
+    }
+    if starts(s, at, b"(mirror ") {
+        return form_from(s, Name::Mirror, at + 8);
+    }
+    Form::NoForm
+}
+
+// The form after a form, parted from it by one space.
+fn next_form(s: &[u8], f: Form) -> Form
+    requires { ⌜ Within (now s) f ⌝ }
+    ensures { λ r. ⌜ r ≡ nextForm (now (s .entry)) f ⌝ }
+{
+    let Form::Of { from, len, .. } = f else {
+        return Form::NoForm;
+    };
+    let end = from + len;
+    if starts(s, end, b") ") {
+        return form_at(s, end + 2);
+    }
+    Form::NoForm
+}
+
+// The place after the line whose last value ends before a place.
+fn end_after(s: &[u8], at: usize) -> End
+    ensures { λ r. ⌜ r ≡ endAfter (now (s .entry)) at ⌝ }
+{
+    if starts(s, at, b"))\n") {
+        return End::At(at + 3);
+    }
+    if starts(s, at, b"))\r\n") {
+        return End::At(at + 4);
+    }
+    if starts(s, at, b"))") {
+        if at + 2 == s.len() {
+            return End::At(at + 2);
+        }
+    }
+    End::Nowhere
+}
+
+// The place after the line whose last form this is.
+fn line_end(s: &[u8], f: Form) -> End
+    requires { ⌜ Within (now s) f ⌝ }
+    ensures { λ r. ⌜ r ≡ lineEnd (now (s .entry)) f ⌝ }
+{
+    match f {
+        Form::NoForm => End::Nowhere,
+        Form::Of { from, len, .. } => end_after(s, from + len),
+    }
+}
+
+// The forms met, and one more.
+fn took(p: Forms, f: Form) -> Forms
+    ensures { λ r. ⌜ r ≡ Took p f ⌝ }
+{
+    let letters = p.letters;
+    let k = p.k;
+    let mirror = p.mirror;
+    match f {
+        Form::NoForm => p,
+        Form::Of { name, .. } => match name {
+            Name::Letters => Forms {
+                letters: f,
+                k,
+                mirror,
+            },
+            Name::K => Forms {
+                letters,
+                k: f,
+                mirror,
+            },
+            Name::Mirror => Forms {
+                letters,
+                k,
+                mirror: f,
+            },
+        },
+    }
+}
+
+// The line's answer, where all three forms were met and the line has an end.
+fn head_of(end: End, letters: Form, k: Form, mirror: Form) -> Head
+    ensures { λ r. ⌜ r ≡ headOf end letters k mirror ⌝ }
+{
+    let End::At(next) = end else {
+        return Head::NoSurvey;
+    };
+    let Form::Of { from, len, .. } = letters else {
+        return Head::NoSurvey;
+    };
+    let Form::Of { number: k, .. } = k else {
+        return Head::NoSurvey;
+    };
+    let Form::Of { number: mirror, .. } = mirror else {
+        return Head::NoSurvey;
+    };
+    Head::Survey {
+        from,
+        len,
+        k: k as usize,
+        mirror,
+        next,
+    }
+}
+
+// Three forms in a row, from the first form's place on.
+fn line_from(s: &[u8], at: usize) -> Head
+    ensures { λ r. ⌜ r ≡ lineFrom (now (s .entry)) at ⌝ }
+{
+    let a = form_at(s, at);
+    let b = next_form(s, a);
+    let c = next_form(s, b);
+    let none = Forms {
+        letters: Form::NoForm,
+        k: Form::NoForm,
+        mirror: Form::NoForm,
+    };
+    let p = took(took(took(none, a), b), c);
+    let letters = p.letters;
+    let k = p.k;
+    let mirror = p.mirror;
+    head_of(line_end(s, c), letters, k, mirror)
+}
+
+// Reads the survey line that an input starts with.
+pub fn read_line(s: &[u8]) -> Head
+    ensures { λ r. ⌜ r ≡ readLine (now (s .entry)) ⌝ }
+{
+    if starts(s, 0, b"(survey ") {
+        return line_from(s, 8);
+    }
+    Head::NoSurvey
+}

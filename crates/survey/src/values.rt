@@ -1,0 +1,134 @@
+// The value of a form: which bytes it may have, how long it may be, and what number it stands for.
+ghost use mathlib.Core.Path.{_≡_};
+ghost use mathlib.Core.Bool.{true};
+ghost use Prim.Native.Nat.{_+_, _-_, _≤_};
+ghost use lib.ListN.{length, take, drop};
+ghost use Rattle.survey.specs.Grammar.{spelt};
+ghost use Rattle.survey.specs.Reading.{startsWith, stretch, valueByte, sized as Sized, mirrorNumber, numberOf};
+use crate::Name;
+
+// Whether a text stands at a place.
+pub fn starts(s: &[u8], at: usize, text: &[u8]) -> bool
+    ensures { λ r. ⌜ r ≡ startsWith (now (text .entry)) (drop at (now (s .entry))) ⌝ }
+{
+    let mut i = at;
+    let mut j: usize = 0;
+    while j < text.len() {
+        if i >= s.len() {
+            return false;
+        }
+        if s[i] != text[j] {
+            return false;
+        }
+        i += 1;
+        j += 1;
+    }
+    true
+}
+
+// Whether the value of a form may have this byte.
+fn value_byte(name: Name, b: u8) -> bool
+    ensures { λ r. ⌜ r ≡ valueByte name b ⌝ }
+{
+    match name {
+        Name::Letters => match b {
+            b'(' | b')' | b' ' | b'\r' | b'\n' => false,
+            _ => true,
+        },
+        Name::K => match b {
+            b'0'..=b'9' => true,
+            _ => false,
+        },
+        Name::Mirror => match b {
+            b'a'..=b'z' => true,
+            _ => false,
+        },
+    }
+}
+
+// The place after a form's value.
+pub fn value_end(s: &[u8], name: Name, from: usize) -> usize
+    ensures { λ r. ⌜ r ≡ from + stretch (valueByte name) (drop from (now (s .entry))) ⌝ }
+{
+    let mut i = from;
+    while i < s.len() {
+        let b = s[i];
+        if !value_byte(name, b) {
+            return i;
+        }
+        i += 1;
+    }
+    i
+}
+
+// Whether a form's value may have this length: one or more, and for k 1 to 3 digits with no leading zero except 0 itself.
+pub fn sized(s: &[u8], name: Name, from: usize, len: usize) -> bool
+    ensures { λ r. ⌜ r ≡ Sized name (drop from (now (s .entry))) len ⌝ }
+{
+    if len == 0 {
+        return false;
+    }
+    match name {
+        Name::Letters => true,
+        Name::Mirror => true,
+        Name::K => {
+            if len > 3 {
+                return false;
+            }
+            if len == 1 {
+                return true;
+            }
+            !starts(s, from, b"0")
+        }
+    }
+}
+
+// What a digit adds.
+fn digit(b: u8) -> u64
+    ensures { λ r. ⌜ r ≡ b - 48 ⌝ }
+{
+    if b < 48 {
+        return 0;
+    }
+    (b - 48) as u64
+}
+
+// The number that up to 3 digits spell.
+fn spelt_at(s: &[u8], from: usize, len: usize) -> u64
+    requires { ⌜ (len ≤ 3) × (from + len ≤ length (now s)) ⌝ }
+    ensures { λ r. ⌜ r ≡ spelt 0 (take len (drop from (now (s .entry)))) ⌝ }
+{
+    let mut v: u64 = 0;
+    let mut j: usize = 0;
+    while j < len {
+        let b = s[from + j];
+        v = v * 10 + digit(b);
+        j += 1;
+    }
+    v
+}
+
+// The number of the mirror whose name stands at a place.
+fn mirror_number(s: &[u8], from: usize) -> u64
+    ensures { λ r. ⌜ r ≡ mirrorNumber (drop from (now (s .entry))) ⌝ }
+{
+    if starts(s, from, b"reversal)") {
+        return 0;
+    }
+    if starts(s, from, b"complement)") {
+        return 1;
+    }
+    2
+}
+
+// The number that a form's value stands for.
+pub fn number_of(s: &[u8], name: Name, from: usize, len: usize) -> u64
+    requires { ⌜ (Sized name (drop from (now s)) len ≡ true) × (from + len ≤ length (now s)) ⌝ }
+    ensures { λ r. ⌜ r ≡ numberOf name (drop from (now (s .entry))) len ⌝ }
+{
+    match name {
+        Name::Letters => 0,
+        Name::K => spelt_at(s, from, len),
+        Name::Mirror => mirror_number(s, from),
+    }
+}

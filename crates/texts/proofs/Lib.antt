@@ -1,0 +1,3 @@
+-- Laws of texts.
+pub mod Decimals
+pub mod Writing
