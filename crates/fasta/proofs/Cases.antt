@@ -1,9 +1,10 @@
 -- The definitions, computed: each sentence of document 01's section "Sequence file (FASTA)" on a file of a few bytes. By computation.
 use mathlib.Core.Path.{_≡_, refl}
 use Prim.Native.Nat.{ℕ}
-use mathlib.Core.Option.{none, some}
+use mathlib.Core.Option.{Option, none, some}
 use mathlib.Core.List.{List, [], _∷_}
 use Rattle.laws.specs.Text.{bytes}
+use Rattle.settings.specs.Grounds.{Ground}
 use Rattle.settings.specs.Settings.{isCapital, isIn, differentCapitals, goodLetters, capitalOf, placeFrom, rankIn, isOdd, badSize, settingsGround}
 use Rattle.fasta.specs.declared.Item.the-variants.{Opens, Skip, Stray, Letter}
 use Rattle.fasta.specs.declared.Numbers.{Numbers}
@@ -13,12 +14,19 @@ use Rattle.fasta.specs.File.{isLetter, lfNext, lineItem, item, next, ite
 use Rattle.fasta.specs.Scan.{tooLong, scanGround}
 use Rattle.fasta.specs.Records.{isHeader, headerFrom, lfFrom, recordTo, recordFrom, headersFrom, allRecords}
 
--- Files are read with the letters ACGT and k 2.
-abbrev windowsOfFile : List ℕ → List (List ℕ)
+-- Files are read with the letters ACGT and k 2. A case that unfolds one of these computes with all that its `unfolding` line names.
+unfoldable windowsOfFile : List ℕ → List (List ℕ)
+unfolding isLetter lfNext lineItem item next itemsFrom capitalOf placeFrom marks onFirst runs windows windowsOf
 windowsOfFile file = fileWindows (rankIn (bytes "ACGT")) 2 file
 
-abbrev numbersOfFile : List ℕ → Numbers
+unfoldable numbersOfFile : List ℕ → Numbers
+unfolding windowsOfFile recordsIn lettersIn oneIfForeign foreignIn edge edgesOf
 numbersOfFile file = fileNumbers (rankIn (bytes "ACGT")) 2 file
+
+-- The grounds of a scan under some settings, of a file with a stray byte.
+unfoldable groundBeforeStray : (letters : List ℕ) (k mirror : ℕ) → Option Ground
+unfolding isLetter lfNext lineItem item next itemsFrom faultFrom isCapital isIn differentCapitals goodLetters isOdd badSize settingsGround tooLong scanGround
+groundBeforeStray letters k mirror = scanGround letters k mirror (bytes "*")
 
 abbrev five : ℕ → ℕ → ℕ → ℕ → ℕ → Numbers
 five r l f e w = record { records = r; letters = l; foreign = f; edge = e; windows = w }
@@ -91,61 +99,61 @@ no-fault : fileFault (bytes ">*\n\nAxN\n>b 1\r\n>-\r") ≡ none
 unfolding isLetter lfNext lineItem item next itemsFrom faultFrom
 no-fault = refl
 
--- Checks go in number order: 1 to 4, then 6, then 10 or 11. The file here has a stray byte.
-bad-letters : scanGround (bytes "AA") 0 2 (bytes "*") ≡ some (1, 0)
-unfolding isLetter lfNext lineItem item next itemsFrom faultFrom isCapital isIn differentCapitals goodLetters isOdd badSize settingsGround tooLong scanGround
+-- Checks go in number order: 1 to 4, then 6, then 10 or 11.
+bad-letters : groundBeforeStray (bytes "AA") 0 2 ≡ some (1, 0)
+unfolding groundBeforeStray
 bad-letters = refl
 
-bad-mirror : scanGround (bytes "ACG") 0 2 (bytes "*") ≡ some (2, 0)
-unfolding isLetter lfNext lineItem item next itemsFrom faultFrom isCapital isIn differentCapitals goodLetters isOdd badSize settingsGround tooLong scanGround
+bad-mirror : groundBeforeStray (bytes "ACG") 0 2 ≡ some (2, 0)
+unfolding groundBeforeStray
 bad-mirror = refl
 
-odd-complement : scanGround (bytes "ACG") 0 1 (bytes "*") ≡ some (3, 0)
-unfolding isLetter lfNext lineItem item next itemsFrom faultFrom isCapital isIn differentCapitals goodLetters isOdd badSize settingsGround tooLong scanGround
+odd-complement : groundBeforeStray (bytes "ACG") 0 1 ≡ some (3, 0)
+unfolding groundBeforeStray
 odd-complement = refl
 
-bad-k : scanGround (bytes "ACGT") 32 1 (bytes "*") ≡ some (4, 0)
-unfolding isLetter lfNext lineItem item next itemsFrom faultFrom isCapital isIn differentCapitals goodLetters isOdd badSize settingsGround tooLong scanGround
+bad-k : groundBeforeStray (bytes "ACGT") 32 1 ≡ some (4, 0)
+unfolding groundBeforeStray
 bad-k = refl
 
-bad-byte : scanGround (bytes "ACGT") 31 1 (bytes "*") ≡ some (10, 0)
-unfolding isLetter lfNext lineItem item next itemsFrom faultFrom isCapital isIn differentCapitals goodLetters isOdd badSize settingsGround tooLong scanGround
+bad-byte : groundBeforeStray (bytes "ACGT") 31 1 ≡ some (10, 0)
+unfolding groundBeforeStray
 bad-byte = refl
 
 -- ---- windows and numbers
 
 -- "Windows run over line ends": AG, GC and CT, and as well with CR LF, an empty line and small letters.
 over-lines : windowsOfFile (bytes ">\nAG\r\n\ncT\n") ≡ (0 ∷ 2 ∷ []) ∷ (2 ∷ 1 ∷ []) ∷ (1 ∷ 3 ∷ []) ∷ []
-unfolding isLetter lfNext lineItem item next itemsFrom capitalOf placeFrom marks onFirst runs windows windowsOf
+unfolding windowsOfFile
 over-lines = refl
 
 -- "never over a record's end or a foreign letter"
 record-end : windowsOfFile (bytes ">a\nAC\n>b\nGT\n") ≡ (0 ∷ 1 ∷ []) ∷ (2 ∷ 3 ∷ []) ∷ []
-unfolding isLetter lfNext lineItem item next itemsFrom capitalOf placeFrom marks onFirst runs windows windowsOf
+unfolding windowsOfFile
 record-end = refl
 
 foreign-letter : windowsOfFile (bytes ">a\nACNGT\n") ≡ (0 ∷ 1 ∷ []) ∷ (2 ∷ 3 ∷ []) ∷ []
-unfolding isLetter lfNext lineItem item next itemsFrom capitalOf placeFrom marks onFirst runs windows windowsOf
+unfolding windowsOfFile
 foreign-letter = refl
 
 -- Document 01's own file: records 2, letters 9, foreign 1, edge 2, windows 6.
 paper : numbersOfFile (bytes ">a\nACGTN\n>b\nAG\nCT\n") ≡ five 2 9 1 2 6
-unfolding isLetter lfNext lineItem item next itemsFrom capitalOf placeFrom marks onFirst runs windows windowsOf recordsIn lettersIn oneIfForeign foreignIn edge edgesOf
+unfolding numbersOfFile
 paper = refl
 
 -- Records without letters; "the lesser of its length and k − 1" for a run of one letter.
 bare-records : numbersOfFile (bytes ">a\n>b\n\n>c\nA\n>") ≡ five 4 1 0 1 0
-unfolding isLetter lfNext lineItem item next itemsFrom capitalOf placeFrom marks onFirst runs windows windowsOf recordsIn lettersIn oneIfForeign foreignIn edge edgesOf
+unfolding numbersOfFile
 bare-records = refl
 
 -- Foreign letters side by side, small ones too, at both ends of a record.
 all-foreign : numbersOfFile (bytes ">\nnXACg\nNn") ≡ five 1 7 4 1 2
-unfolding isLetter lfNext lineItem item next itemsFrom capitalOf placeFrom marks onFirst runs windows windowsOf recordsIn lettersIn oneIfForeign foreignIn edge edgesOf
+unfolding numbersOfFile
 all-foreign = refl
 
 -- "An empty file is taken in with all five numbers 0."
 empty-file : numbersOfFile [] ≡ five 0 0 0 0 0
-unfolding isLetter lfNext lineItem item next itemsFrom capitalOf placeFrom marks onFirst runs windows windowsOf recordsIn lettersIn oneIfForeign foreignIn edge edgesOf
+unfolding numbersOfFile
 empty-file = refl
 
 empty-faultless : fileFault [] ≡ none

@@ -4,7 +4,7 @@ use mathlib.Core.Path.{_≡_, refl, sym, _∙_}
 use Prim.Native.Nat.{ℕ, zero, suc, _+_, _-_}
 use native.Mathlib.Numerals.{add-one}
 use native.Mathlib.Omega.{arith}
-use mathlib.Core.Bool.{Bool, true, false, cond, _&&_, _||_}
+use mathlib.Core.Bool.{Bool, true, false, cond, _&&_, _||_, and-false}
 use mathlib.Core.List.{List, _∷_}
 use lib.ListN.{length, getD, drop, length-map}
 use lib.Dec.{eqb}
@@ -31,10 +31,6 @@ line-opens-none b lf is = go (eqb b 10 || (eqb b 13 && lf)) (isLetter b)
     go true l = refl
     go false true = refl
     go false false = refl
-
-and-false : (t : Bool) → (t && false) ≡ false
-and-false true = refl
-and-false false = refl
 
 -- A byte opens a record where it is a > at a line's start.
 opens : (m : Mode) (b : ℕ) (lf : Bool) (is : List Item)

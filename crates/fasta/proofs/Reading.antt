@@ -5,7 +5,7 @@ use Prim.Native.Nat.{ℕ, zero, suc, _+_, _-_, _<_, _≤_}
 use native.Mathlib.Numerals.{add-one}
 use native.Mathlib.Decide.{decLt, ℕ-discrete}
 use native.Mathlib.Omega.{arith}
-use mathlib.Core.Bool.{Bool, true, false, cond, _&&_, _||_}
+use mathlib.Core.Bool.{Bool, true, false, cond, _&&_, _||_, and-false}
 use mathlib.Core.List.{List, [], _∷_, map}
 use lib.ListN.{length, getD}
 use lib.Dec.{eqb}
@@ -98,10 +98,6 @@ mark file h e = go (eqb (getD file h 0) 62) refl e
     go : (t : Bool) → eqb (getD file h 0) 62 ≡ t → (t && (eqb h 0 || eqb (getD file (h - 1) 0) 10)) ≡ true → getD file h 0 ≡ 62
     go true f g = eqb-true (getD file h 0) 62 f
     go false f g = let z : _≡_ {A = ℕ} 0 1 = cc in absurd (omega arith)
-
-and-false : (t : Bool) → (t && false) ≡ false
-and-false true = refl
-and-false false = refl
 
 -- No header starts after a byte that is not LF.
 inside : (file : List ℕ) (j : ℕ) → 0 < j → (getD file (j - 1) 0 ≡ 10 → ⊥) → isHeader file j ≡ false

@@ -11,7 +11,7 @@ use lib.ListN.{length, getD, drop, drop-of-length-le, length-append}
 use lib.Seq.{drop-cons}
 use lib.Dec.{eqb, leb, ltb}
 use borrow.Author.Tests.{eqb-true, eqb-false, lt-ltb, le-ltb}
-use Rattle.settings.specs.Grounds.{given, refused, outcome}
+use Rattle.settings.specs.Grounds.{Outcome, given, refused, outcome}
 use Rattle.fasta.specs.declared.Item.{Item}
 use Rattle.fasta.specs.declared.Item.the-variants.{Opens, Skip, Stray, Letter}
 use Rattle.fasta.specs.declared.Mode.{Mode}
@@ -22,10 +22,29 @@ use Rattle.fasta.specs.declared.Step.{Step}
 use Rattle.fasta.specs.declared.Step.the-variants.{On, AtStray, AtEarly}
 use Rattle.fasta.specs.Items.{recordsIn, lettersIn, oneIfForeign, foreignIn, marks, numbersIn}
 use Rattle.fasta.specs.File.{lfNext, item, next, itemsFrom, items, faultFrom, fileFault, fileNumbers}
-use Rattle.fasta.specs.Needs.{withHeader, withLetter, took, numbersOf, afterStep, scanFrom, nothingYet, Small}
+use Rattle.fasta.specs.Needs.{withHeader, withLetter, took, Small}
 use Rattle.fasta.proofs.Stream.{closes, windowsFrom, windows-stream, edgesFrom, edges-stream}
 
 -- ---- the machine and the definitions
+
+-- The numbers that a scan answers with where nothing is left.
+abbrev pub numbersOf : Tally → Numbers
+numbersOf t = record { records = t .records; letters = t .letters; foreign = t .foreign; edge = t .edge; windows = t .windows }
+
+-- The answer after one step at the offset `at`: the rest's, where the step goes on.
+abbrev pub afterStep : Step → ℕ → (Tally → Outcome Numbers) → Outcome Numbers
+afterStep (On t) at rest = rest t
+afterStep AtStray at rest = refused (10, at)
+afterStep AtEarly at rest = refused (11, at)
+
+-- The answer of a scan of all items that are left, the first of them at the offset `at`.
+unfoldable pub scanFrom : (ℕ → Option ℕ) → ℕ → ℕ → Tally → List Item → Outcome Numbers
+scanFrom rank k at t [] = given (numbersOf t)
+scanFrom rank k at t (i ∷ is) = afterStep (took rank k t i) at (λ (u : Tally). scanFrom rank k (suc at) u is)
+
+-- The tally that a scan begins with.
+abbrev pub nothingYet : Tally
+nothingYet = record { records = 0; letters = 0; foreign = 0; edge = 0; windows = 0; run = 0 }
 
 -- The numbers of a tally, with so much more of each.
 abbrev plus : Tally → ℕ → ℕ → ℕ → ℕ → ℕ → Numbers

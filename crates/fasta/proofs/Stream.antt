@@ -1,7 +1,7 @@
 -- A file's windows and edge letters as its letters come in one by one: each settings letter either closes one window of its run or is
 -- one more edge letter. So the windows of all runs are what a single pass closes (`windows-stream`), and likewise the edge letters.
 use mathlib.Core.Path.{_≡_, refl, sym, ap, _∙_}
-use Prim.Native.Nat.{ℕ, suc, _+_, _-_, _≤_, _<_, min}
+use Prim.Native.Nat.{ℕ, suc, _+_, _-_, _≤_, min}
 use native.Mathlib.Omega.{arith}
 use mathlib.Core.Bool.{Bool, true, false, cond}
 use mathlib.Core.Option.{Option, none, some}
@@ -9,14 +9,9 @@ use mathlib.Core.List.{List, [], _∷_, _++_, append-assoc, append-nil}
 use lib.ListN.{length, take, drop, length-append}
 use lib.Seq.{take-append-le, take-all}
 use lib.Dec.{leb}
-use borrow.Author.Tests.{leb-true, leb-false, lt-leb}
+use borrow.Author.Tests.{leb-true, leb-false}
+use Rattle.laws.proofs.Windows.{windows-none}
 use Rattle.fasta.specs.Items.{onFirst, runs, edge, windows, edgesOf, windowsOf}
-
--- A run shorter than k has no window.
-pub windows-short : (k : ℕ) (r : List ℕ) → length r < k → windows k r ≡ []
-unfolding windows
-windows-short k [] h = refl
-windows-short k (x ∷ xs) h = rw (lt-leb k (suc (length xs)) h) (windows-short k xs (omega arith))
 
 -- The window that the last of a run's letters closes, if there are k of them.
 unfoldable pub closes : ℕ → List ℕ → List (List ℕ)
@@ -36,7 +31,7 @@ snoc-case k y x ys false true e f h =
     let le = leb-true k (suc (suc (length ys))) f in
     let none-left : suc (suc (length ys)) - k ≡ 0 = omega arith in
     let whole : length (y ∷ ys ++ (x ∷ [])) ≤ k = omega (arith, length-append ys (x ∷ [])) in
-    rw (none-left, take-all k (y ∷ ys ++ (x ∷ [])) whole, windows-short k ys (omega arith))
+    rw (none-left, take-all k (y ∷ ys ++ (x ∷ [])) whole, windows-none k ys (omega arith))
 snoc-case k y x ys false false e f h = refl
 
 -- One letter more: the windows so far, and the one that the letter closes.

@@ -1,11 +1,9 @@
 -- Document 01, "Sequence file (FASTA)": what is counted in a file and cut from it, once it is known what each of its bytes is.
 -- Nothing here depends on the file's format. `rank` gives a letter's rank in the settings, none for a letter not in them.
 use Prim.Native.Nat.{ℕ, suc, _+_, _-_, min}
-use mathlib.Core.Bool.{cond}
 use mathlib.Core.Option.{Option, none, some}
 use mathlib.Core.List.{List, [], _∷_, _++_}
-use lib.ListN.{length, take}
-use lib.Dec.{leb}
+use lib.ListN.{length}
 unfoldable pub use Rattle.laws.specs.Windows.{windows}
 use Rattle.fasta.specs.declared.Item.{Item}
 use Rattle.fasta.specs.declared.Item.the-variants.{Opens, Skip, Stray, Letter}

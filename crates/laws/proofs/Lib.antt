@@ -2,4 +2,5 @@
 pub mod Powers
 pub mod DigitWindows
 pub mod Lists
+pub mod Windows
 pub mod Buffers

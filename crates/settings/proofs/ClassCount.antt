@@ -1,5 +1,5 @@
 -- The number of classes as `class_count` works it out from s^k and s^(k/2), and ground 4 from the power that stops above 2^62.
-use mathlib.Core.Path.{_≡_, refl, sym, ap, _∙_}
+use mathlib.Core.Path.{_≡_, ap}
 use Prim.Native.Nat.{ℕ, suc, _+_, _*_, _/_, _%_, _^_, _<_, _≤_, min}
 use native.Mathlib.Nat.{pow-suc, pow-le-pow-right}
 use native.Mathlib.Omega.{arith}
@@ -8,41 +8,47 @@ use borrow.Author.Tests.{eq-eqb, ne-eqb, lt-ltb, le-ltb}
 use Rattle.settings.specs.declared.Mirror.the-variants.{Reversal, Complement}
 use Rattle.settings.specs.Settings.{classes, halfUp, isOdd, badSize}
 
-module _ (s k : ℕ) (hs : 1 < s) (hk : s ^ k ≤ 2 ^ 62) where
-  pub half-le : s ^ (k / 2) ≤ s ^ k
-  half-le = pow-le-pow-right (omega arith) (omega arith)
+-- What `class_count` has at hand: s^k and s^(k/2), each as `power` gives it, which stops above 2^62.
+pub record Powered (s k words half : ℕ) : Type 0 where
+  pub two : 1 < s
+  pub small : s ^ k ≤ 2 ^ 62
+  pub words-by : words ≡ min (s ^ k) 4611686018427387905
+  pub half-by : half ≡ min (s ^ (k / 2)) 4611686018427387905
 
-  pub next-le : k % 2 ≡ 1 → s ^ (k / 2) * s ≤ s ^ k
-  next-le e =
-      let g : s ^ suc (k / 2) ≤ s ^ k = pow-le-pow-right (omega arith) (omega arith) in
-      omega (arith, pow-suc s (k / 2))
+module _ (s k words half : ℕ) (p : Powered s k words half) where
+  words-is : words ≡ s ^ k
+  words-is = omega (arith, p .small, p .words-by)
 
-  module _ (words half : ℕ) (w : words ≡ min (s ^ k) 4611686018427387905) (h : half ≡ min (s ^ (k / 2)) 4611686018427387905) where
-    pub words-is : words ≡ s ^ k
-    words-is = omega arith
+  half-is : half ≡ s ^ (k / 2)
+  half-is =
+      let le : s ^ (k / 2) ≤ s ^ k = pow-le-pow-right (omega (arith, p .two)) (omega arith) in
+      omega (arith, p .small, p .half-by)
 
-    pub half-is : half ≡ s ^ (k / 2)
-    half-is = omega (arith, half-le)
+  -- For odd k the palindromes under reversal are s^(k/2) · s many, no more than all words.
+  pub odd-fits : k % 2 ≡ 1 → half * s ≤ 2 ^ 62
+  odd-fits e =
+      let le : s ^ suc (k / 2) ≤ s ^ k = pow-le-pow-right (omega (arith, p .two)) (omega arith) in
+      omega (arith, p .small, pow-suc s (k / 2), ap (λ (h : ℕ). h * s) half-is)
 
-    pub odd-reversal : k % 2 ≡ 1 → (words + half * s) / 2 ≡ classes s Reversal k
-    unfolding classes halfUp
-    odd-reversal e =
-        let c : (k + 1) / 2 ≡ suc (k / 2) = omega arith in
-        rw (c, pow-suc s (k / 2), words-is, half-is)
+  pub odd-reversal : k % 2 ≡ 1 → (words + half * s) / 2 ≡ classes s Reversal k
+  unfolding classes halfUp
+  odd-reversal e =
+      let c : (k + 1) / 2 ≡ suc (k / 2) = omega arith in
+      rw (c, pow-suc s (k / 2), words-is, half-is)
 
-    pub even-reversal : (k % 2 ≡ 1 → ⊥) → (words + half) / 2 ≡ classes s Reversal k
-    unfolding classes halfUp
-    even-reversal e =
-        let c : (k + 1) / 2 ≡ k / 2 = omega arith in
-        rw (c, words-is, half-is)
+  pub even-reversal : (k % 2 ≡ 1 → ⊥) → (words + half) / 2 ≡ classes s Reversal k
+  unfolding classes halfUp
+  even-reversal e =
+      let c : (k + 1) / 2 ≡ k / 2 = omega arith in
+      rw (c, words-is, half-is)
 
-    pub odd-complement : k % 2 ≡ 1 → words / 2 ≡ classes s Complement k
-    unfolding classes isOdd
-    odd-complement e = rw (eq-eqb (k % 2) 1 e, words-is)
+  pub odd-complement : k % 2 ≡ 1 → words / 2 ≡ classes s Complement k
+  unfolding classes isOdd
+  odd-complement e = rw (eq-eqb (k % 2) 1 e, words-is)
 
-    pub even-complement : (k % 2 ≡ 1 → ⊥) → (words + half) / 2 ≡ classes s Complement k
-    unfolding classes isOdd
-    even-complement e = rw (ne-eqb (k % 2) 1 e, words-is, half-is)
+  pub even-complement : (k % 2 ≡ 1 → ⊥) → (words + half) / 2 ≡ classes s Complement k
+  unfolding classes isOdd
+  even-complement e = rw (ne-eqb (k % 2) 1 e, words-is, half-is)
 
 -- Ground 4.
 module _ (s k : ℕ) where

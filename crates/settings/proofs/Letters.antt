@@ -1,13 +1,13 @@
 -- The test of the letters by what is left of them: one turn of the loops of `is_in` and `good_letters`, and what good letters are.
-use mathlib.Core.Path.{_≡_, refl, sym, ap, _∙_}
-use Prim.Native.Nat.{ℕ, suc, _+_, _<_, _≤_}
+use mathlib.Core.Path.{_≡_, refl, sym, ap}
+use Prim.Native.Nat.{ℕ, _+_, _<_, _≤_}
 use native.Mathlib.Numerals.{add-one}
 use native.Mathlib.Omega.{arith}
-use mathlib.Core.Bool.{Bool, true, false, not, _&&_, _||_}
-use mathlib.Core.List.{List, [], _∷_}
+use mathlib.Core.Bool.{Bool, true, false, and-false, _&&_}
+use mathlib.Core.List.{List}
 use lib.ListN.{length, getD, drop, drop-of-length-le}
 use lib.Seq.{drop-cons}
-use lib.Dec.{eqb, leb}
+use lib.Dec.{leb}
 use borrow.Author.Tests.{eq-eqb, ne-eqb, le-leb, lt-leb, leb-true}
 use Rattle.settings.specs.Settings.{isIn, isCapital, differentCapitals, goodLetters}
 
@@ -23,10 +23,6 @@ module _ (l : List ℕ) (i b : ℕ) where
   pub in-none : length l ≤ i → false ≡ isIn b (drop i l)
   unfolding isIn
   in-none h = rw (drop-of-length-le l h)
-
-and-false : (t : Bool) → (t && false) ≡ false
-and-false true = refl
-and-false false = refl
 
 module _ (l : List ℕ) (i : ℕ) where
   pub small : i < length l → getD l i 0 < 65 → false ≡ differentCapitals (drop i l)

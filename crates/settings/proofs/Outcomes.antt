@@ -1,7 +1,7 @@
 -- How answers with grounds compose: a refusal stands whatever grounds come after it, and what is given means that no ground applies.
 -- A refused call leaves its buffer as it was. From the definitions of specs/Grounds.antt alone.
 use mathlib.Core.Path.{_≡_, ap, refl}
-use mathlib.Core.Bool.{Bool, false, true, cond}
+use mathlib.Core.Bool.{Bool, false, true, cond, _||_}
 use mathlib.Core.Option.{Option, none, some}
 use mathlib.Core.List.{List, _++_}
 use Prim.Native.Nat.{ℕ, _≤_}
@@ -15,6 +15,11 @@ use Rattle.settings.specs.Grounds.{refused, Ground, outcome, _orElse_, g
 pub refused-on : {A B : Type 0} (f : Ground) (a : A) (b : B) (g later : Option Ground) → refused f ≡ outcome g a → refused f ≡ outcome (g orElse later) b
 refused-on f a b none later e = absurd (let z : _≡_ {A = ℕ} 0 1 = cc in omega arith)
 refused-on f a b (some g) later e = let same : f ≡ g = cc in ap refused same
+
+-- The grounds of a call that is refused.
+pub refused-is : {A : Type 0} (f : Ground) (a : A) (g : Option Ground) → refused f ≡ outcome g a → g ≡ some f
+refused-is f a none e = absurd (let z : _≡_ {A = ℕ} 0 1 = cc in omega arith)
+refused-is f a (some g) e = cc
 
 -- Where the answer is a value, no ground applies and the value is the one at stake.
 pub record Passed {A : Type 0} (g : Option Ground) (x a : A) : Type 0 where
@@ -42,6 +47,11 @@ test-fails n false e = refl
 pub nowhere-met : (n : ℕ) (o : Option ℕ) → groundAt n o ≡ none → o ≡ none
 nowhere-met n none e = refl
 nowhere-met n (some p) e = absurd (let z : _≡_ {A = ℕ} 0 1 = cc in omega arith)
+
+-- Two tests of one ground both fail where it does not apply.
+pub both-fail : (a b : Bool) → (a || b) ≡ false → (a ≡ false) × (b ≡ false)
+both-fail true b e = absurd (let z : _≡_ {A = ℕ} 0 1 = cc in omega arith)
+both-fail false b e = (refl, e)
 
 -- Where ground 7 does not apply, the buffer has the length needed.
 pub room-enough : (room needed : ℕ) → tooShort room needed ≡ none → needed ≤ room

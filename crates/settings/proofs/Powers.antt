@@ -1,7 +1,7 @@
 -- The power of s that stops above 2^62: one turn of its loop, and that there are at most 62 turns before it stops.
-use mathlib.Core.Path.{_≡_, refl, sym, ap, _∙_}
-use Prim.Native.Nat.{ℕ, zero, suc, _+_, _*_, _^_, _/_, _<_, _≤_, min}
-use native.Mathlib.Nat.{pow-suc, pow-zero, pow-le-pow-right, le-div-iff-mul-le, div-lt-iff-lt-mul}
+use mathlib.Core.Path.{_≡_}
+use Prim.Native.Nat.{ℕ, _+_, _*_, _^_, _/_, _<_, _≤_, min}
+use native.Mathlib.Nat.{pow-suc, pow-le-pow-right, le-div-iff-mul-le, div-lt-iff-lt-mul}
 use native.Mathlib.Numerals.{add-one}
 use native.Mathlib.Omega.{arith}
 use Rattle.laws.proofs.Powers.{exponent-le}

@@ -1,6 +1,6 @@
 -- The grounds 1 to 4 one after the other, as `check` meets them; and what is known of settings to which none of them applies.
 use mathlib.Core.Path.{_≡_, refl, sym, ap}
-use mathlib.Core.Bool.{false, true, not, Bool, _&&_, _||_}
+use mathlib.Core.Bool.{false, true, not, Bool, _&&_}
 use mathlib.Core.Option.{none}
 use mathlib.Core.List.{List}
 use Prim.Native.Nat.{ℕ, _<_, _%_, _≤_, _^_, zero, suc}
@@ -12,7 +12,7 @@ use Rattle.settings.specs.Grounds.{ground, refused, outcome, given}
 use Rattle.settings.specs.Limits.{EvenUnder, Limits}
 use Rattle.settings.specs.Settings.{goodLetters, settingsGround, settingsOf, isOdd, badSize, settingsFor, mirrorOf, classes}
 use Rattle.settings.proofs.Letters.{good-at-least, good-at-most}
-use Rattle.settings.proofs.Outcomes.{later-none, test-fails, first-none, passed}
+use Rattle.settings.proofs.Outcomes.{later-none, test-fails, first-none, both-fail, passed}
 use Rattle.settings.specs.declared.Mirror.the-variants.{Reversal, Complement}
 use Rattle.settings.specs.declared.Settings.{Settings}
 
@@ -29,7 +29,8 @@ module _ (l : List ℕ) (k m : ℕ) where
   unfolding settingsGround isOdd
   ground-3 e h o = rw (← e, h, eq-eqb (length l % 2) 1 o)
 
-  pub rest-0 : true ≡ goodLetters l → m ≡ 0 → outcome (ground 4 (badSize (length l) k)) (settingsFor (length l) k Reversal) ≡ outcome (settingsGround l k m) (settingsOf l k m)
+  pub rest-0 : true ≡ goodLetters l → m ≡ 0
+      → outcome (ground 4 (badSize (length l) k)) (settingsFor (length l) k Reversal) ≡ outcome (settingsGround l k m) (settingsOf l k m)
   unfolding settingsGround
   rest-0 e h = rw (← e, h)
 
@@ -43,10 +44,6 @@ module _ (l : List ℕ) (k m : ℕ) where
 not-and : (a b : Bool) → (a && b) ≡ false → a ≡ true → b ≡ false
 not-and true b e f = e
 not-and false b e f = let z : true ≡ false = cc in absurd (let y : _≡_ {A = ℕ} 0 1 = cc in omega arith)
-
-not-or : (a b : Bool) → (a || b) ≡ false → (a ≡ false) × (b ≡ false)
-not-or true b e = absurd (let z : _≡_ {A = ℕ} 0 1 = cc in omega arith)
-not-or false b e = (refl, e)
 
 -- Settings within the limits of document 01.
 pub record GoodSettings (l : List ℕ) (k m : ℕ) : Type 0 where
@@ -64,12 +61,14 @@ good-settings l k m e =
     let g3 = later-none (ground 2 (ltb 1 m)) _ g2 in
     let g4 = later-none (ground 3 (eqb m 1 && eqb (length l % 2) 1)) _ g3 in
     let good : true ≡ goodLetters l = sym (not-false (goodLetters l) (test-fails 1 _ (first-none _ _ e))) in
-    let size = not-or (eqb k 0) (ltb (2 ^ 62) (length l ^ k)) (test-fails 4 _ g4) in
+    let not-odd : m ≡ 1 → eqb (length l % 2) 1 ≡ false =
+    λ h. not-and (eqb m 1) (eqb (length l % 2) 1) (test-fails 3 _ (first-none _ _ g3)) (eq-eqb m 1 h) in
+    let size = both-fail (eqb k 0) (ltb (2 ^ 62) (length l ^ k)) (test-fails 4 _ g4) in
     record {
       two = good-at-least l good;
       few = good-at-most l good;
       low = ltb-false 1 m (test-fails 2 _ (first-none _ _ g2));
-      even = λ h. let o : length l % 2 ≡ 1 → ⊥ = eqb-false (length l % 2) 1 (not-and (eqb m 1) (eqb (length l % 2) 1) (test-fails 3 _ (first-none _ _ g3)) (eq-eqb m 1 h)) in omega arith;
+      even = λ h. let o : length l % 2 ≡ 1 → ⊥ = eqb-false (length l % 2) 1 (not-odd h) in omega arith;
       some-k = eqb-false k 0 (size .0);
       small = ltb-false (2 ^ 62) (length l ^ k) (size .1);
     }

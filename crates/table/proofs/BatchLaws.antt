@@ -21,7 +21,8 @@ use Rattle.fasta.proofs.Scans.{items-end}
 use Rattle.sequence.specs.declared.kernels.Coder.{Coder}
 use Rattle.laws.specs.Windows.{windows}
 use Rattle.sequence.specs.Needs.{Fills, Coding}
-use Rattle.sequence.proofs.Windows.{windows-none, length-codes}
+use Rattle.laws.proofs.Windows.{windows-none}
+use Rattle.sequence.proofs.Windows.{length-codes}
 use Rattle.table.specs.declared.batches.Gathered.{Gathered}
 use Rattle.table.specs.Table.{bumps}
 use Rattle.table.specs.Needs.{Each, Below, Room, RanksUnder, codesBy, cut, cutFrom, cutAfter, Gathers, Carries}

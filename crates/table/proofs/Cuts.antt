@@ -12,7 +12,8 @@ use Rattle.fasta.specs.declared.Item.the-variants.{Opens, Skip, Stray, Letter}
 use Rattle.fasta.specs.Items.{marks, runs, windowsOf}
 use Rattle.fasta.proofs.Stream.{windows-snoc, windowsFrom, windows-stream}
 use Rattle.laws.specs.Windows.{windows}
-use Rattle.sequence.proofs.Windows.{windows-none, batch}
+use Rattle.laws.proofs.Windows.{windows-none}
+use Rattle.sequence.proofs.Windows.{batch}
 use Rattle.table.specs.Needs.{markOfRank, markOf, cut}
 
 -- ---- all windows of a file

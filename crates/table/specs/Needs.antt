@@ -83,7 +83,8 @@ pub record Gathers (table r file : List ℕ) (mode : Mode) (i : ℕ) (g : Gather
   pub inside : _≤_ (g .at) (length file)
   pub fits : _≤_ (g .letters) (length array)
   pub ranks : (s : ℕ) → RanksUnder s table → Ranks s r → Ranks s (take (g .letters) array)
-  pub windows-are : (k : ℕ) → cutFrom (rankByTable table) k r file mode i ≡ cutAfter (g .ended) (rankByTable table) k (take (g .letters) array) file (g .mode) (g .at)
+  pub windows-are : (k : ℕ)
+      → cutFrom (rankByTable table) k r file mode i ≡ cutAfter (g .ended) (rankByTable table) k (take (g .letters) array) file (g .mode) (g .at)
   pub whole : g .ended ≡ false → g .letters ≡ length array
 
 -- What is kept in the array of the n letters at its start.

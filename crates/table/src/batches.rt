@@ -75,8 +75,19 @@ fn mark_of(it: Item, table: &[u8; 256]) -> Mark
     }
 }
 
+fn gathered_to(at: usize, mode: Mode, letters: usize, ended: bool) -> Gathered
+    ensures { λ r. ⌜ r ≡ record { at = at; mode = mode; letters = letters; ended = ended } ⌝ }
+{
+    Gathered {
+        at,
+        mode,
+        letters,
+        ended,
+    }
+}
+
 // Gathers letters of one run behind the first n of the array, from the place `from` of the file on. A byte that is no letter is written too, and
-// overwritten by the next: that saves a branch that could not be foreseen.
+// overwritten by the next: that saves a branch that could not be foreseen. A full array ends no run.
 fn gather(
     file: &[u8],
     table: &[u8; 256],
@@ -94,33 +105,18 @@ fn gather(
     let mut n = letters;
     while at < file.len() {
         if n == array.len() {
-            return Gathered {
-                at,
-                mode,
-                letters: n,
-                ended: false, // a full array ends no run
-            };
+            return gathered_to(at, mode, n, false);
         }
         let m = mark_of(fasta::item_at(file, at, mode), table);
         mode = fasta::next_mode(mode, file[at]);
         at += 1;
         if m.ends {
-            return Gathered {
-                at,
-                mode,
-                letters: n,
-                ended: true,
-            };
+            return gathered_to(at, mode, n, true);
         }
         array[n] = m.rank;
         n += m.letters;
     }
-    Gathered {
-        at,
-        mode,
-        letters: n,
-        ended: true,
-    }
+    gathered_to(at, mode, n, true)
 }
 
 // Moves count letters from the place `from` of the array to its start.

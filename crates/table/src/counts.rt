@@ -2,7 +2,7 @@
 use encoding::Code;
 ghost use mathlib.Core.Path.{_≡_};
 ghost use mathlib.Core.List.{_++_};
-ghost use Prim.Native.Nat.{_+_, _<_, _≤_, max};
+ghost use Prim.Native.Nat.{_<_, _≤_, max};
 ghost use lib.ListN.{length, getD, drop, replicate};
 ghost use Rattle.table.specs.Table.{bump, bumps, full};
 ghost use Rattle.table.specs.Needs.{Each, Below, Room, highestOf};

@@ -2,7 +2,6 @@
 use borrow.Author.Needs.{needs}
 use borrow.Author.Tests.{le-leb, lt-leb}
 use native.Mathlib.Omega.{arith}
-use mathlib.Core.Bool.{and-false}
 use Rattle.settings.specs.Settings.{capitalOf}
 use Rattle.settings.proofs.capital.Statement.{statement}
 use Rattle.settings.proofs.capital.Tie as tie

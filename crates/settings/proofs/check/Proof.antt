@@ -1,7 +1,6 @@
 -- `settings::check` meets its contract.
 use native.Mathlib.Omega.{arith}
-use mathlib.Core.Path.{_≡_, refl, sym, ap, _∙_}
-use Prim.Native.Nat.{ℕ}
+use mathlib.Core.Path.{sym, _∙_}
 use borrow.Author.Tests.{not-true, not-false}
 use Rattle.settings.proofs.Letters.{good-at-least, good-at-most}
 use Rattle.settings.proofs.SettingsGrounds.{ground-1, ground-2, ground-3, rest-0, rest-1}

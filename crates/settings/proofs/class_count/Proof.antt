@@ -1,12 +1,27 @@
--- `settings::class_count` meets its contract.
+-- `settings::class_count` meets its contract: by cases on the mirror and on whether k is odd, from the laws of proofs/ClassCount.antt.
 use native.Mathlib.Omega.{arith}
-use mathlib.Core.Path.{_≡_, refl, sym, ap, _∙_}
-use Prim.Native.Nat.{ℕ, _*_, _^_, _≤_}
+use mathlib.Core.Path.{_≡_, sym, ap, _∙_}
+use Prim.Native.Nat.{ℕ}
+use Rattle.settings.specs.declared.Mirror.{Mirror}
 use Rattle.settings.specs.Settings.{classes}
-use Rattle.settings.proofs.ClassCount.{half-is, next-le, odd-reversal, even-reversal, odd-complement, even-complement}
+use Rattle.settings.proofs.ClassCount.{Powered, odd-fits, odd-reversal, even-reversal, odd-complement, even-complement}
 use borrow.Author.Needs.{needs}
 use Rattle.settings.proofs.class_count.Statement.{statement}
 use Rattle.settings.proofs.class_count.Tie as tie
+
+-- After its two calls the function has s^k and s^(k/2).
+powered : (c : tie.After-power2) → Powered (c .before .before .args .s) (c .before .before .args .k) (c .before .power .result) (c .power2 .result)
+powered c =
+    record {
+      two = c .before .before .pre .0;
+      small = c .before .before .pre .1;
+      words-by = c .before .power .ensures;
+      half-by = c .power2 .ensures;
+    }
+
+-- The classes under a mirror that a match told.
+under : {m told : Mirror} (s k : ℕ) → m ≡ told → classes s told k ≡ classes s m k
+under s k e = ap (λ (m : Mirror). classes s m k) (sym e)
 
 power-requires : tie.Need-power-requires
 power-requires c κs = search needs
@@ -18,20 +33,10 @@ enum-told : tie.Need-enum-told
 enum-told c = search needs
 
 mul-result : tie.Need-mul-result
-mul-result c =
-    let told = c .before in
-    let p1 = told .before .before .before in
-    let s = p1 .before .args .s in
-    let k = p1 .before .args .k in
-    omega (arith, next-le s k (p1 .before .pre .0) (p1 .before .pre .1) (c .if1 .taken), ap (λ (h : ℕ). h * s) (half-is s k (p1 .before .pre .0) (p1 .before .pre .1) _ _ (p1 .power .ensures) (told .before .before .power2 .ensures)))
+mul-result c = omega (arith, odd-fits _ _ _ _ (powered (c .before .before .before)) (c .if1 .taken))
 
 add-result : tie.Need-add-result
-add-result c =
-    let told = c .before in
-    let p1 = told .before .before .before in
-    let s = p1 .before .args .s in
-    let k = p1 .before .args .k in
-    omega (arith, next-le s k (p1 .before .pre .0) (p1 .before .pre .1) (c .if1 .taken), ap (λ (h : ℕ). h * s) (half-is s k (p1 .before .pre .0) (p1 .before .pre .1) _ _ (p1 .power .ensures) (told .before .before .power2 .ensures)))
+add-result c = omega (arith, odd-fits _ _ _ _ (powered (c .before .before .before)) (c .if1 .taken))
 
 add-result-2 : tie.Need-add-result-2
 add-result-2 c = search needs
@@ -45,34 +50,22 @@ add-result-3 c = search needs
 returns : tie.Need-returns
 returns c =
     let told = c .before in
-    let p1 = told .before .before .before in
-    let a = p1 .before .args in
-    odd-reversal (a .s) (a .k) (p1 .before .pre .0) (p1 .before .pre .1) _ _ (p1 .power .ensures) (told .before .before .power2 .ensures) (c .if1 .taken)
-    ∙ sym (ap (λ m. classes (a .s) m (a .k)) (told .enum-told .given .1))
+    odd-reversal _ _ _ _ (powered (told .before .before)) (c .if1 .taken) ∙ under _ _ (told .enum-told .given .1)
 
 returns-2 : tie.Need-returns-2
 returns-2 c =
     let told = c .before in
-    let p1 = told .before .before .before in
-    let a = p1 .before .args in
-    even-reversal (a .s) (a .k) (p1 .before .pre .0) (p1 .before .pre .1) _ _ (p1 .power .ensures) (told .before .before .power2 .ensures) (c .if1 .left)
-    ∙ sym (ap (λ m. classes (a .s) m (a .k)) (told .enum-told .given .1))
+    even-reversal _ _ _ _ (powered (told .before .before)) (c .if1 .left) ∙ under _ _ (told .enum-told .given .1)
 
 returns-3 : tie.Need-returns-3
 returns-3 c =
     let told = c .before in
-    let p1 = told .before .before .before in
-    let a = p1 .before .args in
-    odd-complement (a .s) (a .k) (p1 .before .pre .0) (p1 .before .pre .1) _ _ (p1 .power .ensures) (told .before .before .power2 .ensures) (c .if2 .taken)
-    ∙ sym (ap (λ m. classes (a .s) m (a .k)) (told .enum-told2 .given .1))
+    odd-complement _ _ _ _ (powered (told .before .before)) (c .if2 .taken) ∙ under _ _ (told .enum-told2 .given .1)
 
 returns-4 : tie.Need-returns-4
 returns-4 c =
     let told = c .before in
-    let p1 = told .before .before .before in
-    let a = p1 .before .args in
-    even-complement (a .s) (a .k) (p1 .before .pre .0) (p1 .before .pre .1) _ _ (p1 .power .ensures) (told .before .before .power2 .ensures) (c .if2 .left)
-    ∙ sym (ap (λ m. classes (a .s) m (a .k)) (told .enum-told2 .given .1))
+    even-complement _ _ _ _ (powered (told .before .before)) (c .if2 .left) ∙ under _ _ (told .enum-told2 .given .1)
 
 pub class-count-spec : {M : Type 1} → statement M
 class-count-spec =

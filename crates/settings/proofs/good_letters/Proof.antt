@@ -1,6 +1,6 @@
 -- `settings::good_letters` meets its contract. The invariant: the letters are good where those that are left are different capitals.
-use mathlib.Core.Path.{_≡_, refl, sym, _∙_}
-use Prim.Native.Nat.{_-_, _+_}
+use mathlib.Core.Path.{_≡_, sym, _∙_}
+use Prim.Native.Nat.{_-_}
 use native.Mathlib.Omega.{arith}
 use lib.ListN.{length, drop}
 use borrow.Author.Needs.{needs}
@@ -59,8 +59,9 @@ loop-again : tie.Need-loop-again Inv-loop μ-loop
 loop-again c =
     let known = c .before .before .before .before in
     let at = known .before .before in
-    at .loop .inv
-    ∙ fine _ (at .loop .i) (known .before .loop-test .taken) (c .before .before .before .if3 .left) (c .before .before .if4 .left) (sym (c .if5 .left) ∙ c .before .is-in .ensures)
+    let not-again = sym (c .if5 .left) ∙ c .before .is-in .ensures in
+    let low = c .before .before .before .if3 .left in
+    at .loop .inv ∙ fine _ (at .loop .i) (known .before .loop-test .taken) low (c .before .before .if4 .left) not-again
 
 returns-6 : tie.Need-returns-6 Inv-loop μ-loop
 returns-6 c = all-fine _ (c .before .loop .i) (c .loop-test .left) ∙ sym (c .before .loop .inv)

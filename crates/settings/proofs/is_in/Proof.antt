@@ -1,6 +1,6 @@
 -- `settings::is_in` meets its contract. The invariant: what is left of the letters isIn b where all of them from the start have it.
 use mathlib.Core.Path.{_≡_, refl, sym, _∙_}
-use Prim.Native.Nat.{_-_, _+_}
+use Prim.Native.Nat.{_-_}
 use native.Mathlib.Omega.{arith}
 use lib.ListN.{length, drop}
 use Rattle.settings.specs.Settings.{isIn}

@@ -1,6 +1,6 @@
 -- `settings::power` meets its contract. The invariant: p is s to the i, and at most 2^62. The measure, 63 - i, shows that the loop ends
 -- after at most 63 turns whatever k is.
-use mathlib.Core.Path.{_≡_, refl, sym, ap, _∙_}
+use mathlib.Core.Path.{_≡_, sym, ap, _∙_}
 use Prim.Native.Nat.{ℕ, _-_, _^_, _≤_}
 use native.Mathlib.Nat.{pow-zero, le-antisymm}
 use native.Mathlib.Omega.{arith}
@@ -23,12 +23,14 @@ div-if1 c = omega arith
 returns : tie.Need-returns Inv-loop μ-loop
 returns c =
     let loop = c .before .before in
-    too-big (loop .before .args .s) (loop .before .args .k) (loop .loop .p) (loop .loop .i) (loop .before .pre) (loop .loop .inv .1) (c .before .loop-test .taken) (c .if1 .taken)
+    let a = loop .before .args in
+    too-big (a .s) (a .k) (loop .loop .p) (loop .loop .i) (loop .before .pre) (loop .loop .inv .1) (c .before .loop-test .taken) (c .if1 .taken)
 
 mul-p : tie.Need-mul-p Inv-loop μ-loop
 mul-p c =
     let loop = c .before .before in
-    omega (arith, fits (loop .before .args .s) (loop .before .args .k) (loop .loop .p) (loop .loop .i) (loop .before .pre) (loop .loop .inv .1) (c .if1 .left))
+    let a = loop .before .args in
+    omega (arith, fits (a .s) (a .k) (loop .loop .p) (loop .loop .i) (loop .before .pre) (loop .loop .inv .1) (c .if1 .left))
 
 add-i : tie.Need-add-i Inv-loop μ-loop
 add-i c = omega arith
@@ -36,14 +38,16 @@ add-i c = omega arith
 loop-less : tie.Need-loop-less Inv-loop μ-loop
 loop-less c =
     let loop = c .before .before in
-    let start = loop .before in
-    omega (arith, few-turns (start .args .s) (start .args .k) (loop .loop .p) (loop .loop .i) (start .pre) (loop .loop .inv .1) (loop .loop .inv .2))
+    let a = loop .before .args in
+    omega (arith, few-turns (a .s) (a .k) (loop .loop .p) (loop .loop .i) (loop .before .pre) (loop .loop .inv .1) (loop .loop .inv .2))
 
 loop-again : tie.Need-loop-again Inv-loop μ-loop
 loop-again c =
     let loop = c .before .before in
-    let start = loop .before in
-    (omega arith, power-next (start .args .s) (start .args .k) (loop .loop .p) (loop .loop .i) (start .pre) (loop .loop .inv .1), fits (start .args .s) (start .args .k) (loop .loop .p) (loop .loop .i) (start .pre) (loop .loop .inv .1) (c .if1 .left))
+    let a = loop .before .args in
+    let next = power-next (a .s) (a .k) (loop .loop .p) (loop .loop .i) (loop .before .pre) (loop .loop .inv .1) in
+    let still = fits (a .s) (a .k) (loop .loop .p) (loop .loop .i) (loop .before .pre) (loop .loop .inv .1) (c .if1 .left) in
+    (omega arith, next, still)
 
 returns-2 : tie.Need-returns-2 Inv-loop μ-loop
 returns-2 c =

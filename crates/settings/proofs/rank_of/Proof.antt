@@ -5,7 +5,6 @@ use native.Mathlib.Omega.{arith}
 use borrow.Author.Needs.{needs}
 use lib.ListN.{length, drop}
 use denote.Ref.{now}
-use mathlib.Core.Option.{Option}
 use Rattle.settings.specs.Settings.{placeFrom}
 use Rattle.settings.proofs.Ranks.{place-here, place-next, place-none}
 use Rattle.settings.proofs.rank_of.Statement.{statement}

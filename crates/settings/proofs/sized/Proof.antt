@@ -1,8 +1,8 @@
 -- `settings::sized` meets its contract.
 use Rattle.settings.proofs.ClassCount.{no-k, large-k, good-k}
 use native.Mathlib.Omega.{arith}
-use mathlib.Core.Path.{_≡_, refl, sym, ap, _∙_}
-use Prim.Native.Nat.{ℕ, _*_, _^_, _≤_}
+use mathlib.Core.Path.{_≡_}
+use Prim.Native.Nat.{_^_, _≤_}
 use borrow.Author.Needs.{needs}
 use Rattle.settings.proofs.sized.Statement.{statement}
 use Rattle.settings.proofs.sized.Tie as tie

@@ -2,47 +2,42 @@
 use Rattle.table.proofs.CallGrounds.{takes-letters, classes-of, ranks-under, places-by-table, n-windows-by-table, few-windows, whole-table}
 use mathlib.Core.Path.{sym, ap, _∙_}
 use native.Mathlib.Omega.{arith}
+use lib.ListN.{length}
 use lib.Seq.{length-take-le}
 use denote.Ref.{now}
 use Rattle.settings.specs.declared.Settings.{Settings}
+use Rattle.sequence.specs.Needs.{Takes}
 use Rattle.sequence.proofs.SequenceGrounds.{s-is, coder-ready, palindromes-fit, power-ready}
 use borrow.Author.Needs.{needs}
 use Rattle.table.proofs.add_scanned.Statement.{statement}
 use Rattle.table.proofs.add_scanned.Tie as tie
+
+-- Where the function began, from the place at which its kernel was chosen; and that this kernel is one for the settings' letters.
+abbrev start : tie.After-kernel-for → tie.Start
+start c = c .before .before .before .before
+
+takes : (c : tie.After-kernel-for) → Takes (c .kernel-for .result) (length (now (start c .args .letters))) (start c .args .mirror)
+takes c =
+    let a = start c .args in
+    takes-letters (now (a .letters)) (a .k) (a .mirror) (a .st) (c .kernel-for .result) (start c .pre .1 .0) (c .kernel-for .ensures)
 
 kernel-for-requires : tie.Need-kernel-for-requires
 kernel-for-requires c κs = search needs
 
 power-table-requires : tie.Need-power-table-requires
 power-table-requires c κs =
-    let kernel = c in
-    let start = kernel .before .before .before .before in
-    let a = start .args in
-    let letters = now (a .letters) in
-    let found = kernel .kernel-for .result in
-    let takes = takes-letters letters (a .k) (a .mirror) (a .st) found (start .pre .1 .0) (kernel .kernel-for .ensures) in
-    let p = power-ready letters (a .k) (a .mirror) (start .pre .0) found takes (a .st) (start .pre .1 .0) in
+    let p = power-ready _ _ _ (start c .pre .0) (c .kernel-for .result) (takes c) _ (start c .pre .1 .0) in
     (p .0, p .1)
 
 mul-t14 : tie.Need-mul-t14
 mul-t14 c =
     let kernel = c .before .before in
-    let start = kernel .before .before .before .before in
-    let a = start .args in
-    let letters = now (a .letters) in
-    let found = kernel .kernel-for .result in
-    let takes = takes-letters letters (a .k) (a .mirror) (a .st) found (start .pre .1 .0) (kernel .kernel-for .ensures) in
-    record { fits = palindromes-fit letters (a .k) (a .mirror) (start .pre .0) found takes (a .st) (start .pre .1 .0) .0 }
+    record { fits = palindromes-fit _ _ _ (start kernel .pre .0) (kernel .kernel-for .result) (takes kernel) _ (start kernel .pre .1 .0) .0 }
 
 sub-t15 : tie.Need-sub-t15
 sub-t15 c =
     let kernel = c .before .before .before in
-    let start = kernel .before .before .before .before in
-    let a = start .args in
-    let letters = now (a .letters) in
-    let found = kernel .kernel-for .result in
-    let takes = takes-letters letters (a .k) (a .mirror) (a .st) found (start .pre .1 .0) (kernel .kernel-for .ensures) in
-    palindromes-fit letters (a .k) (a .mirror) (start .pre .0) found takes (a .st) (start .pre .1 .0) .1
+    palindromes-fit _ _ _ (start kernel .pre .0) (kernel .kernel-for .result) (takes kernel) _ (start kernel .pre .1 .0) .1
 
 slice-relend-prefix-count-unless-full : tie.Need-slice-relend-prefix-count-unless-full
 slice-relend-prefix-count-unless-full c =
@@ -60,19 +55,17 @@ count-unless-full-requires : tie.Need-count-unless-full-requires
 count-unless-full-requires c κs =
     let powers = c .before .before .before .before in
     let kernel = powers .before in
-    let start = kernel .before .before .before .before in
-    let a = start .args in
-    let letters = now (a .letters) in
-    let found = kernel .kernel-for .result in
-    let takes = takes-letters letters (a .k) (a .mirror) (a .st) found (start .pre .1 .0) (kernel .kernel-for .ensures) in
-    let pre = start .pre .1 .1 in
-    let classes-are = ap (λ (x : Settings). x .classes) (start .pre .1 .0) in
-    let coding = coder-ready letters (a .k) (a .mirror) (start .pre .0) found takes (a .st) (start .pre .1 .0) (powers .power-table .ensures) in
-    let under = ranks-under letters (now (a .ranks)) (a .st .s) (s-is letters (a .k) (a .mirror) (start .pre .0) found takes (a .st) (start .pre .1 .0)) (pre .0) in
-    let n-counts = length-take-le (a .st .classes) (now (a .table)) (omega (arith, classes-are, pre .1 .1)) in
-    let n-windows = n-windows-by-table letters (a .k) (now (a .file)) (a .n) (pre .1 .0) (now (a .ranks)) (pre .0) in
-    let few = few-windows letters (a .k) (now (a .file)) (a .n) (pre .1 .0) (a .mirror) (start .pre .0) in
-    (coding, (under, (n-counts ∙ classes-of letters (a .k) (a .mirror) (a .st) (start .pre .1 .0), (n-windows, few))))
+    let good = start kernel .pre .0 in
+    let st-is = start kernel .pre .1 .0 in
+    let pre = start kernel .pre .1 .1 in
+    let classes-are = ap (λ (x : Settings). x .classes) st-is in
+    let coding = coder-ready _ _ _ good (kernel .kernel-for .result) (takes kernel) _ st-is (powers .power-table .ensures) in
+    let under = ranks-under _ _ _ (s-is _ _ _ good (kernel .kernel-for .result) (takes kernel) _ st-is) (pre .0) in
+    let a = start kernel .args in
+    let n-taken = length-take-le (a .st .classes) (now (a .table)) (omega (arith, classes-are, pre .1 .1)) in
+    let n-counts = n-taken ∙ classes-of (now (a .letters)) (a .k) (a .mirror) (a .st) st-is in
+    let n-windows = n-windows-by-table _ _ _ _ (pre .1 .0) _ (pre .0) in
+    (coding, (under, (n-counts, (n-windows, few-windows _ _ _ _ (pre .1 .0) _ good))))
 
 same-length : tie.Need-same-length
 same-length c = search needs
@@ -81,17 +74,14 @@ returns : tie.Need-returns
 returns c =
     let count = c .before .before in
     let kernel = count .before .before .before .before .before .before in
-    let start = kernel .before .before .before .before in
-    let a = start .args in
-    let letters = now (a .letters) in
-    let found = kernel .kernel-for .result in
-    let takes = takes-letters letters (a .k) (a .mirror) (a .st) found (start .pre .1 .0) (kernel .kernel-for .ensures) in
-    let pre = start .pre .1 .1 in
-    let s-are = s-is letters (a .k) (a .mirror) (start .pre .0) found takes (a .st) (start .pre .1 .0) in
-    let places-are = places-by-table letters (a .k) (a .mirror) (now (a .ranks)) (now (a .file)) (a .st .s) s-are (pre .0) in
-    let classes-are = ap (λ (x : Settings). x .classes) (start .pre .1 .0) in
-    whole-table letters (a .k) (a .mirror) (now (a .table)) (now (a .file)) (start .pre .0) (pre .1 .1) (a .n) (pre .1 .0) (a .st .classes) _ _ _
-    classes-are places-are (count .count-unless-full .ensures)
+    let good = start kernel .pre .0 in
+    let st-is = start kernel .pre .1 .0 in
+    let pre = start kernel .pre .1 .1 in
+    let a = start kernel .args in
+    let s-are = s-is _ _ _ good (kernel .kernel-for .result) (takes kernel) _ st-is in
+    let places-are = places-by-table _ (a .k) (a .mirror) _ (now (a .file)) _ s-are (pre .0) in
+    let classes-are = ap (λ (x : Settings). x .classes) st-is in
+    whole-table _ _ _ _ _ good (pre .1 .1) _ (pre .1 .0) _ _ _ _ classes-are places-are (count .count-unless-full .ensures)
 
 pub add-scanned-spec : {M : Type 1} → statement M
 add-scanned-spec =

@@ -19,13 +19,19 @@ abbrev μ-loop : tie.MeasureT-loop
 loop-holds : tie.Need-loop-holds Inv-loop μ-loop
 loop-holds c = let pre = c .before .before .pre in (refl, gathering-none (pre .0) (pre .1))
 
+gathered-to-requires : tie.Need-gathered-to-requires Inv-loop μ-loop
+gathered-to-requires c κs = search needs
+
 same-length : tie.Need-same-length Inv-loop μ-loop
-same-length c = c .before .before .loop .inv .0
+same-length c = c .before .before .before .loop .inv .0
 
 returns : tie.Need-returns Inv-loop μ-loop
 returns c =
-    let loop = c .before .before in
-    gathered-full (loop .loop .inv .1) (omega (arith, loop .before .before .before .pre .1, loop .loop .inv .0)) (c .if1 .taken)
+    let full = c .before in
+    let loop = full .before .before in
+    let start = loop .before .before .before in
+    rw (c .gathered-to .ensures)
+    (gathered-full (loop .loop .inv .1) (omega (arith, start .pre .1, loop .loop .inv .0)) (full .if1 .taken))
 
 item-at-requires : tie.Need-item-at-requires Inv-loop μ-loop
 item-at-requires c κs = omega arith
@@ -42,17 +48,22 @@ next-mode-requires c κs = search needs
 add-at : tie.Need-add-at Inv-loop μ-loop
 add-at c = omega arith
 
+gathered-to-requires-2 : tie.Need-gathered-to-requires-2 Inv-loop μ-loop
+gathered-to-requires-2 c κs = search needs
+
 same-length-2 : tie.Need-same-length-2 Inv-loop μ-loop
-same-length-2 c = c .before .before .before .before .before .before .before .loop .inv .0
+same-length-2 c = c .before .before .before .before .before .before .before .before .loop .inv .0
 
 returns-2 : tie.Need-returns-2 Inv-loop μ-loop
 returns-2 c =
-    let next = c .before in
+    let ends = c .before in
+    let next = ends .before in
     let mark = next .before .before in
     let item = mark .before in
     let test = item .before .before in
-    gathered-run (test .before .loop .inv .1) (test .loop-test .taken) _ (item .item-at .ensures) _ (mark .mark-of .ensures) _
-    (next .next-mode .ensures) (c .if2 .taken)
+    rw (c .gathered-to2 .ensures)
+    (gathered-run (test .before .loop .inv .1) (test .loop-test .taken) _ (item .item-at .ensures) _ (mark .mark-of .ensures) _
+    (next .next-mode .ensures) (ends .if2 .taken))
 
 slice-write-array : tie.Need-slice-write-array Inv-loop μ-loop
 slice-write-array c =
@@ -92,11 +103,17 @@ loop-again c =
           (omega (arith, known .shared-slice-known2 .given (loop .loop .at))) (omega (arith, loop .loop .inv .1 .fits, if1 .if1 .left)) (if2 .if2 .left),
     )
 
+gathered-to-requires-3 : tie.Need-gathered-to-requires-3 Inv-loop μ-loop
+gathered-to-requires-3 c κs = search needs
+
 same-length-3 : tie.Need-same-length-3 Inv-loop μ-loop
-same-length-3 c = c .before .loop .inv .0
+same-length-3 c = c .before .before .loop .inv .0
 
 returns-3 : tie.Need-returns-3 Inv-loop μ-loop
-returns-3 c = let loop = c .before in gathered-all (loop .loop .inv .1) (loop .before .before .before .pre .0) (c .loop-test .left)
+returns-3 c =
+    let end = c .before in
+    let loop = end .before in
+    rw (c .gathered-to3 .ensures) (gathered-all (loop .loop .inv .1) (loop .before .before .before .pre .0) (end .loop-test .left))
 
 pub gather-spec : {M : Type 1} → statement M
 gather-spec =
@@ -105,6 +122,7 @@ gather-spec =
     Inv-loop
     μ-loop
     loop-holds
+    gathered-to-requires
     same-length
     returns
     item-at-requires
@@ -112,11 +130,13 @@ gather-spec =
     shared-slice-read-next-mode
     next-mode-requires
     add-at
+    gathered-to-requires-2
     same-length-2
     returns-2
     slice-write-array
     add-n
     loop-less
     loop-again
+    gathered-to-requires-3
     same-length-3
     returns-3)
