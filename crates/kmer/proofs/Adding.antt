@@ -1,7 +1,7 @@
 -- What adding through the C call rests on: which ground applies at each of its tests, that the P of each refusal is at most 16,777,216, and the call's
 -- answer, table and list from those of `table::add`.
 use mathlib.Core.Path.{_≡_, refl, sym, ap, _∙_}
-use mathlib.Core.Bool.{Bool, true, false, cond, _||_}
+use mathlib.Core.Bool.{Bool, true, false, _||_}
 use mathlib.Core.Option.{Option, none, some}
 use mathlib.Core.List.{List, [], _∷_, _++_}
 use Prim.Native.Nat.{ℕ, suc, _+_, _*_, _^_, _<_, _≤_}
@@ -12,10 +12,10 @@ use lib.ListN.{length, drop, set}
 use Rattle.settings.specs.declared.Refusal.{Refusal}
 use Rattle.settings.specs.declared.Settings.{Settings}
 use Rattle.settings.specs.declared.Checked.{Checked}
-use Rattle.settings.specs.declared.Checked.the-variants.{Good}
+use Rattle.settings.specs.declared.Checked.the-variants.{Good, Bad}
 use Rattle.settings.specs.Grounds.{Ground, Outcome, given, refused, groundOf, ground, groundAt, tooShort, outcome, _orElse_}
 use Rattle.settings.specs.Settings.{rankIn, settingsGround, settingsOf, ofChecked}
-use Rattle.settings.proofs.Outcomes.{refused-on, passed, test-fails}
+use Rattle.settings.proofs.Outcomes.{refused-on, refused-is, passed, test-fails, both-fail}
 use Rattle.settings.proofs.SettingsGrounds.{Known, known}
 use Rattle.settings.proofs.Places.{Small, test-small, place-small, then-small, room-small, settings-small}
 use Rattle.fasta.specs.declared.Item.{Item}
@@ -25,7 +25,8 @@ use Rattle.fasta.specs.declared.Mode.the-variants.{Start}
 use Rattle.fasta.specs.File.{items, faultFrom, fileFault, fileNumbers}
 use Rattle.fasta.specs.Scan.{tooLong}
 use Rattle.fasta.proofs.Runs.{items-length}
-use Rattle.table.specs.Table.{classCount, bumps, places, tooMany, addGround, clearGround, lateTable, tableGround, unlessRefused, Added}
+use Rattle.table.specs.Table.{classCount, tooMany, addGround, clearGround, lateTable, tableGround, Added}
+use Rattle.kmer.proofs.Refusals.{refused-fits}
 use Rattle.kmer.specs.Adding.{readyGround, addIntoGround, fiveNumbers, AddsInto}
 
 -- ---- how large P can be
@@ -39,28 +40,26 @@ fault-below opened at (Stray ∷ is) g e = let p : at ≡ g .1 = cc in omega ari
 fault-below true at (Letter b ∷ is) g e = omega (arith, fault-below true (suc at) is g e)
 fault-below false at (Letter b ∷ is) g e = let p : at ≡ g .1 = cc in omega arith
 
-or-fails : (a b : Bool) → (a || b) ≡ false → (a ≡ false) × (b ≡ false)
-or-fails true b e = absurd (let z : _≡_ {A = ℕ} 0 1 = cc in omega arith)
-or-fails false b e = (refl, e)
-
 -- Where ground 6 does not apply, the file and the classes are few enough.
 module _ (letters : List ℕ) (k m : ℕ) (file : List ℕ) (e : ground 6 (tooLong file || tooMany (classCount letters k m)) ≡ none) where
-  both-fail : (tooLong file ≡ false) × (tooMany (classCount letters k m) ≡ false)
-  both-fail = or-fails (tooLong file) (tooMany (classCount letters k m)) (test-fails 6 (tooLong file || tooMany (classCount letters k m)) e)
+  neither : (tooLong file ≡ false) × (tooMany (classCount letters k m) ≡ false)
+  neither = both-fail (tooLong file) (tooMany (classCount letters k m)) (test-fails 6 (tooLong file || tooMany (classCount letters k m)) e)
 
   file-short : length file ≤ 16777216
   unfolding tooLong
-  file-short = ltb-false 16777216 (length file) (both-fail .0)
+  file-short = ltb-false 16777216 (length file) (neither .0)
 
   classes-few : classCount letters k m ≤ 16777216
   unfolding tooMany
-  classes-few = ltb-false 16777216 (classCount letters k m) (both-fail .1)
+  classes-few = ltb-false 16777216 (classCount letters k m) (neither .1)
 
   fault-small : Small 16777216 (fileFault file)
   fault-small g f = omega (arith, fault-below false 0 (items file) g f, items-length Start file, file-short)
 
   room-fits : (room : ℕ) → Small 16777216 (groundAt 7 (tooShort room (classCount letters k m)))
-  room-fits room = place-small 16777216 7 (tooShort room (classCount letters k m)) (λ p f. omega (arith, room-small room (classCount letters k m) p f, classes-few))
+  room-fits room =
+      let needed = classCount letters k m in
+      place-small 16777216 7 (tooShort room needed) (λ p f. omega (arith, room-small room needed p f, classes-few))
 
 pub clear-small : (letters : List ℕ) (k m room : ℕ) → Small 16777216 (clearGround letters k m room)
 unfolding clearGround tooMany
@@ -73,7 +72,7 @@ clear-small letters k m room =
     let le = ltb-false 16777216 (classCount letters k m) (test-fails 6 (ltb 16777216 (classCount letters k m)) few) in
     place-small 16777216 7 (tooShort room (classCount letters k m)) (λ p f. omega (arith, room-small room (classCount letters k m) p f, le))))
 
-pub ready-small : (letters : List ℕ) (k m room : ℕ) (file : List ℕ) → Small 16777216 (readyGround letters k m room file)
+ready-small : (letters : List ℕ) (k m room : ℕ) (file : List ℕ) → Small 16777216 (readyGround letters k m room file)
 unfolding readyGround
 ready-small letters k m room file =
     let g6 = ground 6 (tooLong file || tooMany (classCount letters k m)) in
@@ -94,18 +93,12 @@ add-small letters k m room late file =
     (λ _. then-small 16777216 (fileFault file) g12 (fault-small letters k m file few)
     (λ _. test-small 16777216 12 late))))
 
--- A refusal that is the answer of a call with such grounds has a P that fits.
-refused-is : {A : Type 0} (f : Ground) (a : A) (g : Option Ground) → refused f ≡ outcome g a → g ≡ some f
-refused-is f a none e = absurd (let z : _≡_ {A = ℕ} 0 1 = cc in omega arith)
-refused-is f a (some g) e = cc
-
-pub refused-fits : {A : Type 0} (f : Refusal) (a : A) (g : Option Ground) → Small 16777216 g → refused (groundOf f) ≡ outcome g a → groundOf f .1 < 2 ^ 32
-refused-fits f a g small e = omega (arith, small (groundOf f) (refused-is (groundOf f) a g e))
-
+-- The P of a refused add fits.
 pub add-fits : (letters : List ℕ) (k m : ℕ) (t file t′ : List ℕ) (f : Refusal) (answer : Outcome Numbers) → Added letters k m t file answer t′
     → answer ≡ refused (groundOf f) → groundOf f .1 < 2 ^ 32
 add-fits letters k m t file t′ f answer A e =
-    refused-fits f _ (tableGround letters k m t file) (add-small letters k m (length t) (lateTable letters k m t file) file) (sym e ∙ A .answers)
+    let small = add-small letters k m (length t) (lateTable letters k m t file) file in
+    refused-fits f _ (tableGround letters k m t file) 16777216 small (omega arith) (sym e ∙ A .answers)
 
 -- ---- `ready`
 
@@ -123,7 +116,8 @@ module _ (letters : List ℕ) (k m room : ℕ) (file : List ℕ) where
     unfolding readyGround tooLong
     ready-long h = rw (good .none-applies, lt-ltb 16777216 (length file) h)
 
-    pub ready-many : length file ≤ 16777216 → 16777216 < st .classes → refused (6, 0) ≡ outcome (readyGround letters k m room file) (settingsOf letters k m)
+    pub ready-many : length file ≤ 16777216 → 16777216 < st .classes
+        → refused (6, 0) ≡ outcome (readyGround letters k m room file) (settingsOf letters k m)
     unfolding readyGround tooLong tooMany
     ready-many h g =
         let n : 16777216 < classCount letters k m = omega (arith, good .classes-are) in
@@ -137,13 +131,13 @@ module _ (letters : List ℕ) (k m room : ℕ) (file : List ℕ) where
       unfolding readyGround tooLong tooMany
       ready-short r =
           let n : room < classCount letters k m = omega (arith, good .classes-are) in
-          rw (good .none-applies, le-ltb 16777216 (length file) h, le-ltb 16777216 (classCount letters k m) few, lt-ltb room (classCount letters k m) n, good .classes-are)
+          rw (good .none-applies, le-ltb 16777216 (length file) h, le-ltb 16777216 _ few, lt-ltb room _ n, good .classes-are)
 
       pub ready-given : st .classes ≤ room → given st ≡ outcome (readyGround letters k m room file) (settingsOf letters k m)
       unfolding readyGround tooLong tooMany
       ready-given r =
           let n : classCount letters k m ≤ room = omega (arith, good .classes-are) in
-          rw (good .none-applies, le-ltb 16777216 (length file) h, le-ltb 16777216 (classCount letters k m) few, le-ltb room (classCount letters k m) n)
+          rw (good .none-applies, le-ltb 16777216 (length file) h, le-ltb 16777216 _ few, le-ltb room _ n)
           (ap given (passed (settingsOf letters k m) (settingsGround letters k m) e .value))
 
 -- ---- `write_numbers`
@@ -159,10 +153,17 @@ five-set (x₀ ∷ x₁ ∷ x₂ ∷ x₃ ∷ x₄ ∷ l) a b c d e h = refl
 
 -- ---- `kmer_add`
 
--- Settings that `ready` gives are under no ground.
-pub ready-none : (letters : List ℕ) (k m room : ℕ) (file : List ℕ) (r : Checked) → ofChecked r ≡ outcome (readyGround letters k m room file) (settingsOf letters k m)
-    → (st : Settings) → r ≡ Good st → readyGround letters k m room file ≡ none
-ready-none letters k m room file r e st g = passed (settingsOf letters k m) (readyGround letters k m room file) (sym (ap ofChecked g) ∙ e) .none-applies
+-- From the answer of `ready`: settings that it gives are under no ground, and a refusal is by one of its grounds, with a P that fits.
+module _ (letters : List ℕ) (k m room : ℕ) (file : List ℕ) (r : Checked)
+    (e : ofChecked r ≡ outcome (readyGround letters k m room file) (settingsOf letters k m)) where
+  pub ready-none : (st : Settings) → r ≡ Good st → readyGround letters k m room file ≡ none
+  ready-none st g = passed (settingsOf letters k m) (readyGround letters k m room file) (sym (ap ofChecked g) ∙ e) .none-applies
+
+  pub ready-refuses : (f : Refusal) → r ≡ Bad f → readyGround letters k m room file ≡ some (groundOf f)
+  ready-refuses f g = refused-is (groundOf f) (settingsOf letters k m) (readyGround letters k m room file) (sym (ap ofChecked g) ∙ e)
+
+  pub ready-fits : (f : Refusal) → r ≡ Bad f → groundOf f .1 < 2 ^ 32
+  ready-fits f g = omega (arith, ready-small letters k m room file (groundOf f) (ready-refuses f g))
 
 -- Three grounds that do not apply leave the later ones.
 after-ready : (a b c later : Option Ground) → a orElse b orElse c ≡ none → a orElse b orElse c orElse later ≡ later
@@ -172,14 +173,14 @@ after-ready none (some f) c later e = absurd (let z : _≡_ {A = ℕ} 0 1 = cc i
 after-ready (some f) b c later e = absurd (let z : _≡_ {A = ℕ} 0 1 = cc in omega arith)
 
 module _ (letters : List ℕ) (k m : ℕ) (t file old : List ℕ) where
-  kept : (f : Ground) → addIntoGround letters k m t file (length old) ≡ some f → (x : ℕ) → x ≡ 2 ^ 63 + f .1 * 256 + f .0 → AddsInto letters k m t file old x t old
+  kept : (f : Ground) → addIntoGround letters k m t file (length old) ≡ some f → (x : ℕ) → x ≡ 2 ^ 63 + f .1 * 256 + f .0
+      → AddsInto letters k m t file old x t old
   kept f e x h = record { returns = rw e h; table-left = rw e; answer-left = rw e }
 
-  pub into-bad : (f : Refusal) → refused (groundOf f) ≡ outcome (readyGround letters k m (length t) file) (settingsOf letters k m) → (x : ℕ)
+  pub into-bad : (f : Refusal) → readyGround letters k m (length t) file ≡ some (groundOf f) → (x : ℕ)
       → x ≡ 2 ^ 63 + groundOf f .1 * 256 + groundOf f .0 → AddsInto letters k m t file old x t old
   unfolding addIntoGround
-  into-bad f e x h =
-      kept (groundOf f) (rw (refused-is (groundOf f) (settingsOf letters k m) (readyGround letters k m (length t) file) e)) x h
+  into-bad f e x h = kept (groundOf f) (rw e) x h
 
   module _ (ready : readyGround letters k m (length t) file ≡ none) where
     pub into-short : length old < 5 → (x : ℕ) → x ≡ 2 ^ 63 + 5 * 256 + 7 → AddsInto letters k m t file old x t old

@@ -1,6 +1,4 @@
 -- The P of a refused listing is below 2^32: it is the number of classes or the length of a listing, both bounded.
-use mathlib.Core.Path.{_≡_}
-use mathlib.Core.Option.{none}
 use mathlib.Core.List.{List}
 use Prim.Native.Nat.{ℕ}
 use native.Mathlib.Omega.{arith}

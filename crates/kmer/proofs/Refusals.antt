@@ -1,9 +1,9 @@
 -- What the calls that return P rest on: the number of a refusal is small, and so is the P of each call, so that one number holds both; and the
 -- answer and buffer of such a call, from those of the call below it.
-use mathlib.Core.Path.{_≡_, refl, sym, ap, _∙_}
+use mathlib.Core.Path.{_≡_, sym, ap, _∙_}
 use mathlib.Core.Option.{Option, none, some}
 use mathlib.Core.List.{List, [], _∷_}
-use Prim.Native.Nat.{ℕ, suc, _+_, _*_, _^_, _<_, _≤_}
+use Prim.Native.Nat.{ℕ, suc, _+_, _^_, _<_, _≤_}
 use native.Mathlib.Omega.{arith}
 use lib.Dec.{ltb}
 use lib.ListN.{length}
@@ -12,15 +12,15 @@ use Rattle.laws.specs.Windows.{windows}
 use Rattle.laws.proofs.Powers.{exponent-le}
 use Rattle.settings.specs.declared.Refusal.{Refusal}
 use Rattle.settings.specs.declared.Refusal.the-variants.{BadLetters, BadMirror, OddComplement, BadK, WrongLength, TooLarge, ShortBuffer, NoSuchCode, ForeignByte, StrayByte, EarlyLetter, CountsFull, NoSurveyLine, LongInput}
-use Rattle.settings.specs.Grounds.{Ground, Outcome, given, refused, groundOf, ground, groundAt, tooShort, outcome, _orElse_, Overwrites}
+use Rattle.settings.specs.Grounds.{Ground, Outcome, refused, groundOf, ground, groundAt, tooShort, outcome, _orElse_, Overwrites}
 use Rattle.settings.specs.Settings.{rankIn, settingsGround}
-use Rattle.settings.proofs.Outcomes.{test-fails}
+use Rattle.settings.proofs.Outcomes.{refused-is, test-fails}
 use Rattle.settings.proofs.SettingsGrounds.{limits, good-settings}
 use Rattle.settings.proofs.Places.{Small, test-small, place-small, then-small, room-small, settings-small}
 use Rattle.encoding.specs.Calls.{hereOr, foreignFrom, wrongLength, mirrorGround}
 use Rattle.sequence.specs.Sequences.{sequenceGround}
 use Rattle.sequence.proofs.Windows.{length-windows}
-use Rattle.kmer.specs.Returned.{returnedWithPlace, ReturnsPlaces}
+use Rattle.kmer.specs.Returned.{ReturnsPlaces}
 
 pub number-small : (f : Refusal) → groundOf f .0 ≤ 14
 number-small BadLetters = omega arith
@@ -40,21 +40,18 @@ number-small LongInput = omega arith
 
 -- ---- the answer as one number
 
-module _ {g : Option Ground} {count : ℕ} {places old new : List ℕ} {answer : Outcome ℕ} (W : Overwrites g count places old answer new) where
-  pub returns-count : (n : ℕ) → answer ≡ given n → ReturnsPlaces g count places old n new
-  returns-count n e = record { returns = ap returnedWithPlace (sym e ∙ W .answers); leaves = W .leaves }
+-- A refusal by grounds whose P is at most n has a P that fits beside its number.
+pub refused-fits : {A : Type 0} (f : Refusal) (a : A) (g : Option Ground) (n : ℕ) → Small n g → n < 2 ^ 32 → refused (groundOf f) ≡ outcome g a
+    → groundOf f .1 < 2 ^ 32
+refused-fits f a g n small h e = omega (arith, small (groundOf f) (refused-is (groundOf f) a g e))
 
-  module _ (f : Refusal) (e : answer ≡ refused (groundOf f)) where
-    pub returns-refusal : (x : ℕ) → x ≡ 2 ^ 63 + groundOf f .1 * 256 + groundOf f .0 → ReturnsPlaces g count places old x new
-    returns-refusal x h = record { returns = h ∙ ap returnedWithPlace (sym e ∙ W .answers); leaves = W .leaves }
+-- From a call below that overwrote the buffer and answered a.
+module _ {g : Option Ground} {count : ℕ} {places old new : List ℕ} {a : Outcome ℕ} (W : Overwrites g count places old a new) where
+  pub returns-answer : (number : Outcome ℕ → ℕ) (told : Outcome ℕ) → a ≡ told → (x : ℕ) → x ≡ number told → ReturnsPlaces number g count places old x new
+  returns-answer number told e x h = record { returns = h ∙ ap number (sym e ∙ W .answers); leaves = W .leaves }
 
-    -- A P of at most n fits.
-    pub place-fits : (n : ℕ) → Small n g → n < 2 ^ 32 → groundOf f .1 < 2 ^ 32
-    place-fits n small h = go g small (sym e ∙ W .answers)
-      where
-        go : (o : Option Ground) → Small n o → refused (groundOf f) ≡ outcome o count → groundOf f .1 < 2 ^ 32
-        go none s x = absurd (let z : _≡_ {A = ℕ} 0 1 = cc in omega arith)
-        go (some o) s x = let same : groundOf f ≡ o = cc in rw same (omega (arith, s o refl))
+  pub place-fits : (n : ℕ) → Small n g → n < 2 ^ 32 → (f : Refusal) → a ≡ refused (groundOf f) → groundOf f .1 < 2 ^ 32
+  place-fits n small h f e = refused-fits f count g n small h (sym e ∙ W .answers)
 
 -- ---- the P of a refused mirroring is at most 62
 
@@ -63,7 +60,8 @@ unfolding foreignFrom
 foreign-small letters n [] p e = absurd (let z : _≡_ {A = ℕ} 0 1 = cc in omega arith)
 foreign-small letters n (b ∷ bs) p e = go (rankIn letters b) (foreign-small letters (suc n) bs p) e
   where
-    go : (o : Option ℕ) → (foreignFrom letters (suc n) bs ≡ some p → p < suc n + length bs) → hereOr o n (foreignFrom letters (suc n) bs) ≡ some p → p < n + length (b ∷ bs)
+    go : (o : Option ℕ) → (foreignFrom letters (suc n) bs ≡ some p → p < suc n + length bs) → hereOr o n (foreignFrom letters (suc n) bs) ≡ some p
+        → p < n + length (b ∷ bs)
     go none ih f = let z : n ≡ p = cc in omega arith
     go (some rank) ih f = omega (arith, ih f)
 

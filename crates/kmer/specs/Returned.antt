@@ -15,7 +15,8 @@ abbrev pub returnedWithPlace : Outcome ℕ → ℕ
 returnedWithPlace (given n) = n
 returnedWithPlace (refused g) = 2 ^ 63 + g .1 * 256 + g .0
 
--- What such a call that overwrites a lent buffer from its start returns (how many places it set) and leaves.
-pub record ReturnsPlaces (g : Option Ground) (count : ℕ) (places old : List ℕ) (r : ℕ) (new : List ℕ) : Type 0 where
-  pub returns : r ≡ returnedWithPlace (outcome g count)
+-- What a call that overwrites a lent buffer from its start returns (how many places it set) and leaves. Its answer becomes one number by
+-- `returned` or by `returnedWithPlace`.
+pub record ReturnsPlaces (number : Outcome ℕ → ℕ) (g : Option Ground) (count : ℕ) (places old : List ℕ) (r : ℕ) (new : List ℕ) : Type 0 where
+  pub returns : r ≡ number (outcome g count)
   pub leaves : new ≡ overwritten g places old

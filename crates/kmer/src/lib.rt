@@ -4,12 +4,12 @@ ghost use mathlib.Core.Path.{_≡_};
 ghost use Prim.Native.Nat.{_+_, _*_, _^_, _<_, _≤_};
 ghost use mathlib.Core.List.{_++_};
 ghost use lib.ListN.{length, drop, replicate};
-ghost use Rattle.settings.specs.Grounds.{groundOf, outcome, overwritten};
+ghost use Rattle.settings.specs.Grounds.{groundOf, outcome};
 ghost use Rattle.settings.specs.Settings.{ofChecked, settingsOf};
 ghost use Rattle.table.specs.Table.{classCount, clearGround};
 ghost use Rattle.kmer.specs.Adding.{readyGround, fiveNumbers, AddsInto};
-ghost use Rattle.encoding.specs.Calls.{coding, reading, readGround, wordBytes, mirrorGround, mirrorBytes};
-ghost use Rattle.kmer.specs.Returned.{returned, ReturnsPlaces};
+ghost use Rattle.encoding.specs.Calls.{coding, readGround, wordBytes, mirrorGround, mirrorBytes};
+ghost use Rattle.kmer.specs.Returned.{returned, returnedWithPlace, ReturnsPlaces};
 ghost use Rattle.listing.specs.Listing.{listing, listingGround};
 ghost use Rattle.laws.specs.Text.{bytes};
 ghost use Rattle.laws.specs.Windows.{windows};
@@ -53,8 +53,8 @@ pub extern "C" fn kmer_code(letters: &[u8], k: usize, mirror: u64, word: &[u8]) 
 #[no_mangle]
 pub extern "C" fn kmer_word(letters: &[u8], k: usize, mirror: u64, code: u64, out: &mut [u8]) -> u64
     ensures { λ r.
-        ⌜ (r ≡ returned (reading (now (letters .entry)) k mirror code (length (now (out .entry)))))
-        × (now (out .exit) ≡ overwritten (readGround (now (letters .entry)) k mirror code (length (now (out .entry)))) (wordBytes (now (letters .entry)) k mirror code) (now (out .entry))) ⌝ }
+        ⌜ ReturnsPlaces returned (readGround (now (letters .entry)) k mirror code (length (now (out .entry)))) k
+        (wordBytes (now (letters .entry)) k mirror code) (now (out .entry)) r (now (out .exit)) ⌝ }
 {
     match encoding::word_of(letters, k, mirror, Code(code), out) {
         Filling::Filled(n) => n as u64,
@@ -71,7 +71,7 @@ pub extern "C" fn kmer_mirror(
     out: &mut [u8],
 ) -> u64
     ensures { λ r.
-        ⌜ ReturnsPlaces (mirrorGround (now (letters .entry)) k mirror (now (word .entry)) (length (now (out .entry)))) k
+        ⌜ ReturnsPlaces returnedWithPlace (mirrorGround (now (letters .entry)) k mirror (now (word .entry)) (length (now (out .entry)))) k
         (mirrorBytes (now (letters .entry)) mirror (now (word .entry))) (now (out .entry)) r (now (out .exit)) ⌝ }
 {
     match encoding::mirror_of(letters, k, mirror, word, out) {
@@ -89,8 +89,9 @@ pub extern "C" fn kmer_codes(
     codes: &mut [u64],
 ) -> u64
     ensures { λ r.
-        ⌜ ReturnsPlaces (sequenceGround (now (letters .entry)) k mirror (now (sequence .entry)) (length (now (codes .entry))))
-        (length (windows k (now (sequence .entry)))) (sequenceCodes (now (letters .entry)) k mirror (now (sequence .entry))) (now (codes .entry)) r (now (codes .exit)) ⌝ }
+        ⌜ ReturnsPlaces returnedWithPlace (sequenceGround (now (letters .entry)) k mirror (now (sequence .entry)) (length (now (codes .entry))))
+        (length (windows k (now (sequence .entry)))) (sequenceCodes (now (letters .entry)) k mirror (now (sequence .entry)))
+        (now (codes .entry)) r (now (codes .exit)) ⌝ }
 {
     match sequence::codes(letters, k, mirror, sequence, codes) {
         Filled::Count(n) => n as u64,
@@ -102,7 +103,7 @@ pub extern "C" fn kmer_codes(
 #[no_mangle]
 pub extern "C" fn kmer_codes_two_bit(k: usize, sequence: &[u8], codes: &mut [u64]) -> u64
     ensures { λ r.
-        ⌜ ReturnsPlaces (sequenceGround (bytes "ACGT") k 1 (now (sequence .entry)) (length (now (codes .entry))))
+        ⌜ ReturnsPlaces returnedWithPlace (sequenceGround (bytes "ACGT") k 1 (now (sequence .entry)) (length (now (codes .entry))))
         (length (windows k (now (sequence .entry)))) (sequenceCodes (bytes "ACGT") k 1 (now (sequence .entry))) (now (codes .entry)) r (now (codes .exit)) ⌝ }
 {
     match sequence::codes_two_bit(k, sequence, codes) {
@@ -114,7 +115,7 @@ pub extern "C" fn kmer_codes_two_bit(k: usize, sequence: &[u8], codes: &mut [u64
 #[no_mangle]
 pub extern "C" fn kmer_clear(letters: &[u8], k: usize, mirror: u64, table: &mut [u32]) -> u64
     ensures { λ r.
-        ⌜ ReturnsPlaces (clearGround (now (letters .entry)) k mirror (length (now (table .entry)))) (classCount (now (letters .entry)) k mirror)
+        ⌜ ReturnsPlaces returnedWithPlace (clearGround (now (letters .entry)) k mirror (length (now (table .entry)))) (classCount (now (letters .entry)) k mirror)
         (replicate (classCount (now (letters .entry)) k mirror) 0) (now (table .entry)) r (now (table .exit)) ⌝ }
 {
     match table::clear(letters, k, mirror, table) {
@@ -195,7 +196,7 @@ pub extern "C" fn kmer_listing(
     text: &mut [u8],
 ) -> u64
     ensures { λ r.
-        ⌜ ReturnsPlaces (listingGround (now (letters .entry)) k mirror (now (table .entry)) (length (now (text .entry))))
+        ⌜ ReturnsPlaces returnedWithPlace (listingGround (now (letters .entry)) k mirror (now (table .entry)) (length (now (text .entry))))
         (length (listing (now (letters .entry)) k mirror (now (table .entry)))) (listing (now (letters .entry)) k mirror (now (table .entry)))
         (now (text .entry)) r (now (text .exit)) ⌝ }
 {

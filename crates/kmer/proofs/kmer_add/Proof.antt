@@ -1,13 +1,22 @@
 -- `kmer::kmer_add` meets its contract: a refusal leaves the table and the list as they were; else the list has the file's five numbers.
-use mathlib.Core.Path.{sym, ap, _∙_}
+use mathlib.Core.Path.{_≡_, ap}
+use mathlib.Core.Option.{none}
+use lib.ListN.{length}
 use borrow.Author.Needs.{needs}
-use Rattle.settings.specs.Settings.{ofChecked, settingsOf}
-use Rattle.settings.proofs.Outcomes.{passed}
 use Rattle.table.specs.Calls.{ofAnswer}
 use Rattle.kmer.specs.Adding.{readyGround}
-use Rattle.kmer.proofs.Adding.{ready-small, refused-fits, add-fits, ready-none, into-bad, into-short, into-refused, into-taken}
+use Rattle.kmer.proofs.Adding.{add-fits, ready-none, ready-refuses, ready-fits, into-bad, into-short, into-refused, into-taken}
 use Rattle.kmer.proofs.kmer_add.Statement.{statement}
 use Rattle.kmer.proofs.kmer_add.Tie as tie
+
+-- Past `ready` no ground of the settings, the sizes and the table's room applies.
+abbrev Ready : tie.Start → Type 0
+Ready start =
+    let a = start .args in
+    readyGround (a .letters .now) (a .k) (a .mirror) (length (a .table .now)) (a .file .now) ≡ none
+
+no-ground : (c : tie.After-enum-told) → Ready (c .before .before .before .before .before .before .before)
+no-ground c = ready-none _ _ _ _ _ _ (c .before .before .ready .ensures) _ (c .enum-told .given .1)
 
 ready-requires : tie.Need-ready-requires
 ready-requires c κs = search needs
@@ -18,9 +27,7 @@ enum-known-f c = search needs
 refused-at-requires : tie.Need-refused-at-requires
 refused-at-requires c κs =
     let f = c .before in
-    let ready = f .before .before in
-    let a = ready .before .before .before .before .before .args in
-    refused-fits (f .f .given .0 .0) _ _ (ready-small (a .letters .now) (a .k) (a .mirror) _ (a .file .now)) (sym (ap ofChecked (f .f .given .1)) ∙ ready .ready .ensures)
+    ready-fits _ _ _ _ _ _ (f .before .before .ready .ensures) _ (f .f .given .1)
 
 enum-told : tie.Need-enum-told
 enum-told c = search needs
@@ -29,12 +36,7 @@ refused-at-requires-2 : tie.Need-refused-at-requires-2
 refused-at-requires-2 c κs = search needs
 
 returns : tie.Need-returns
-returns c =
-    let told = c .before .before in
-    let ready = told .before .before in
-    let a = ready .before .before .before .before .before .args in
-    let none = ready-none (a .letters .now) (a .k) (a .mirror) _ (a .file .now) _ (ready .ready .ensures) (told .enum-told .given .0 .0) (told .enum-told .given .1) in
-    into-short (a .letters .now) (a .k) (a .mirror) (a .table .now) (a .file .now) (a .answer .now) none (c .before .if1 .taken) _ (c .refused-at2 .ensures)
+returns c = into-short _ _ _ _ _ _ (no-ground (c .before .before)) (c .before .if1 .taken) _ (c .refused-at2 .ensures)
 
 add-requires : tie.Need-add-requires
 add-requires c κs = search needs
@@ -46,8 +48,7 @@ refused-at-requires-3 : tie.Need-refused-at-requires-3
 refused-at-requires-3 c κs =
     let f = c .before in
     let add = f .before .before .before .before in
-    let a = add .before .before .before .before .before .before .before .before .before .before .args in
-    add-fits (a .letters .now) (a .k) (a .mirror) (a .table .now) (a .file .now) _ (f .f2 .given .0 .0) _ (add .add .ensures) (ap ofAnswer (f .f2 .given .1))
+    add-fits _ _ _ _ _ _ (f .f2 .given .0 .0) _ (add .add .ensures) (ap ofAnswer (f .f2 .given .1))
 
 enum-known-n : tie.Need-enum-known-n
 enum-known-n c = search needs
@@ -58,10 +59,8 @@ write-numbers-requires c κs = search needs
 returns-2 : tie.Need-returns-2
 returns-2 c =
     let f = c .before .before in
-    let ready = f .before .before in
-    let a = ready .before .before .before .before .before .args in
-    into-bad (a .letters .now) (a .k) (a .mirror) (a .table .now) (a .file .now) (a .answer .now) (f .f .given .0 .0)
-    (sym (ap ofChecked (f .f .given .1)) ∙ ready .ready .ensures) _ (c .refused-at .ensures)
+    let refuses = ready-refuses _ _ _ _ _ _ (f .before .before .ready .ensures) _ (f .f .given .1) in
+    into-bad _ _ _ _ _ _ (f .f .given .0 .0) refuses _ (c .refused-at .ensures)
 
 same-length : tie.Need-same-length
 same-length c = search needs
@@ -71,12 +70,8 @@ returns-3 c =
     let f = c .before .before in
     let add = f .before .before .before .before in
     let if1 = add .before .before in
-    let told = if1 .before in
-    let ready = told .before .before in
-    let a = ready .before .before .before .before .before .args in
-    let none = ready-none (a .letters .now) (a .k) (a .mirror) _ (a .file .now) _ (ready .ready .ensures) (told .enum-told .given .0 .0) (told .enum-told .given .1) in
-    into-refused (a .letters .now) (a .k) (a .mirror) (a .table .now) (a .file .now) (a .answer .now) none (if1 .if1 .left) _ _ (add .add .ensures)
-    (f .f2 .given .0 .0) (ap ofAnswer (f .f2 .given .1)) _ (c .refused-at3 .ensures)
+    into-refused _ _ _ _ _ _ (no-ground (if1 .before)) (if1 .if1 .left) _ _ (add .add .ensures) (f .f2 .given .0 .0) (ap ofAnswer (f .f2 .given .1)) _
+    (c .refused-at3 .ensures)
 
 same-length-2 : tie.Need-same-length-2
 same-length-2 c = search needs
@@ -90,12 +85,8 @@ returns-4 c =
     let n = written .before .before .before in
     let add = n .before .before .before .before in
     let if1 = add .before .before in
-    let told = if1 .before in
-    let ready = told .before .before in
-    let a = ready .before .before .before .before .before .args in
-    let none = ready-none (a .letters .now) (a .k) (a .mirror) _ (a .file .now) _ (ready .ready .ensures) (told .enum-told .given .0 .0) (told .enum-told .given .1) in
-    into-taken (a .letters .now) (a .k) (a .mirror) (a .table .now) (a .file .now) (a .answer .now) none (if1 .if1 .left) _ _ (add .add .ensures)
-    (n .n .given .0 .0) (ap ofAnswer (n .n .given .1)) _ (written .write-numbers .ensures)
+    into-taken _ _ _ _ _ _ (no-ground (if1 .before)) (if1 .if1 .left) _ _ (add .add .ensures) _ (ap ofAnswer (n .n .given .1)) _
+    (written .write-numbers .ensures)
 
 pub kmer-add-spec : {M : Type 1} → statement M
 kmer-add-spec =

@@ -1,9 +1,11 @@
 -- `kmer::kmer_clear` meets its contract.
-use mathlib.Core.Path.{ap}
+use mathlib.Core.Path.{refl, ap}
 use native.Mathlib.Omega.{arith}
 use borrow.Author.Needs.{needs}
+use Rattle.settings.specs.Grounds.{given, refused}
 use Rattle.table.specs.Calls.{ofCleared}
-use Rattle.kmer.proofs.Refusals.{returns-count, returns-refusal, place-fits}
+use Rattle.kmer.specs.Returned.{returnedWithPlace}
+use Rattle.kmer.proofs.Refusals.{returns-answer, place-fits}
 use Rattle.kmer.proofs.Adding.{clear-small}
 use Rattle.kmer.proofs.kmer_clear.Statement.{statement}
 use Rattle.kmer.proofs.kmer_clear.Tie as tie
@@ -21,8 +23,7 @@ refused-at-requires : tie.Need-refused-at-requires
 refused-at-requires c κs =
     let f = c .before in
     let made = f .before .before .before .before in
-    let a = made .before .before .before .before .args in
-    place-fits (made .clear .ensures) (f .f .given .0 .0) (ap ofCleared (f .f .given .1)) 16777216 (clear-small (a .letters .now) (a .k) (a .mirror) _) (omega arith)
+    place-fits (made .clear .ensures) 16777216 (clear-small _ _ _ _) (omega arith) (f .f .given .0 .0) (ap ofCleared (f .f .given .1))
 
 same-length : tie.Need-same-length
 same-length c = search needs
@@ -30,7 +31,8 @@ same-length c = search needs
 returns : tie.Need-returns
 returns c =
     let n = c .before in
-    returns-count (n .before .before .before .before .clear .ensures) (n .n .given .0 .0) (ap ofCleared (n .n .given .1))
+    let made = n .before .before .before .before in
+    returns-answer (made .clear .ensures) returnedWithPlace (given _) (ap ofCleared (n .n .given .1)) _ refl
 
 same-length-2 : tie.Need-same-length-2
 same-length-2 c = search needs
@@ -38,7 +40,8 @@ same-length-2 c = search needs
 returns-2 : tie.Need-returns-2
 returns-2 c =
     let f = c .before .before in
-    returns-refusal (f .before .before .before .before .clear .ensures) (f .f .given .0 .0) (ap ofCleared (f .f .given .1)) _ (c .refused-at .ensures)
+    let made = f .before .before .before .before in
+    returns-answer (made .clear .ensures) returnedWithPlace (refused _) (ap ofCleared (f .f .given .1)) _ (c .refused-at .ensures)
 
 pub kmer-clear-spec : {M : Type 1} → statement M
 kmer-clear-spec =

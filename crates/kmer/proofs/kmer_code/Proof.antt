@@ -1,5 +1,5 @@
 -- `kmer::kmer_code` meets its contract.
-use mathlib.Core.Path.{_≡_, refl, sym, ap, _∙_}
+use mathlib.Core.Path.{sym, ap, _∙_}
 use Rattle.encoding.specs.Answers.{ofCoding}
 use Rattle.kmer.specs.Returned.{returned}
 use borrow.Author.Needs.{needs}

@@ -1,10 +1,11 @@
 -- `kmer::kmer_codes_two_bit` meets its contract.
-use mathlib.Core.Path.{ap}
+use mathlib.Core.Path.{refl, ap}
 use native.Mathlib.Omega.{arith}
 use borrow.Author.Needs.{needs}
-use Rattle.laws.specs.Text.{bytes}
+use Rattle.settings.specs.Grounds.{given, refused}
 use Rattle.sequence.specs.Sequences.{ofFilled}
-use Rattle.kmer.proofs.Refusals.{returns-count, returns-refusal, place-fits, sequence-small}
+use Rattle.kmer.specs.Returned.{returnedWithPlace}
+use Rattle.kmer.proofs.Refusals.{returns-answer, place-fits, sequence-small}
 use Rattle.kmer.proofs.kmer_codes_two_bit.Statement.{statement}
 use Rattle.kmer.proofs.kmer_codes_two_bit.Tie as tie
 
@@ -21,8 +22,7 @@ refused-at-requires : tie.Need-refused-at-requires
 refused-at-requires c κs =
     let f = c .before in
     let made = f .before .before .before .before in
-    let a = made .before .before .before .before .args in
-    place-fits (made .codes-two-bit .ensures) (f .f .given .0 .0) (ap ofFilled (f .f .given .1)) 16777216 (sequence-small (bytes "ACGT") (a .k) 1 (a .sequence .now) _) (omega arith)
+    place-fits (made .codes-two-bit .ensures) 16777216 (sequence-small _ _ _ _ _) (omega arith) (f .f .given .0 .0) (ap ofFilled (f .f .given .1))
 
 same-length : tie.Need-same-length
 same-length c = search needs
@@ -30,7 +30,8 @@ same-length c = search needs
 returns : tie.Need-returns
 returns c =
     let n = c .before in
-    returns-count (n .before .before .before .before .codes-two-bit .ensures) (n .n .given .0 .0) (ap ofFilled (n .n .given .1))
+    let made = n .before .before .before .before in
+    returns-answer (made .codes-two-bit .ensures) returnedWithPlace (given _) (ap ofFilled (n .n .given .1)) _ refl
 
 same-length-2 : tie.Need-same-length-2
 same-length-2 c = search needs
@@ -38,7 +39,8 @@ same-length-2 c = search needs
 returns-2 : tie.Need-returns-2
 returns-2 c =
     let f = c .before .before in
-    returns-refusal (f .before .before .before .before .codes-two-bit .ensures) (f .f .given .0 .0) (ap ofFilled (f .f .given .1)) _ (c .refused-at .ensures)
+    let made = f .before .before .before .before in
+    returns-answer (made .codes-two-bit .ensures) returnedWithPlace (refused _) (ap ofFilled (f .f .given .1)) _ (c .refused-at .ensures)
 
 pub kmer-codes-two-bit-spec : {M : Type 1} → statement M
 kmer-codes-two-bit-spec =

@@ -1,9 +1,11 @@
 -- `kmer::kmer_mirror` meets its contract.
-use mathlib.Core.Path.{ap}
+use mathlib.Core.Path.{refl, ap}
 use native.Mathlib.Omega.{arith}
 use borrow.Author.Needs.{needs}
+use Rattle.settings.specs.Grounds.{given, refused}
 use Rattle.encoding.specs.Answers.{ofFilling}
-use Rattle.kmer.proofs.Refusals.{returns-count, returns-refusal, place-fits, mirror-small}
+use Rattle.kmer.specs.Returned.{returnedWithPlace}
+use Rattle.kmer.proofs.Refusals.{returns-answer, place-fits, mirror-small}
 use Rattle.kmer.proofs.kmer_mirror.Statement.{statement}
 use Rattle.kmer.proofs.kmer_mirror.Tie as tie
 
@@ -20,8 +22,7 @@ refused-at-requires : tie.Need-refused-at-requires
 refused-at-requires c κs =
     let f = c .before in
     let made = f .before .before .before .before in
-    let a = made .before .before .before .before .before .args in
-    place-fits (made .mirror-of .ensures) (f .f .given .0 .0) (ap ofFilling (f .f .given .1)) 62 (mirror-small (a .letters .now) (a .k) (a .mirror) (a .word .now) _) (omega arith)
+    place-fits (made .mirror-of .ensures) 62 (mirror-small _ _ _ _ _) (omega arith) (f .f .given .0 .0) (ap ofFilling (f .f .given .1))
 
 same-length : tie.Need-same-length
 same-length c = search needs
@@ -29,7 +30,8 @@ same-length c = search needs
 returns : tie.Need-returns
 returns c =
     let n = c .before in
-    returns-count (n .before .before .before .before .mirror-of .ensures) (n .n .given .0 .0) (ap ofFilling (n .n .given .1))
+    let made = n .before .before .before .before in
+    returns-answer (made .mirror-of .ensures) returnedWithPlace (given _) (ap ofFilling (n .n .given .1)) _ refl
 
 same-length-2 : tie.Need-same-length-2
 same-length-2 c = search needs
@@ -37,7 +39,8 @@ same-length-2 c = search needs
 returns-2 : tie.Need-returns-2
 returns-2 c =
     let f = c .before .before in
-    returns-refusal (f .before .before .before .before .mirror-of .ensures) (f .f .given .0 .0) (ap ofFilling (f .f .given .1)) _ (c .refused-at .ensures)
+    let made = f .before .before .before .before in
+    returns-answer (made .mirror-of .ensures) returnedWithPlace (refused _) (ap ofFilling (f .f .given .1)) _ (c .refused-at .ensures)
 
 pub kmer-mirror-spec : {M : Type 1} → statement M
 kmer-mirror-spec =

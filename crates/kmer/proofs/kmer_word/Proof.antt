@@ -1,8 +1,10 @@
 -- `kmer::kmer_word` meets its contract.
-use mathlib.Core.Path.{_≡_, refl, sym, ap, _∙_}
+use mathlib.Core.Path.{refl, ap}
 use Rattle.encoding.specs.Answers.{ofFilling}
 use Rattle.kmer.specs.Returned.{returned}
+use Rattle.kmer.proofs.Refusals.{returns-answer}
 use borrow.Author.Needs.{needs}
+use Rattle.settings.specs.Grounds.{given, refused}
 use Rattle.kmer.proofs.kmer_word.Statement.{statement}
 use Rattle.kmer.proofs.kmer_word.Tie as tie
 
@@ -24,8 +26,8 @@ same-length c = search needs
 returns : tie.Need-returns
 returns c =
     let n = c .before in
-    let wo = n .before .before .before .before in
-    (ap returned (sym (ap ofFilling (n .n .given .1)) ∙ wo .word-of .ensures .answers), wo .word-of .ensures .leaves)
+    let made = n .before .before .before .before in
+    returns-answer (made .word-of .ensures) returned (given _) (ap ofFilling (n .n .given .1)) _ refl
 
 same-length-2 : tie.Need-same-length-2
 same-length-2 c = search needs
@@ -33,8 +35,8 @@ same-length-2 c = search needs
 returns-2 : tie.Need-returns-2
 returns-2 c =
     let f = c .before .before in
-    let wo = f .before .before .before .before in
-    (c .refused .ensures ∙ ap returned (sym (ap ofFilling (f .f .given .1)) ∙ wo .word-of .ensures .answers), wo .word-of .ensures .leaves)
+    let made = f .before .before .before .before in
+    returns-answer (made .word-of .ensures) returned (refused _) (ap ofFilling (f .f .given .1)) _ (c .refused .ensures)
 
 pub kmer-word-spec : {M : Type 1} → statement M
 kmer-word-spec =
