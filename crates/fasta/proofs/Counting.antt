@@ -82,6 +82,7 @@ agree file (suc n) p m h s =
     rw (items-step file p m (omega arith), opens m b (lfNext (drop (p + 1) file)) (itemsFrom (next m b) (drop (p + 1) file)), s, ih)
     (sym (cond-length (isHeader file p) p (headersFrom file (suc p) n)))
 
+-- A file has as many records by its items as the reader gives.
 pub records-agree : (file : List ℕ) → recordsIn (items file) ≡ length (allRecords file)
 unfolding atStart
 records-agree file =

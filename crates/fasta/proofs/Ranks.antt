@@ -51,8 +51,10 @@ module _ (letters table : List ℕ) (t : RankTable letters table) (k : ℕ) (fil
   by-table : Alike (rankByTable table) (rankIn letters) (items file)
   by-table = alike (rankByTable table) (rankIn letters) (λ b e. t .same b (omega (arith, letter-below b e))) Start file
 
+  -- A file has the same windows by the table as by the letters.
   pub windows-by-table : fileWindows (rankByTable table) k file ≡ fileWindows (rankIn letters) k file
   windows-by-table = ap (λ (ms : List (Option ℕ)). windowsOf k (runs ms)) (by-table .marks-alike)
 
+  -- A file has the same five numbers by the table as by the letters.
   pub numbers-by-table : fileNumbers (rankByTable table) k file ≡ fileNumbers (rankIn letters) k file
   numbers-by-table = rw (by-table .marks-alike, by-table .foreign-alike)

@@ -92,5 +92,6 @@ unfolding itemsFrom
 items-length m [] = refl
 items-length m (b ∷ file) = ap suc (items-length (next m b) file)
 
+-- A file has no more windows than bytes.
 pub windows-fit : (rank : ℕ → Option ℕ) (k : ℕ) (file : List ℕ) → 1 ≤ k → length (fileWindows rank k file) ≤ length file
 windows-fit rank k file h = omega (arith, items-split rank k (items file) h, letters-fit (items file), items-length Start file)

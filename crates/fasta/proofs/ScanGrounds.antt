@@ -23,9 +23,11 @@ module _ (letters : List ℕ) (k mirror : ℕ) (st : Settings) (e : given st ≡
   none-applies : settingsGround letters k mirror ≡ none
   none-applies = passed (settingsOf letters k mirror) (settingsGround letters k mirror) e .none-applies
 
+  -- Settings that the check gives have at most 16 letters.
   pub few-letters : length letters ≤ 16
   few-letters = good-settings letters k mirror none-applies .few
 
+  -- Their k is at least 1.
   pub some-k : 1 ≤ k
   some-k = let h = good-settings letters k mirror none-applies .some-k in omega arith
 
@@ -33,6 +35,7 @@ module _ (letters : List ℕ) (k mirror : ℕ) (file : List ℕ) where
   abbrev answer : Outcome Numbers
   answer = outcome (scanGround letters k mirror file) (fileNumbers (rankIn letters) k file)
 
+  -- A refusal of the settings is the answer, whatever the file is.
   pub bad-settings : (f : Ground) → refused f ≡ outcome (settingsGround letters k mirror) (settingsOf letters k mirror) → refused f ≡ answer
   unfolding scanGround
   bad-settings f e = refused-on f (settingsOf letters k mirror) (fileNumbers (rankIn letters) k file) (settingsGround letters k mirror) _ e
@@ -42,6 +45,7 @@ module _ (letters : List ℕ) (k mirror : ℕ) (file : List ℕ) where
     unfolding scanGround tooLong
     long-file h = rw (none-applies letters k mirror st e, lt-ltb 16777216 (length file) h)
 
+    -- Past the length it is the file's first fault, or its numbers by a table of ranks.
     pub scanned : (table : List ℕ) → RankTable letters table → length file ≤ 16777216
         → outcome (fileFault file) (fileNumbers (rankByTable table) k file) ≡ answer
     unfolding scanGround tooLong

@@ -145,6 +145,7 @@ module _ (rank : ℕ → Option ℕ) (k : ℕ) where
 -- ---- the loop
 
 module _ (file : List ℕ) (i : ℕ) (m : Mode) where
+  -- The items from i on: that of the byte at i, and those of the bytes after it.
   pub items-step : i < length file
       → itemsFrom m (drop i file) ≡ item m (getD file i 0) (lfNext (drop (i + 1) file)) ∷ itemsFrom (next m (getD file i 0)) (drop (i + 1) file)
   unfolding itemsFrom
@@ -188,6 +189,7 @@ pub record Scanning (file : List ℕ) (rank : ℕ → Option ℕ) (k : ℕ) (m :
   pub small : Small i t
   pub answer : outcome (fileFault file) (fileNumbers rank k file) ≡ scanFrom rank k i t (itemsFrom m (drop i file))
 
+-- It holds where nothing is scanned yet.
 pub start : (file : List ℕ) (rank : ℕ → Option ℕ) (k : ℕ) → 1 ≤ k → Scanning file rank k Start nothingYet 0
 start file rank k h =
     record {
@@ -214,6 +216,7 @@ module _ (file : List ℕ) (rank : ℕ → Option ℕ) (k : ℕ) (m : Mode) (t :
     pub at-early : st ≡ AtEarly → refused (11, i) ≡ outcome (fileFault file) (fileNumbers rank k file)
     at-early e = sym (after ∙ rw e)
 
+    -- A turn that goes on keeps it.
     pub turn : (m′ : Mode) (u : Tally) → st ≡ On u → m′ ≡ next m (getD file i 0) → Scanning file rank k m′ u (i + 1)
     unfolding SmallStep
     turn m′ u e m-is =

@@ -107,6 +107,7 @@ edges-from k r (some x ∷ ms) h =
     let n : length (r ++ (x ∷ [])) ≡ length r + 1 = omega (arith, length-append r (x ∷ [])) in
     rw (prefixed-onFirst r x (runs ms), edges-from k (r ++ (x ∷ [])) ms h, n) (omega (arith, edge-snoc k (length r) (leb k (length r + 1)) h refl))
 
+-- The edge letters of all runs, as the letters come in.
 pub edges-stream : (k : ℕ) (ms : List (Option ℕ)) → 1 ≤ k → edgesOf k (runs ms) ≡ edgesFrom k 0 ms
 unfolding edge
 edges-stream k ms h = ap (edgesOf k) (sym (runs-prefixed ms)) ∙ edges-from k [] ms h ∙ (omega arith)

@@ -61,6 +61,7 @@ module _ (letters : List ℕ) (k m : ℕ) (file : List ℕ) (e : ground 6 (tooLo
       let needed = classCount letters k m in
       place-small 16777216 7 (tooShort room needed) (λ p f. omega (arith, room-small room needed p f, classes-few))
 
+-- The P of a refused clearing is at most 16,777,216.
 pub clear-small : (letters : List ℕ) (k m room : ℕ) → Small 16777216 (clearGround letters k m room)
 unfolding clearGround tooMany
 clear-small letters k m room =
@@ -142,6 +143,7 @@ module _ (letters : List ℕ) (k m room : ℕ) (file : List ℕ) where
 
 -- ---- `write_numbers`
 
+-- Five stores, one after the other, put five numbers in front of what was there from place 5 on.
 pub five-set : (l : List ℕ) (a b c d e : ℕ) → 5 ≤ length l
     → set (set (set (set (set l 0 a) 1 b) 2 c) 3 d) 4 e ≡ a ∷ b ∷ c ∷ d ∷ e ∷ drop 5 l
 five-set [] a b c d e h = absurd (omega arith)

@@ -22,6 +22,7 @@ use Rattle.sequence.specs.Sequences.{sequenceGround}
 use Rattle.sequence.proofs.Windows.{length-windows}
 use Rattle.kmer.specs.Returned.{ReturnsPlaces}
 
+-- No number of a refusal is above 14.
 pub number-small : (f : Refusal) → groundOf f .0 ≤ 14
 number-small BadLetters = omega arith
 number-small BadMirror = omega arith
@@ -47,9 +48,11 @@ refused-fits f a g n small h e = omega (arith, small (groundOf f) (refused-is (g
 
 -- From a call below that overwrote the buffer and answered a.
 module _ {g : Option Ground} {count : ℕ} {places old new : List ℕ} {a : Outcome ℕ} (W : Overwrites g count places old a new) where
+  -- The answer as one number, and the buffer as the call below left it.
   pub returns-answer : (number : Outcome ℕ → ℕ) (told : Outcome ℕ) → a ≡ told → (x : ℕ) → x ≡ number told → ReturnsPlaces number g count places old x new
   returns-answer number told e x h = record { returns = h ∙ ap number (sym e ∙ W .answers); leaves = W .leaves }
 
+  -- The P of its refusal fits.
   pub place-fits : (n : ℕ) → Small n g → n < 2 ^ 32 → (f : Refusal) → a ≡ refused (groundOf f) → groundOf f .1 < 2 ^ 32
   place-fits n small h f e = refused-fits f count g n small h (sym e ∙ W .answers)
 

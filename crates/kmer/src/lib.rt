@@ -115,8 +115,9 @@ pub extern "C" fn kmer_codes_two_bit(k: usize, sequence: &[u8], codes: &mut [u64
 #[no_mangle]
 pub extern "C" fn kmer_clear(letters: &[u8], k: usize, mirror: u64, table: &mut [u32]) -> u64
     ensures { λ r.
-        ⌜ ReturnsPlaces returnedWithPlace (clearGround (now (letters .entry)) k mirror (length (now (table .entry)))) (classCount (now (letters .entry)) k mirror)
-        (replicate (classCount (now (letters .entry)) k mirror) 0) (now (table .entry)) r (now (table .exit)) ⌝ }
+        ⌜ ReturnsPlaces returnedWithPlace (clearGround (now (letters .entry)) k mirror (length (now (table .entry))))
+        (classCount (now (letters .entry)) k mirror) (replicate (classCount (now (letters .entry)) k mirror) 0)
+        (now (table .entry)) r (now (table .exit)) ⌝ }
 {
     match table::clear(letters, k, mirror, table) {
         Cleared::Count(n) => n as u64,

@@ -15,6 +15,7 @@ pub record Written (C o : List ℕ) (n : ℕ) (out : List ℕ) : Type 0 where
   pub upto : n ≤ length C
   pub room : length C ≤ length o
 
+-- Before the first is written.
 pub written-none : (C o : List ℕ) → length C ≤ length o → Written C o 0 o
 written-none C o h = record { is = refl; upto = omega arith; room = h }
 

@@ -12,6 +12,7 @@ use Rattle.laws.proofs.Powers.{pow-pos, pow-one, pow-split}
 unfoldable pub window : ℕ → ℕ → ℕ → ℕ → ℕ
 window s e f x = x / s ^ e % s ^ f
 
+-- One digit.
 pub window-one : (s e x : ℕ) → window s e 1 x ≡ x / s ^ e % s
 unfolding window
 window-one s e x = rw (pow-one s)
@@ -34,6 +35,7 @@ pub window-low : (s x b e f : ℕ) → b < s → window s (suc e) f (x * s + b) 
 unfolding window
 window-low s x b e f h = rw (pow-succ' s e, ← (div-div-eq-div-mul (x * s + b) s (s ^ e)), digits-div x h)
 
+-- A digit more at each end moves the digits between by one place.
 pub window-ends : (s n a x b e f : ℕ) → 1 < s → b < s → e + f ≤ n → window s (suc e) f (a * s ^ suc n + x * s + b) ≡ window s e f x
 window-ends s n a x b e f hs hb h =
     let g : a * s ^ suc n + x * s + b ≡ (a * s ^ n + x) * s + b = omega (arith, ap (λ (y : ℕ). a * y) (pow-suc s n)) in
@@ -69,6 +71,7 @@ prefix-ends s n a x b e hs hb h =
     rw (g, pow-succ' s e, ← (div-div-eq-div-mul ((a * s ^ n + x) * s + b) s (s ^ e)), digits-div (a * s ^ n + x) hb, k)
     (add-mul-div-right x (a * s ^ (n - e)) (pow-pos s e hs) ∙ omega arith)
 
+-- The digits from e on are a number of n - e digits.
 pub prefix-lt : (s n x e : ℕ) → 1 < s → e ≤ n → x < s ^ n → x / s ^ e < s ^ (n - e)
 prefix-lt s n x e hs h hx = div-lt-iff-lt-mul (pow-pos s e hs) .1 (subst (λ (y : ℕ). x < y) (pow-split s n e h) hx)
 
@@ -76,5 +79,6 @@ prefix-lt s n x e hs h hx = div-lt-iff-lt-mul (pow-pos s e hs) .1 (subst (λ (y 
 pub digits-first : (q a c x y : ℕ) → x < q → y < q → a * q + x ≡ c * q + y → a ≡ c
 digits-first q a c x y hx hy e = sym (digits-div a hx) ∙ ap (λ (z : ℕ). z / q) e ∙ digits-div c hy
 
+-- Equal numbers have equal last digits.
 pub digits-rest : (q a c x y : ℕ) → x < q → y < q → a * q + x ≡ c * q + y → x ≡ y
 digits-rest q a c x y hx hy e = sym (digits-mod a hx) ∙ ap (λ (z : ℕ). z % q) e ∙ digits-mod c hy

@@ -35,6 +35,7 @@ unfoldable pub pairCount : ℕ → ℕ
 pairCount zero = 0
 pairCount (suc n) = n + pairCount n
 
+-- s · s pairs: s equal ones, and each of the others twice.
 pub square : (s : ℕ) → s * s ≡ s + 2 * pairCount s
 unfolding pairCount
 square zero = refl

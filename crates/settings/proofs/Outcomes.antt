@@ -63,9 +63,11 @@ room-enough room needed e = go (ltb room needed) refl e
 
 -- ---- the answer at one ground, and where none applies
 
+-- The answer where a ground applies.
 pub refused-by : {A : Type 0} (f : Ground) (a : A) (g : Option Ground) → g ≡ some f → refused f ≡ outcome g a
 refused-by f a g e = rw e
 
+-- The answer where none does.
 pub given-by : {A : Type 0} (x a : A) (g : Option Ground) → g ≡ none → x ≡ a → given x ≡ outcome g a
 given-by x a g e h = rw (e, h)
 

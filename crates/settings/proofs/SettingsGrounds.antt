@@ -54,6 +54,7 @@ pub record GoodSettings (l : List ℕ) (k m : ℕ) : Type 0 where
   pub some-k : k ≡ 0 → ⊥
   pub small : length l ^ k ≤ 2 ^ 62
 
+-- Settings to which no ground applies are good.
 pub good-settings : (l : List ℕ) (k m : ℕ) → settingsGround l k m ≡ none → GoodSettings l k m
 unfolding settingsGround badSize isOdd
 good-settings l k m e =
@@ -91,6 +92,7 @@ pub record Known (l : List ℕ) (k m : ℕ) (st : Settings) : Type 0 where
   pub classes-are : st .classes ≡ classes (length l) (mirrorOf m) k
   pub within : Limits (length l) (st .mirror) k
 
+-- What the check gives is so known.
 pub known : (l : List ℕ) (k m : ℕ) (st : Settings) → given st ≡ outcome (settingsGround l k m) (settingsOf l k m) → Known l k m st
 known l k m st e =
     let p = passed (settingsOf l k m) (settingsGround l k m) e in

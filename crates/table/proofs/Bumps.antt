@@ -18,6 +18,7 @@ unfoldable pub occurrences : ℕ → List ℕ → ℕ
 occurrences q [] = 0
 occurrences q (p ∷ ps) = cond (eqb q p) 1 0 + occurrences q ps
 
+-- Counting changes no length.
 pub length-bumps : (qs t : List ℕ) → length (bumps t qs) ≡ length t
 unfolding bumps bump
 length-bumps [] t = refl
@@ -30,6 +31,7 @@ getD-bump t p q true h e =
     rw (← same) (getD-set-same t q (getD t q 0 + 1) 0 h)
 getD-bump t p q false h e = getD-set-other t p q (getD t p 0 + 1) 0 (eqb-false q p e) ∙ (omega arith)
 
+-- A place grows by how often it is named.
 pub getD-bumps : (qs t : List ℕ) (q : ℕ) → q < length t → getD (bumps t qs) q 0 ≡ getD t q 0 + occurrences q qs
 unfolding bumps occurrences
 getD-bumps [] t q h = omega arith
@@ -37,6 +39,7 @@ getD-bumps (p ∷ qs) t q h =
     let kept : length (bump t p) ≡ length t = length-bumps (p ∷ []) t in
     omega (arith, getD-bumps qs (bump t p) q (omega arith), getD-bump t p q (eqb q p) h refl)
 
+-- Places from n on stay where those named are below n.
 pub drop-bumps : (n : ℕ) (qs t : List ℕ) → Each (Below n) qs → drop n (bumps t qs) ≡ drop n t
 unfolding bumps bump
 drop-bumps n [] t h = refl
@@ -53,6 +56,7 @@ unfolding bump
 sum-bump n t q h g =
     rw (take-set-lt n t q (getD t q 0 + 1) h, ← getD-take n t q 0 h) (sum-set (take n t) q (omega (arith, length-take-le n t g)))
 
+-- The sum of the first n counts grows by how many places below n are named.
 pub sum-bumps : (n : ℕ) (qs t : List ℕ) → Each (Below n) qs → n ≤ length t → sum (take n (bumps t qs)) ≡ sum (take n t) + length qs
 unfolding bumps
 sum-bumps n [] t h g = omega arith
@@ -60,6 +64,7 @@ sum-bumps n (q ∷ qs) t h g =
     let kept : length (bump t q) ≡ length t = length-bumps (q ∷ []) t in
     omega (arith, sum-bumps n qs (bump t q) (h .1) (omega arith), sum-bump n t q (h .0) g)
 
+-- Counting some places and then others is counting all of them.
 pub bumps-append : (t ps qs : List ℕ) → bumps t (ps ++ qs) ≡ bumps (bumps t ps) qs
 unfolding bumps
 bumps-append t [] qs = refl
@@ -85,6 +90,7 @@ room-after n t qs R =
           omega (arith, getD-bumps qs t q lt, occurrences-le q qs, R .free q lt);
     }
 
+-- Room for n more is room for fewer.
 pub less-room : {n m : ℕ} {t : List ℕ} → m ≤ n → Room n t → Room m t
 less-room h R = record { free = λ q g. omega (arith, R .free q g) }
 

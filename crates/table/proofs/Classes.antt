@@ -27,9 +27,11 @@ module _ (letters : List ℕ) (k m : ℕ) (good : settingsGround letters k m ≡
   within : Limits (length letters) (mirrorOf m) k
   within = limits letters k m good
 
+  -- The place of a word is below the number of classes.
   pub place-below : (w : List ℕ) → IsWord (length letters) k w → placeOf letters k m w < classCount letters k m
   place-below w i = code-below-classes (length letters) (mirrorOf m) k within w i
 
+  -- Places and classes are one to one; two words share a place exactly when they are equal or mirrors.
   pub one-place-a-class : OnePlaceAClass letters k m
   one-place-a-class =
       record {
@@ -62,6 +64,7 @@ module _ (letters : List ℕ) (k m : ℕ) (good : settingsGround letters k m ≡
   occurrences-are-hits w [] i a = refl
   occurrences-are-hits w (v ∷ vs) i a = rw (place-test w v i (a .0), occurrences-are-hits w vs i (a .1))
 
+  -- The places of a file's windows are below the number of classes.
   pub places-below : (file : List ℕ) → Each (Below (classCount letters k m)) (places letters k m file)
   places-below file =
       each-map (IsWord (length letters) k) (Below (classCount letters k m)) (placeOf letters k m) (wins letters k file) place-below
@@ -76,6 +79,7 @@ module _ (letters : List ℕ) (k m : ℕ) (good : settingsGround letters k m ≡
         own = canonical-low (length letters) (mirrorOf m) (canonical (length letters) (mirrorOf m) w) (c .least);
       }
 
+  -- A word and its canonical word have one place.
   pub canonical-place : (w : List ℕ) → IsWord (length letters) k w → placeOf letters k m (canonical (length letters) (mirrorOf m) w) ≡ placeOf letters k m w
   canonical-place w i =
       same-code (length letters) (mirrorOf m) k within (canonical (length letters) (mirrorOf m) w) w (canonical-word w i .word) i .1

@@ -21,6 +21,7 @@ sum-zeros (suc n) = omega (arith, sum-zeros n)
 
 module _ (letters : List ℕ) (k m : ℕ) {t₀ t : List ℕ} {answer : Outcome ℕ} (no-ground : clearGround letters k m (length t₀) ≡ none)
     (clearing : Clears letters k m t₀ answer t) where
+  -- The settings pass the check.
   pub settings-good : settingsGround letters k m ≡ none
   unfolding clearGround
   settings-good = first-none (settingsGround letters k m) _ no-ground
@@ -38,6 +39,7 @@ module _ (letters : List ℕ) (k m : ℕ) {t₀ t : List ℕ} {answer : Outcome 
   zeros : t ≡ replicate (classCount letters k m) 0 ++ drop (classCount letters k m) t₀
   zeros = clearing .leaves ∙ rw (no-ground, n-zeros)
 
+  -- The table agrees with the cleared book.
   pub cleared-agrees : Agrees letters k m t clearedBook
   cleared-agrees =
       record {
@@ -49,14 +51,17 @@ module _ (letters : List ℕ) (k m : ℕ) {t₀ t : List ℕ} {answer : Outcome 
             ∙ getD-replicate (classCount letters k m) (placeOf letters k m w) 0 0 lt);
       }
 
+  -- The sum of its counts is 0.
   pub cleared-sum : sum (counts letters k m t) ≡ 0
   cleared-sum =
       rw (zeros, take-at (replicate (classCount letters k m) 0) (drop (classCount letters k m) t₀) (classCount letters k m) n-zeros)
       (sum-zeros (classCount letters k m))
 
+  -- Later places are as they were.
   pub cleared-later : drop (classCount letters k m) t ≡ drop (classCount letters k m) t₀
   cleared-later = rw zeros (drop-at (replicate (classCount letters k m) 0) (drop (classCount letters k m) t₀) (classCount letters k m) n-zeros)
 
+  -- The table is as long as it was.
   pub cleared-length : length t ≡ length t₀
   cleared-length =
       let n = length-append (replicate (classCount letters k m) 0) (drop (classCount letters k m) t₀) in

@@ -24,6 +24,7 @@ cut-stream k r [] h = sym (append-nil (windows k r))
 cut-stream k r (none ∷ ms) h = rw (cut-stream k [] ms h)
 cut-stream k r (some x ∷ ms) h = cut-stream k (r ++ (x ∷ [])) ms h ∙ rw (windows-snoc k r x h, append-assoc)
 
+-- From the start, with no letter at hand, the windows that the batches take are those of all runs.
 pub cut-all : (k : ℕ) (ms : List (Option ℕ)) → 1 ≤ k → cut k [] ms ≡ windowsOf k (runs ms)
 unfolding windows
 cut-all k ms h = cut-stream k [] ms h ∙ sym (windows-stream k ms h)

@@ -38,6 +38,7 @@ module _ (s k : ℕ) where
   ranked-runs (none ∷ ms) a = (tt, ranked-runs ms (a .1))
   ranked-runs (some x ∷ ms) a = ranked-onFirst x (runs ms) (a .0) (ranked-runs ms (a .1))
 
+  -- The windows of ranks below s are words of k letters.
   pub word-windows : (r : List ℕ) → Ranks s r → Each (IsWord s k) (windows k r)
   unfolding windows
   word-windows [] a = tt
@@ -67,6 +68,7 @@ module _ (letters : List ℕ) (k : ℕ) where
   ranked-marks (Stray ∷ is) = ranked-marks is
   ranked-marks (Letter b ∷ is) = (ranked b (rankIn letters b) refl, ranked-marks is)
 
+  -- The windows of a file are words of k letters.
   pub windows-are-words : (file : List ℕ) → Each (IsWord (length letters) k) (wins letters k file)
   unfolding wins
   windows-are-words file =

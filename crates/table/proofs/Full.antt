@@ -10,6 +10,7 @@ use lib.Dec.{ltb}
 use borrow.Author.Tests.{ltb-true, ltb-false, lt-ltb}
 use Rattle.table.specs.Table.{full}
 
+-- Two tests are equal where each holds if the other does.
 pub bool-ext : (x y : Bool) → (x ≡ true → y ≡ true) → (y ≡ true → x ≡ true) → x ≡ y
 bool-ext true y h g = sym (h refl)
 bool-ext false true h g = g refl
@@ -17,12 +18,14 @@ bool-ext false false h g = refl
 
 -- ---- counts in a table
 
+-- A count that is too high makes ground 12 apply.
 pub full-at : (n : ℕ) (cs : List ℕ) (i : ℕ) → i < length cs → 4294967295 - n < getD cs i 0 → full n cs ≡ true
 unfolding full
 full-at n [] i h g = absurd (omega arith)
 full-at n (c ∷ cs) zero h g = rw (lt-ltb (4294967295 - n) c g)
 full-at n (c ∷ cs) (suc i) h g = rw (full-at n cs i (omega arith) g) (or-true (ltb (4294967295 - n) c))
 
+-- Where ground 12 applies some count is too high.
 pub full-where : (n : ℕ) (cs : List ℕ) → full n cs ≡ true → (i : ℕ) × (i < length cs) × (4294967295 - n < getD cs i 0)
 unfolding full
 full-where n [] e = absurd (false≢true e)
@@ -50,6 +53,7 @@ not-full n (c ∷ cs) i e h = go (ltb (4294967295 - n) c) refl e (not-full n cs)
 
 -- ---- tallies in a book
 
+-- A tally that is too high makes it apply to a book.
 pub full-of-member : (n : ℕ) (b : List ℕ → ℕ) (ws : List (List ℕ)) (w : List ℕ) → List·Memᴰ w ws → 4294967295 - n < b w → full n (map b ws) ≡ true
 unfolding full
 full-of-member n b [] w m g = absurd (List·Memᴰ·not-nil m)
@@ -59,6 +63,7 @@ full-of-member n b (v ∷ ws) w m g =
     (λ (r : List·Memᴰ w ws). rw (full-of-member n b ws w r g) (or-true (ltb (4294967295 - n) (b v))))
     (List·Memᴰ·cases-cons m)
 
+-- Where it applies to a book some tally is too high.
 pub full-member : (n : ℕ) (b : List ℕ → ℕ) (ws : List (List ℕ)) → full n (map b ws) ≡ true → (w : List ℕ) × (List·Memᴰ w ws) × (4294967295 - n < b w)
 unfolding full
 full-member n b [] e = absurd (false≢true e)

@@ -103,6 +103,7 @@ module _ (letters : List ℕ) (k m : ℕ) (good : settingsGround letters k m ≡
             ∙ ap (λ (n : ℕ). sum (counts letters k m t) + n) (length-map (wins letters k file) (placeOf letters k m));
       }
 
+  -- One add on a table that agrees with a book: what `Stepped` says.
   pub step : (t file t′ : List ℕ) (answer : Outcome Numbers) (book : Book) → Added letters k m t file answer t′ → Agrees letters k m t book
       → Stepped letters k m book t file answer t′
   step t file t′ answer book h A =

@@ -25,6 +25,7 @@ hits-append s m w [] vs = omega arith
 hits-append s m w (u ∷ us) vs = omega (arith, hits-append s m w us vs)
 
 module _ (letters : List ℕ) (k : ℕ) where
+  -- The windows of some files are words of k letters.
   pub all-windows-are-words : (files : List (List ℕ)) → Each (IsWord (length letters) k) (allWins letters k files)
   unfolding allWins
   all-windows-are-words [] = tt

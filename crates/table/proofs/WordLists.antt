@@ -14,11 +14,13 @@ use Rattle.table.specs.Book.{sameWord, sameClass, CanonicalWord, withFro
 
 -- ---- the tests
 
+-- A word is equal to itself by the test.
 pub same-word : (w : List ℕ) → sameWord w w ≡ true
 unfolding sameWord
 same-word [] = refl
 same-word (a ∷ w) = rw (eq-eqb a a refl) (same-word w)
 
+-- Words that the test takes for equal are.
 pub word-same : (v w : List ℕ) → sameWord v w ≡ true → v ≡ w
 unfolding sameWord
 word-same [] [] e = refl
@@ -30,6 +32,7 @@ word-same (a ∷ v) (b ∷ w) e = go (eqb a b) refl e (word-same v w)
     go true f g ih = ap₂ (λ (x : ℕ) (l : List ℕ). x ∷ l) (eqb-true a b f) (ih g)
     go false f g ih = absurd (false≢true g)
 
+-- Words of one class by the test are equal or mirrors.
 pub class-same : (s : ℕ) (m : Mirror) (w v : List ℕ) → sameClass s m w v ≡ true → (v ≡ w) ⊎ (v ≡ mirror s m w)
 unfolding sameClass
 class-same s m w v e = go (sameWord v w) refl e
@@ -38,6 +41,7 @@ class-same s m w v e = go (sameWord v w) refl e
     go true f g = inl (word-same v w f)
     go false f g = inr (word-same v (mirror s m w) g)
 
+-- And the other way round.
 pub same-class : (s : ℕ) (m : Mirror) (w v : List ℕ) → (v ≡ w) ⊎ (v ≡ mirror s m w) → sameClass s m w v ≡ true
 unfolding sameClass
 same-class s m w v =
@@ -134,9 +138,11 @@ module _ (s : ℕ) (m : Mirror) where
           (List·Memᴰ·cases-cons r)
       go false e r ih = let (h, q) = ih r in (h, List·Memᴰ·tail q)
 
+  -- Each canonical word is in the list of all.
   pub listed : (k : ℕ) (w : List ℕ) → CanonicalWord s m k w → List·Memᴰ w (canonicalOnes s m (allWords s k))
   listed k w c = in-canonical-ones w (allWords s k) (c .own) (in-all-words s k w (c .word .letters) (c .word .ranks))
 
+  -- Each word in that list is the canonical word of a class.
   pub unlisted : (k : ℕ) (w : List ℕ) → List·Memᴰ w (canonicalOnes s m (allWords s k)) → CanonicalWord s m k w
   unlisted k w r =
       let (own, n) = of-canonical-ones w (allWords s k) r in

@@ -1,4 +1,4 @@
--- `fasta::item_at` meets its contract.
+-- `fasta::item_at` meets its contract: the mode says whether a byte is free, the > of a header or one of a line, of which `line_item` answers.
 use borrow.Author.Tests.{ne-eqb}
 use Rattle.fasta.specs.File.{item}
 use borrow.Author.Needs.{needs}

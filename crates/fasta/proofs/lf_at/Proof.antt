@@ -1,4 +1,4 @@
--- `fasta::lf_at` meets its contract.
+-- `fasta::lf_at` meets its contract: the byte at i is the first of what is left from i on.
 use borrow.Author.Needs.{needs}
 use lib.ListN.{drop-of-length-le}
 use lib.Seq.{drop-cons}

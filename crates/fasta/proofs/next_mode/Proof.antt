@@ -1,4 +1,4 @@
--- `fasta::next_mode` meets its contract.
+-- `fasta::next_mode` meets its contract: LF starts a line, and else the mode and the byte decide, by the definition.
 use borrow.Author.Tests.{ne-eqb}
 use Rattle.fasta.specs.File.{next}
 use Rattle.fasta.proofs.Bytes.{next-lf}

@@ -1,4 +1,4 @@
--- `fasta::scan` meets its contract.
+-- `fasta::scan` meets its contract: the grounds of proofs/ScanGrounds.antt, one at each test, and then what `scan_file` answers.
 use mathlib.Core.Path.{sym, ap, _∙_}
 use Rattle.settings.specs.Settings.{ofChecked}
 use Rattle.fasta.proofs.ScanGrounds.{bad-settings, few-letters, some-k, long-file, scanned}

@@ -1,4 +1,4 @@
--- `fasta::take_item` meets its contract.
+-- `fasta::take_item` meets its contract: one item of the machine `took`, by cases on what the item is.
 use borrow.Author.Tests.{ne-eqb}
 use borrow.Author.Needs.{needs}
 use Rattle.fasta.proofs.take_item.Statement.{statement}

@@ -1,4 +1,4 @@
--- `fasta_cases::decimal` meets its contract.
+-- `fasta_cases::decimal` meets its contract. The invariant: the number read so far is below 10^12, and the place is inside the text.
 use Prim.Native.Nat.{_-_, _≤_, _<_}
 use native.Mathlib.Omega.{arith}
 use borrow.Author.Needs.{needs}

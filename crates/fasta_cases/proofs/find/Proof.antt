@@ -1,4 +1,4 @@
--- `fasta_cases::find` meets its contract.
+-- `fasta_cases::find` meets its contract. The invariant: the place is inside the text, at or after the one to start from.
 use Prim.Native.Nat.{_-_, _≤_}
 use native.Mathlib.Omega.{arith}
 use lib.ListN.{length}

@@ -1,4 +1,4 @@
--- `fasta_cases::unescape` meets its contract.
+-- `fasta_cases::unescape` meets its contract. The invariant: the bytes written so far fit the buffer, whose length is as it was.
 use mathlib.Core.Path.{_≡_}
 use Prim.Native.Nat.{_-_, _≤_, _+_}
 use native.Mathlib.Omega.{arith}

@@ -1,4 +1,5 @@
--- `kmer::kmer_clear` meets its contract.
+-- `kmer::kmer_clear` meets its contract: what `table::clear` answered, as one number, by the laws of proofs/Refusals.antt; its P fits by
+-- `clear-small`.
 use mathlib.Core.Path.{refl, ap}
 use native.Mathlib.Omega.{arith}
 use borrow.Author.Needs.{needs}

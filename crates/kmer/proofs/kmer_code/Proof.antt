@@ -1,4 +1,4 @@
--- `kmer::kmer_code` meets its contract.
+-- `kmer::kmer_code` meets its contract: what `encoding::code_of` answered, as one number.
 use mathlib.Core.Path.{sym, ap, _∙_}
 use Rattle.encoding.specs.Answers.{ofCoding}
 use Rattle.kmer.specs.Returned.{returned}

@@ -1,4 +1,5 @@
--- `kmer::kmer_listing` meets its contract.
+-- `kmer::kmer_listing` meets its contract: what `listing::list` answered, as one number, by the laws of proofs/Refusals.antt; its P fits by
+-- `listing-small`.
 use mathlib.Core.Path.{refl, ap}
 use native.Mathlib.Omega.{arith}
 use borrow.Author.Needs.{needs}

@@ -1,4 +1,4 @@
--- `kmer::kmer_word` meets its contract.
+-- `kmer::kmer_word` meets its contract: what `encoding::word_of` answered, as one number without P, and the buffer as that call left it.
 use mathlib.Core.Path.{refl, ap}
 use Rattle.encoding.specs.Answers.{ofFilling}
 use Rattle.kmer.specs.Returned.{returned}

@@ -1,4 +1,4 @@
--- `settings::capital` meets its contract.
+-- `settings::capital` meets its contract: by cases on the two tests of a small letter.
 use borrow.Author.Needs.{needs}
 use borrow.Author.Tests.{le-leb, lt-leb}
 use native.Mathlib.Omega.{arith}

@@ -1,4 +1,4 @@
--- `settings::check` meets its contract.
+-- `settings::check` meets its contract: at each test the ground that applies, by the laws of proofs/SettingsGrounds.antt.
 use native.Mathlib.Omega.{arith}
 use mathlib.Core.Path.{sym, _∙_}
 use borrow.Author.Tests.{not-true, not-false}

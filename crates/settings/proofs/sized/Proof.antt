@@ -1,4 +1,4 @@
--- `settings::sized` meets its contract.
+-- `settings::sized` meets its contract: ground 4 from the power that stops above 2^62, and else the settings with their number of classes.
 use Rattle.settings.proofs.ClassCount.{no-k, large-k, good-k}
 use native.Mathlib.Omega.{arith}
 use mathlib.Core.Path.{_≡_}

@@ -1,4 +1,4 @@
--- `table::add` meets its contract.
+-- `table::add` meets its contract: a refusal of the settings' check stands, and else `add_checked` answers.
 use mathlib.Core.Path.{sym, ap, _∙_}
 use denote.Ref.{now}
 use Rattle.settings.specs.Settings.{settingsGround, settingsOf, ofChecked}

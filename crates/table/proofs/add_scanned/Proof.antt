@@ -1,4 +1,4 @@
--- `table::add_scanned` meets its contract.
+-- `table::add_scanned` meets its contract: what `count_unless_full` does to the first places is what the add does to the table.
 use Rattle.table.proofs.CallGrounds.{takes-letters, classes-of, ranks-under, places-by-table, n-windows-by-table, few-windows, whole-table}
 use mathlib.Core.Path.{sym, ap, _∙_}
 use native.Mathlib.Omega.{arith}

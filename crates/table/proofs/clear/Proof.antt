@@ -1,4 +1,4 @@
--- `table::clear` meets its contract.
+-- `table::clear` meets its contract: a refusal of the settings' check stands, and else `clear_places` answers.
 use mathlib.Core.Path.{sym, ap, _∙_}
 use Rattle.settings.specs.Settings.{ofChecked}
 use Rattle.table.proofs.CallGrounds.{clearing-refused, clearing}

@@ -1,4 +1,4 @@
--- `table::clear_places` meets its contract.
+-- `table::clear_places` meets its contract: the grounds 6 and 7 at its tests, and else zeros in the first places.
 use Rattle.table.proofs.CallGrounds.{too-many-to-clear, too-short-to-clear, places-cleared}
 use borrow.Author.Needs.{needs}
 use Rattle.table.proofs.clear_places.Statement.{statement}

@@ -1,4 +1,4 @@
--- `table::count_unless_full` meets its contract.
+-- `table::count_unless_full` meets its contract: ground 12 by `too_full`, and else the counts that `count_file` leaves.
 use Rattle.fasta.specs.File.{fileWindows}
 use Rattle.settings.specs.RankTables.{rankByTable}
 use mathlib.Core.Path.{sym, _∙_, subst}

@@ -1,4 +1,4 @@
--- `fasta::records::is_header` meets its contract.
+-- `fasta::records::is_header` meets its contract: one law of proofs/Searches.antt for each of its answers.
 use Rattle.fasta.proofs.Searches.{no-mark, at-start, after-lf}
 use borrow.Author.Needs.{needs}
 use Rattle.fasta.proofs.records.is_header.Statement.{statement}

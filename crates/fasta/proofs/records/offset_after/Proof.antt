@@ -1,4 +1,4 @@
--- `fasta::records::offset_after` meets its contract.
+-- `fasta::records::offset_after` meets its contract: the record that `record_at` answers says where it ends.
 use mathlib.Core.Path.{sym, ap, _∙_}
 use native.Mathlib.Omega.{arith}
 use Rattle.fasta.specs.Records.{offsetAfter}

@@ -1,4 +1,4 @@
--- `fasta::records::record_at` meets its contract.
+-- `fasta::records::record_at` meets its contract: the next header with its line end makes the record, by the contracts of its calls.
 use mathlib.Core.Path.{_∙_}
 use Rattle.fasta.proofs.Searches.{some-record, no-record}
 use borrow.Author.Needs.{needs}

@@ -1,4 +1,4 @@
--- `fasta::records::record_to` meets its contract.
+-- `fasta::records::record_to` meets its contract: the three forms of a record, from `header_at` and the laws of proofs/Searches.antt.
 use native.Mathlib.Omega.{arith}
 use Rattle.fasta.proofs.Searches.{with-cr, with-lf, cut-off}
 use borrow.Author.Needs.{needs}

@@ -1,4 +1,4 @@
--- `table::batches::carry` meets its contract.
+-- `table::batches::carry` meets its contract: the last k - 1 letters are at the array's start, or none where their run ended.
 use native.Mathlib.Omega.{arith}
 use Rattle.table.proofs.BatchLaws.{carried}
 use borrow.Author.Needs.{needs}

@@ -1,4 +1,4 @@
--- `table::batches::count_batch` meets its contract.
+-- `table::batches::count_batch` meets its contract: the codes that the kernel fills in are those of the letters' windows, and each is counted.
 use mathlib.Core.Path.{sym, ap, _∙_}
 use lib.ListN.{length}
 use denote.Ref.{now}

@@ -1,4 +1,4 @@
--- `table::batches::mark_of` meets its contract.
+-- `table::batches::mark_of` meets its contract: by cases on what the item is; the rank of a letter is the table's.
 use borrow.Author.Needs.{needs}
 use Rattle.table.proofs.batches.mark_of.Statement.{statement}
 use Rattle.table.proofs.batches.mark_of.Tie as tie

@@ -1,4 +1,4 @@
--- `table::batches::rank_mark` meets its contract.
+-- `table::batches::rank_mark` meets its contract: 255 stands for no rank, and any other byte for itself.
 use borrow.Author.Tests.{ne-eqb}
 use Rattle.settings.specs.RankTables.{asRank}
 use Rattle.table.proofs.batches.rank_mark.Statement.{statement}

@@ -1,4 +1,4 @@
--- `table::counts::count_code` meets its contract.
+-- `table::counts::count_code` meets its contract: one more at the code's place.
 use mathlib.Core.Path.{refl}
 use Rattle.table.specs.Table.{bump}
 use borrow.Author.Needs.{needs}

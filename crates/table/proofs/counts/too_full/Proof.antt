@@ -1,4 +1,4 @@
--- `table::counts::too_full` meets its contract.
+-- `table::counts::too_full` meets its contract: some count is too high exactly where the highest is.
 use mathlib.Core.Path.{sym, ap, _∙_}
 use Prim.Native.Nat.{ℕ, _-_}
 use lib.Dec.{ltb}
