@@ -6,7 +6,7 @@ use Prim.Native.Nat.{ℕ, _+_, _<_, _≤_}
 use native.Mathlib.Numerals.{add-one}
 use native.Mathlib.Omega.{arith}
 use lib.ListN.{length, getD, take, drop, set, length-append, length-drop, length-set, drop-of-length-le}
-use lib.Seq.{take-suc, take-all, take-at, drop-at, take-add, drop-drop, drop-set-lt, getD-drop, getD-append-add, length-take-le}
+use lib.Seq.{take-suc, take-all, take-at, drop-at, take-add, drop-drop, drop-set-lt, length-take-le}
 use Rattle.laws.proofs.Lists.{write-next}
 
 -- The first n places of out hold the first n numbers of C, the others what the list o held before.
@@ -49,17 +49,6 @@ module _ {C o : List ℕ} {n : ℕ} {out : List ℕ} (W : Written C o n out) whe
         upto = h;
         room = W .room;
       }
-
-  -- A place that is still to be written is as it was.
-  pub written-later : getD out n 0 ≡ getD o n 0
-  written-later =
-      let e : length (take n C) + 0 ≡ n = omega (arith, head-length) in
-      let z : n + 0 ≡ n = omega arith in
-      ap (λ (l : List ℕ). getD l n 0) (W .is)
-      ∙ sym (ap (λ (i : ℕ). getD (take n C ++ drop n o) i 0) e)
-      ∙ getD-append-add (take n C) (drop n o) 0 0
-      ∙ getD-drop n o 0 0
-      ∙ rw z
 
   -- All are written.
   pub written-all : length C ≤ n → out ≡ C ++ drop (length C) o

@@ -12,11 +12,6 @@ use Rattle.laws.proofs.Powers.{pow-pos, pow-one, pow-split}
 unfoldable pub window : ℕ → ℕ → ℕ → ℕ → ℕ
 window s e f x = x / s ^ e % s ^ f
 
--- One digit.
-pub window-one : (s e x : ℕ) → window s e 1 x ≡ x / s ^ e % s
-unfolding window
-window-one s e x = rw (pow-one s)
-
 three : (s n e f : ℕ) → e + f ≤ n → s ^ n ≡ s ^ (n - e - f) * s ^ f * s ^ e
 three s n e f h =
     let g : n ≡ n - e - f + f + e = omega arith in
