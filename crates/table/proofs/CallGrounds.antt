@@ -104,28 +104,36 @@ module _ (letters : List ℕ) (k m : ℕ) (t file : List ℕ) where
         unfolding addGround tooLong tooMany
         short-table h = refused-at (7, n) (simp (good, le-ltb 16777216 (length file) short, sym n-is, le-ltb 16777216 n few, lt-ltb (length t) n h))
 
-        module _ (long : n ≤ length t) where
-          -- What is left of the grounds: a fault of the file, and then ground 12.
-          grounds-left : tableGround letters k m t file ≡ fileFault file orElse ground 12 (lateTable letters k m t file)
-          unfolding addGround tooLong tooMany
-          grounds-left =
-              let fits : classCount letters k m ≤ 16777216 = omega arith in
-              let room : classCount letters k m ≤ length t = omega arith in
-              rw (good, le-ltb 16777216 (length file) short, le-ltb 16777216 (classCount letters k m) fits, le-ltb (length t) (classCount letters k m) room)
+-- What an add knows once no ground up to 7 applies, n being the number of classes.
+pub record Addable (letters : List ℕ) (k m : ℕ) (t file : List ℕ) (n : ℕ) : Type 0 where
+  pub good : settingsGround letters k m ≡ none
+  pub n-is : n ≡ classCount letters k m
+  pub short : length file ≤ 16777216
+  pub few : n ≤ 16777216
+  pub long : n ≤ length t
 
-          pub faulty : (ranks : List ℕ) (f : Ground) → refused f ≡ outcome (fileFault file) (fileNumbers (rankByTable ranks) k file)
-              → Added letters k m t file (refused f) t
-          faulty ranks f e =
-              record {
-                answers = rw grounds-left (refused-on f (fileNumbers (rankByTable ranks) k file) (fileNumbers (rankIn letters) k file) (fileFault file) _ e);
-                leaves = rw grounds-left (refused-leaves f (fileNumbers (rankByTable ranks) k file) (fileFault file) _ (bumps t (places letters k m file)) t e);
-              }
+module _ {letters : List ℕ} {k m : ℕ} {t file : List ℕ} {n : ℕ} (P : Addable letters k m t file n) where
+  -- What is left of the grounds: a fault of the file, and then ground 12.
+  grounds-left : tableGround letters k m t file ≡ fileFault file orElse ground 12 (lateTable letters k m t file)
+  unfolding addGround tooLong tooMany
+  grounds-left =
+      let fits : classCount letters k m ≤ 16777216 = omega (arith, P .n-is, P .few) in
+      let room : classCount letters k m ≤ length t = omega (arith, P .n-is, P .long) in
+      rw (P .good, le-ltb 16777216 (length file) (P .short), le-ltb 16777216 (classCount letters k m) fits, le-ltb (length t) (classCount letters k m) room)
 
-          pub added : (x : Numbers) (answer : Outcome Numbers) (t′ : List ℕ) → CleanFile letters k file x → AddedUnlessFull letters k m t file answer t′
-              → Added letters k m t file answer t′
-          added x answer t′ F A =
-              let e : tableGround letters k m t file ≡ ground 12 (lateTable letters k m t file) = grounds-left ∙ rw (F .no-fault) in
-              record { answers = A .answers ∙ rw e; leaves = A .leaves ∙ rw e }
+  pub faulty : (ranks : List ℕ) (f : Ground) → refused f ≡ outcome (fileFault file) (fileNumbers (rankByTable ranks) k file)
+      → Added letters k m t file (refused f) t
+  faulty ranks f e =
+      record {
+        answers = rw grounds-left (refused-on f (fileNumbers (rankByTable ranks) k file) (fileNumbers (rankIn letters) k file) (fileFault file) _ e);
+        leaves = rw grounds-left (refused-leaves f (fileNumbers (rankByTable ranks) k file) (fileFault file) _ (bumps t (places letters k m file)) t e);
+      }
+
+  pub added : (x : Numbers) (answer : Outcome Numbers) (t′ : List ℕ) → CleanFile letters k file x → AddedUnlessFull letters k m t file answer t′
+      → Added letters k m t file answer t′
+  added x answer t′ F A =
+      let e : tableGround letters k m t file ≡ ground 12 (lateTable letters k m t file) = grounds-left ∙ rw (F .no-fault) in
+      record { answers = A .answers ∙ rw e; leaves = A .leaves ∙ rw e }
 
 -- ---- a file that was scanned without fault
 

@@ -75,6 +75,7 @@ fn mark_of(it: Item, table: &[u8; 256]) -> Mark
     }
 }
 
+// An answer of `gather`.
 fn gathered_to(at: usize, mode: Mode, letters: usize, ended: bool) -> Gathered
     ensures { λ r. ⌜ r ≡ record { at = at; mode = mode; letters = letters; ended = ended } ⌝ }
 {
