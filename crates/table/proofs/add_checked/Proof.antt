@@ -17,23 +17,6 @@ use Rattle.table.proofs.add_checked.Tie as tie
 classes-are : (c : tie.Start) → c .args .st .classes ≡ classCount (now (c .args .letters)) (c .args .k) (c .args .mirror)
 classes-are c = ap (λ (x : Settings). x .classes) (c .pre .1)
 
--- Where the function began, from the place past its three tests; and what it knows there.
-abbrev start : tie.Else3 → tie.Start
-start c = c .before .before .before .before .before .before .before
-
-abbrev AddableFrom : tie.Start → Type 0
-AddableFrom c = let a = c .args in Addable (now (a .letters)) (a .k) (a .mirror) (now (a .table)) (now (a .file)) (a .st .classes)
-
-addable : (c : tie.Else3) → AddableFrom (start c)
-addable c =
-    record {
-      good = start c .pre .0;
-      n-is = classes-are (start c);
-      short = c .before .before .before .if1 .left;
-      few = c .before .if2 .left;
-      long = c .if3 .left;
-    }
-
 returns : tie.Need-returns
 returns c =
     let start = c .before .before .before .before in
@@ -51,6 +34,23 @@ returns-3 c =
     let if1 = if2 .before .before in
     let start = if1 .before .before .before .before in
     short-table _ _ _ _ _ (start .pre .0) _ (classes-are start) (if1 .if1 .left) (if2 .if2 .left) (c .if3 .taken)
+
+-- Where the function began, from the place past its three tests; and what it knows there.
+abbrev start : tie.Else3 → tie.Start
+start c = c .before .before .before .before .before .before .before
+
+abbrev AddableFrom : tie.Start → Type 0
+AddableFrom c = let a = c .args in Addable (now (a .letters)) (a .k) (a .mirror) (now (a .table)) (now (a .file)) (a .st .classes)
+
+addable : (c : tie.Else3) → AddableFrom (start c)
+addable c =
+    record {
+      good = start c .pre .0;
+      n-is = classes-are (start c);
+      short = c .before .before .before .if1 .left;
+      few = c .before .if2 .left;
+      long = c .if3 .left;
+    }
 
 rank-table-requires : tie.Need-rank-table-requires
 rank-table-requires c κs =
