@@ -90,10 +90,19 @@ module _ (s : ℕ) (m : Mirror) (hs : 1 < s) (he : EvenUnder s m) where
       record {
         below = rw (codeRec-same s m n a b u l e, classes-suc s m n he) (omega arith);
         back =
-            rw (codeRec-same s m n a b u l e, word-low s m n (s * codeRec s m n u + mirrorRank s m b) lt, div-low s (codeRec s m n u) (mirrorRank s m b) hr, mod-low s (codeRec s m n u) (mirrorRank s m b) hr, ih .back, mirrorRank-twice s m b hb, e);
+            rw (
+              codeRec-same s m n a b u l e,
+              word-low s m n (s * codeRec s m n u + mirrorRank s m b) lt,
+              div-low s (codeRec s m n u) (mirrorRank s m b) hr,
+              mod-low s (codeRec s m n u) (mirrorRank s m b) hr,
+              ih .back,
+              mirrorRank-twice s m b hb,
+              e,
+            );
       }
 
-  coded-differ : (n a b : ℕ) (u : List ℕ) → length u ≡ n → Ranks s u → plain s u < s ^ n → b < s → a < mirrorRank s m b → Coded s m (suc (suc n)) (a ∷ (u ++ (b ∷ [])))
+  coded-differ : (n a b : ℕ) (u : List ℕ) → length u ≡ n → Ranks s u → plain s u < s ^ n → b < s → a < mirrorRank s m b
+      → Coded s m (suc (suc n)) (a ∷ (u ++ (b ∷ [])))
   coded-differ n a b u l hu pu hb lt =
       let r : ℕ = mirrorRank s m b in
       let hr : r < s = mirrorRank-lt s m b hb in
@@ -102,7 +111,15 @@ module _ (s : ℕ) (m : Mirror) (hs : 1 < s) (he : EvenUnder s m) where
       record {
         below = rw (e, classes-suc s m n he) (omega (arith, differ-lt (pairRank s a r) (pairCount s) (s ^ n) (plain s u) (below-pairs s a r lt hr) pu));
         back =
-            rw (e, word-high s m n (pairRank s a (mirrorRank s m b) * s ^ n + plain s u), digits-div (pairRank s a (mirrorRank s m b)) pu, digits-mod (pairRank s a (mirrorRank s m b)) pu, pair-of-rank s a (mirrorRank s m b) lt hr, wordOfPlain-plain s n u hs l hu, mirrorRank-twice s m b hb);
+            rw (
+              e,
+              word-high s m n (pairRank s a (mirrorRank s m b) * s ^ n + plain s u),
+              digits-div (pairRank s a (mirrorRank s m b)) pu,
+              digits-mod (pairRank s a (mirrorRank s m b)) pu,
+              pair-of-rank s a (mirrorRank s m b) lt hr,
+              wordOfPlain-plain s n u hs l hu,
+              mirrorRank-twice s m b hb,
+            );
       }
 
   coded-step : (n a b : ℕ) (u : List ℕ) → length u ≡ n
@@ -161,7 +178,8 @@ module _ (s : ℕ) (m : Mirror) (hs : 1 < s) (he : EvenUnder s m) where
       let tr : mirrorRank s m r < s = mirrorRank-lt s m r hr in
       let e : mirrorRank s m (mirrorRank s m r) ≡ r = mirrorRank-twice s m r hr in
       let lu : length (wordOfPlain s n x) ≡ n = length-wordOfPlain s n x in
-      let hw : Ranks s (l ∷ (wordOfPlain s n x ++ (mirrorRank s m r ∷ []))) = two-ranks l (mirrorRank s m r) (wordOfPlain s n x) (omega arith) tr (ranks-wordOfPlain s n x hs hx) in
+      let hw : Ranks s (l ∷ (wordOfPlain s n x ++ (mirrorRank s m r ∷ [])))
+      = two-ranks l (mirrorRank s m r) (wordOfPlain s n x) (omega arith) tr (ranks-wordOfPlain s n x hs hx) in
       record {
         len = length-ends n l (mirrorRank s m r) (wordOfPlain s n x) lu;
         ranks = hw;

@@ -12,7 +12,7 @@ use lib.ListN.{length}
 use Rattle.laws.proofs.Powers.{pairCount, square}
 use Rattle.encoding.specs.Words.{Mirror, Ranks, mirrorRank, plain}
 use Rattle.encoding.specs.Codes.{digits, pairRank}
-use Rattle.encoding.proofs.Ends.{ends, digits-ends, plain-one, plain-snoc}
+use Rattle.encoding.proofs.Ends.{ends, endDigits, digits-ends, plain-one, plain-snoc}
 use Rattle.encoding.proofs.Canonical.{IsCanonical, mirrorRank-lt, last-lt, inner-ranks, inner-lt, canonical-first, canonical-inner}
 use Rattle.encoding.proofs.Recursion.{pair-value}
 use Rattle.encoding.proofs.Pairs.{below-pairs}
@@ -29,11 +29,11 @@ module _ (s : ℕ) (m : Mirror) (hs : 1 < s) where
   low-step : (n a b : ℕ) (u : List ℕ) → length u ≡ n → Low n u → Low (suc (suc n)) (a ∷ (u ++ (b ∷ [])))
   unfolding plain
   low-step n a b u l ih h g =
-      let r = mirrorRank s m b in
       let hr = mirrorRank-lt s m b (last-lt s m n a b u l h) in
       let hl = canonical-first s m n a b u l h g in
       rw (digits-ends s m n a b u l)
-      (elim (ℕ-discrete a (mirrorRank s m b)) as (λ _. plain s (cond (eqb a (mirrorRank s m b)) (0 ∷ (digits s m n u ++ (mirrorRank s m b ∷ []))) ((pairRank s a (mirrorRank s m b) / s + 1) ∷ (pairRank s a (mirrorRank s m b) % s) ∷ u)) < s ^ suc (suc n)) [
+      (elim (ℕ-discrete a (mirrorRank s m b)) as (λ _.
+      plain s (endDigits s m n a u (mirrorRank s m b) (eqb a (mirrorRank s m b))) < s ^ suc (suc n)) [
         | yes e ↦
             let lt : plain s (digits s m n u) < s ^ n = ih (inner-ranks s m n a b u l h) (canonical-inner s m n a b u l h g e) in
             rw (eq-eqb a (mirrorRank s m b) e, plain-snoc s (mirrorRank s m b) (digits s m n u))

@@ -67,7 +67,8 @@ complement-low s q x b h g =
         let k : q * s ≡ d * s + x * s + s = omega (arith, ap (λ (y : ℕ). y * s) e) in
         rw f (omega arith)
 
-closing-ends : (s : ℕ) (m : Mirror) (n a x b p : ℕ) → 1 < s → b < s → p ≤ n → closing s m (suc p) (a * s ^ suc n + x * s + b) ≡ s * closing s m p x + mirrorRank s m b
+closing-ends : (s : ℕ) (m : Mirror) (n a x b p : ℕ) → 1 < s → b < s → p ≤ n
+    → closing s m (suc p) (a * s ^ suc n + x * s + b) ≡ s * closing s m p x + mirrorRank s m b
 unfolding closing mirrorRank
 closing-ends s Reversal n a x b p hs hb h = low-ends s n a x b p hs hb h ∙ omega arith
 closing-ends s Complement n a x b p hs hb h =
@@ -81,7 +82,13 @@ within-ends s m (suc zero) n p a x b c y d hs hb hd e = ap (middleOfCode s m) (w
 within-ends s m (suc (suc j)) n p a x b c y d hs hb hd e =
     let e₁ : suc (suc n) - suc p - 1 ≡ suc (n - p - 1) = omega arith in
     let e₂ : suc p + 1 ≡ suc (p + 1) = omega arith in
-    rw (e₁, e₂, window-ends s n a x b (n - p - 1) 1 hs hb (omega arith), window-ends s n c y d (n - p - 1) 1 hs hd (omega arith), window-ends s n a x b (p + 1) j hs hb (omega arith))
+    rw (
+      e₁,
+      e₂,
+      window-ends s n a x b (n - p - 1) 1 hs hb (omega arith),
+      window-ends s n c y d (n - p - 1) 1 hs hd (omega arith),
+      window-ends s n a x b (p + 1) j hs hb (omega arith),
+    )
 
 byRanks-ends : (s : ℕ) (m : Mirror) (n p a x b c y d : ℕ) → 1 < s → b < s → d < s → 2 * p ≤ n
     → byRanks s m (suc (suc n)) (suc p) (a * s ^ suc n + x * s + b) (c * s ^ suc n + y * s + d) ≡ s * byRanks s m n p x y + mirrorRank s m b
@@ -125,13 +132,23 @@ module _ (s : ℕ) (m : Mirror) (hs : 1 < s) (he : EvenUnder s m) where
       let hb = last-lt s m n a b u l h in
       let hu = inner-ranks s m n a b u l h in
       rw (equalPairs-ends s m n a b u l, plain-ends s n a b u l, mirror-plain-ends s m n a b u l h)
-      (elim (ℕ-discrete a (mirrorRank s m b)) as (λ _. codeRec s m (suc (suc n)) (a ∷ (u ++ (b ∷ []))) ≡ byRanks s m (suc (suc n)) (cond (eqb a (mirrorRank s m b)) (suc (equalPairs s m n u)) 0) (a * s ^ suc n + plain s u * s + b) (mirrorRank s m b * s ^ suc n + plain s (mirror s m u) * s + mirrorRank s m a)) [
+      (elim (ℕ-discrete a (mirrorRank s m b)) as (λ _.
+      codeRec s m (suc (suc n)) (a ∷ (u ++ (b ∷ [])))
+      ≡ byRanks s m (suc (suc n)) (cond (eqb a (mirrorRank s m b)) (suc (equalPairs s m n u)) 0) (a * s ^ suc n + plain s u * s + b)
+      (mirrorRank s m b * s ^ suc n + plain s (mirror s m u) * s + mirrorRank s m a)) [
         | yes e ↦
-            rw (codeRec-same s m n a b u l e, eq-eqb a (mirrorRank s m b) e, byRanks-ends s m n (equalPairs s m n u) a (plain s u) b (mirrorRank s m b) (plain s (mirror s m u)) (mirrorRank s m a) hs hb (mirrorRank-lt s m a ha) (equalPairs-le s m n u))
+            rw (
+              codeRec-same s m n a b u l e,
+              eq-eqb a (mirrorRank s m b) e,
+              byRanks-ends s m n (equalPairs s m n u) a (plain s u) b (mirrorRank s m b) (plain s (mirror s m u)) (mirrorRank s m a) hs hb
+                  (mirrorRank-lt s m a ha) (equalPairs-le s m n u),
+            )
             (ap (λ (x : ℕ). s * x + mirrorRank s m b) (ih hu (canonical-inner s m n a b u l h g e)))
         | no ne ↦
             rw (codeRec-differ s m n a b u l ne, ne-eqb a (mirrorRank s m b) ne)
-            (sym (byRanks-differ s m n a (plain s u) b (mirrorRank s m b) (plain s (mirror s m u)) (mirrorRank s m a) hs ha (mirrorRank-lt s m b hb) hb (inner-lt s m n a b u l h) (rest-lt s m n a b u l h) (mirror-rest-lt s m n a b u l h)))
+            (sym
+            (byRanks-differ s m n a (plain s u) b (mirrorRank s m b) (plain s (mirror s m u)) (mirrorRank s m a) hs ha (mirrorRank-lt s m b hb) hb
+            (inner-lt s m n a b u l h) (rest-lt s m n a b u l h) (mirror-rest-lt s m n a b u l h)))
       ])
 
   pub ranked : (n : ℕ) (w : List ℕ) → length w ≡ n → Ranks s w → IsCanonical s m w

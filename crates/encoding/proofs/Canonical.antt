@@ -35,8 +35,10 @@ unfolding mirror
 Ranks-mirror s m =
     ends (λ n w. Ranks s w → Ranks s (mirror s m w)) (λ h. tt) (λ a h. (mirrorRank-lt s m a (h .0), tt))
     (λ n a b u l ih h.
-    rw (mirror-ends s m a b u)
-    (mirrorRank-lt s m b (Ranks-right s u (b ∷ []) (h .1) .0), Ranks-append s (mirror s m u) (mirrorRank s m a ∷ []) (ih (Ranks-left s u (b ∷ []) (h .1))) (mirrorRank-lt s m a (h .0), tt)))
+    let first = mirrorRank-lt s m a (h .0) in
+    let last = mirrorRank-lt s m b (Ranks-right s u (b ∷ []) (h .1) .0) in
+    let inner = ih (Ranks-left s u (b ∷ []) (h .1)) in
+    rw (mirror-ends s m a b u) (last, Ranks-append s (mirror s m u) (mirrorRank s m a ∷ []) inner (first, tt)))
 
 -- The mirror of the mirror is the word.
 pub mirror-mirror : (s : ℕ) (m : Mirror) (n : ℕ) (w : List ℕ) → length w ≡ n → Ranks s w → mirror s m (mirror s m w) ≡ w

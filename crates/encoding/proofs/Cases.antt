@@ -50,7 +50,9 @@ pub starred-cases : record {
   complement-31-read : reading (bytes "ACGT") 31 1 2305843009213693951 31 ≡ given 31;
   complement-31-next : reading (bytes "ACGT") 31 1 2305843009213693952 31 ≡ refused (8, 0);
 }
-unfolding isCapital isIn differentCapitals goodLetters capitalOf placeFrom isOdd halfUp classes badSize settingsGround mirrorRank mirror plain canonical pairRank digits differingPair shift oddShift codeOfCanonical code wordOfPlain pairOfRank middleOfCode wordOf ranksOf inCapitals foreignFrom codeGround readGround coding wordBytes
+unfolding isCapital isIn differentCapitals goodLetters capitalOf placeFrom isOdd halfUp classes badSize settingsGround
+    mirrorRank mirror plain canonical pairRank digits differingPair shift oddShift codeOfCanonical code
+    wordOfPlain pairOfRank middleOfCode wordOf ranksOf inCapitals foreignFrom codeGround readGround coding wordBytes
 starred-cases = record {
   reversal-6 = refl;
   complement-5 = refl;

@@ -128,7 +128,8 @@ pub shift-suc : (s n i : ℕ) → 1 < s → 2 * suc i ≤ n → shift s (suc (su
 unfolding shift
 shift-suc s n i h g =
     rw (halfUp-suc n)
-    (shift-exponents s (n - suc (suc i)) (halfUp n - 1) (suc (suc n) - suc (suc i)) (n - suc i) (halfUp n) h (omega (arith, halfUp-twice n)) (omega arith) (omega arith) (omega (arith, halfUp-twice n)))
+    (shift-exponents s (n - suc (suc i)) (halfUp n - 1) (suc (suc n) - suc (suc i)) (n - suc i) (halfUp n) h
+    (omega (arith, halfUp-twice n)) (omega arith) (omega arith) (omega (arith, halfUp-twice n)))
 
 -- The shift where the outer pair differs.
 pub shift-first : (s : ℕ) (m : Mirror) (n : ℕ) → 1 < s → EvenUnder s m → s ^ suc n ≡ s * classes s m n + shift s (suc (suc n)) 1 + oddShift s m (suc (suc n))
@@ -137,7 +138,15 @@ shift-first s m n h g =
     let e₁ : suc (suc n) - 1 ≡ suc n = omega arith in
     let (d, f) = gap s n (halfUp n) h (halfUp-le n) in
     rw (e₁, halfUp-suc n)
-    (omega (arith, ap (λ (x : ℕ). s ^ x) (halfUp-suc n), twice-classes s m n g, ap (λ (x : ℕ). s * x) (twice-classes s m n g), odd-palindromes s m (suc (suc n)) g, palindromes-suc s m n, pow-suc s n))
+    (omega (
+      arith,
+      ap (λ (x : ℕ). s ^ x) (halfUp-suc n),
+      twice-classes s m n g,
+      ap (λ (x : ℕ). s * x) (twice-classes s m n g),
+      odd-palindromes s m (suc (suc n)) g,
+      palindromes-suc s m n,
+      pow-suc s n,
+    ))
 
 -- The number of classes is at most s^k.
 pub palindromes-le : (s : ℕ) (m : Mirror) (n : ℕ) → 1 < s → palindromes s m n ≤ s ^ n

@@ -34,10 +34,15 @@ module _ (s : ℕ) (m : Mirror) (hs : 1 < s) (he : EvenUnder s m) where
     -- Of a word read backwards.
     turned-ranks : Ranks s (mirrorRank s m b ∷ (mirror s m u ++ (mirrorRank s m a ∷ [])))
     turned-ranks =
-        (mirrorRank-lt s m b (last-lt s m n a b u l h), Ranks-append s (mirror s m u) (mirrorRank s m a ∷ []) (Ranks-mirror s m n u l (inner-ranks s m n a b u l h)) (mirrorRank-lt s m a (first-lt s m n a b u l h), tt))
+        let first = mirrorRank-lt s m a (first-lt s m n a b u l h) in
+        let last = mirrorRank-lt s m b (last-lt s m n a b u l h) in
+        let inner = Ranks-mirror s m n u l (inner-ranks s m n a b u l h) in
+        (last, Ranks-append s (mirror s m u) (mirrorRank s m a ∷ []) inner (first, tt))
 
     turned-code : code s m (suc (suc n)) (mirrorRank s m b ∷ (mirror s m u ++ (mirrorRank s m a ∷ []))) ≡ code s m (suc (suc n)) (a ∷ (u ++ (b ∷ [])))
-    turned-code = ap (code s m (suc (suc n))) (sym (mirror-ends s m a b u)) ∙ code-mirror s m hs he (suc (suc n)) (a ∷ (u ++ (b ∷ []))) (length-ends n a b u l) h
+    turned-code =
+        ap (code s m (suc (suc n))) (sym (mirror-ends s m a b u))
+        ∙ code-mirror s m hs he (suc (suc n)) (a ∷ (u ++ (b ∷ []))) (length-ends n a b u l) h
 
   pub code-less : (n a b : ℕ) (u : List ℕ) (l : length u ≡ n) (h : Ranks s (a ∷ (u ++ (b ∷ [])))) → a < mirrorRank s m b
       → code s m (suc (suc n)) (a ∷ (u ++ (b ∷ []))) ≡ s * classes s m n + pairRank s a (mirrorRank s m b) * s ^ n + plain s u
@@ -69,7 +74,8 @@ module _ (s : ℕ) (m : Mirror) (hs : 1 < s) (he : EvenUnder s m) where
             let hu = inner-ranks s m n a b u l h in
             let tt-a : mirrorRank s m (mirrorRank s m a) ≡ a = mirrorRank-twice s m a (first-lt s m n a b u l h) in
             sym (turned-code n a b u l h)
-            ∙ same-low n (mirrorRank s m b) (mirrorRank s m a) (mirror s m u) (length-mirror s m u ∙ l) (turned-ranks n a b u l h) (sym e ∙ sym tt-a) (rw (mirror-mirror s m n u l hu) (omega arith))
+            ∙ same-low n (mirrorRank s m b) (mirrorRank s m a) (mirror s m u) (length-mirror s m u ∙ l) (turned-ranks n a b u l h)
+            (sym e ∙ sym tt-a) (rw (mirror-mirror s m n u l hu) (omega arith))
             ∙ rw (code-mirror s m hs he n u l hu, sym e)
       ]
 
@@ -78,7 +84,8 @@ unfoldable pub middleCode : ℕ → Mirror → ℕ → ℕ
 middleCode s Reversal a = a
 middleCode s Complement a = s / 2 - 1 - min a (s - 1 - a)
 
-other-one : (s : ℕ) (hs : 1 < s) (he : EvenUnder s Complement) (a : ℕ) → a < s → s - 1 - a < a → code s Complement 1 (mirror s Complement (a ∷ [])) ≡ s / 2 - 1 - (s - 1 - a)
+other-one : (s : ℕ) (hs : 1 < s) (he : EvenUnder s Complement) (a : ℕ) → a < s → s - 1 - a < a
+    → code s Complement 1 (mirror s Complement (a ∷ [])) ≡ s / 2 - 1 - (s - 1 - a)
 unfolding mirror mirrorRank middleOfCode
 other-one s hs he a h g = one-low s Complement hs he (s - 1 - a) (omega arith) (omega arith)
 

@@ -59,8 +59,9 @@ module _ (s : ℕ) (w : List ℕ) (l r : ℕ) (d : FitDiffering s w l r) (R p x 
   differing-small =
       let h : length w ≡ suc (suc (length w - 2)) = omega (arith, d .long) in
       let small : s ^ suc (suc (length w - 2)) ≤ 2 ^ 62 = subst (λ (n : ℕ). s ^ n ≤ 2 ^ 62) h (d .word .small) in
+      let inner-small = inner-plain-lt s w (d .word .ranks) (length w - 2) (omega (arith, d .long)) in
       rw (differing-is, ← e)
-      (pair-value-small s R (d .word .two) (d .few) low (length w - 2) (plain s (take (length w - 2) (drop 1 w))) (inner-plain-lt s w (d .word .ranks) (length w - 2) (omega (arith, d .long))) small)
+      (pair-value-small s R (d .word .two) (d .few) low (length w - 2) (plain s (take (length w - 2) (drop 1 w))) inner-small small)
 
 -- ---- `digits_value`
 
@@ -115,7 +116,9 @@ module _ (s : ℕ) (m : Mirror) (w : List ℕ) (c : FitCanonical s m w) (h0 : le
         word = inner-of s w (c .word .two) (c .word .ranks) (c .word .small) (length w - 1 - 1) (omega arith);
         few = c .few;
         even = c .even;
-        least = canonical-inner s m (length w - 1 - 1) (getD w 0 0) (getD w (length w - 1) 0) (take (length w - 1 - 1) (drop 1 w)) in-len whole-ranks whole-least e;
+        least =
+            canonical-inner s m (length w - 1 - 1) (getD w 0 0) (getD w (length w - 1) 0) (take (length w - 1 - 1) (drop 1 w)) in-len whole-ranks
+            whole-least e;
       }
 
   pub shorter : length (take (length w - 1 - 1) (drop 1 w)) < length w
@@ -125,7 +128,8 @@ module _ (s : ℕ) (m : Mirror) (w : List ℕ) (c : FitCanonical s m w) (h0 : le
       → v ≡ plain s (digits s m (length (take (length w - 1 - 1) (drop 1 w))) (take (length w - 1 - 1) (drop 1 w)))
       → v * s + mirrorRank s m (getD w (length w - 1) 0) ≡ plain s (digits s m (length w) w)
   value-equal e v f =
-      let g : v ≡ plain s (digits s m (length w - 1 - 1) (take (length w - 1 - 1) (drop 1 w))) = f ∙ ap (λ (n : ℕ). plain s (digits s m n (take (length w - 1 - 1) (drop 1 w)))) in-len in
+      let g : v ≡ plain s (digits s m (length w - 1 - 1) (take (length w - 1 - 1) (drop 1 w)))
+      = f ∙ ap (λ (n : ℕ). plain s (digits s m n (take (length w - 1 - 1) (drop 1 w)))) in-len in
       sym (step ∙ rw (eq-eqb (getD w 0 0) (mirrorRank s m (getD w (length w - 1) 0)) e, g))
 
   pub value-small : plain s (digits s m (length w) w) < 2 ^ 62
@@ -133,7 +137,9 @@ module _ (s : ℕ) (m : Mirror) (w : List ℕ) (c : FitCanonical s m w) (h0 : le
 
   pub differs : (getD w 0 0 ≡ mirrorRank s m (getD w (length w - 1) 0) → ⊥) → FitDiffering s w (getD w 0 0) (mirrorRank s m (getD w (length w - 1) 0))
   differs d =
-      let le : getD w 0 0 ≤ mirrorRank s m (getD w (length w - 1) 0) = canonical-first s m (length w - 1 - 1) (getD w 0 0) (getD w (length w - 1) 0) (take (length w - 1 - 1) (drop 1 w)) in-len whole-ranks whole-least in
+      let le : getD w 0 0 ≤ mirrorRank s m (getD w (length w - 1) 0)
+      = canonical-first s m (length w - 1 - 1) (getD w 0 0) (getD w (length w - 1) 0) (take (length w - 1 - 1) (drop 1 w)) in-len whole-ranks
+      whole-least in
       record {
         word = c .word;
         few = c .few;
@@ -143,7 +149,8 @@ module _ (s : ℕ) (m : Mirror) (w : List ℕ) (c : FitCanonical s m w) (h0 : le
       }
 
   pub value-differ : (getD w 0 0 ≡ mirrorRank s m (getD w (length w - 1) 0) → ⊥)
-      → (pairRank s (getD w 0 0) (mirrorRank s m (getD w (length w - 1) 0)) + s) * s ^ (length w - 2) + plain s (take (length w - 2) (drop 1 w)) ≡ plain s (digits s m (length w) w)
+      → (pairRank s (getD w 0 0) (mirrorRank s m (getD w (length w - 1) 0)) + s) * s ^ (length w - 2) + plain s (take (length w - 2) (drop 1 w))
+      ≡ plain s (digits s m (length w) w)
   value-differ d =
       let e : length w - 2 ≡ length w - 1 - 1 = omega arith in
       sym (step ∙ rw (ne-eqb (getD w 0 0) (mirrorRank s m (getD w (length w - 1) 0)) d, e))

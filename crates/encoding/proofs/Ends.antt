@@ -1,7 +1,7 @@
 -- A word from both ends: a ∷ (u ++ (b ∷ [])), where u is two letters shorter. The induction by it, and what each definition is at such a word,
 -- so that no later proof meets take, drop or getD.
 use mathlib.Core.Path.{_≡_, refl, sym, ap, _∙_, subst⁻¹}
-use mathlib.Core.Bool.{cond}
+use mathlib.Core.Bool.{Bool, cond}
 use mathlib.Core.List.{List, [], _∷_, _++_, map, reverse, reverse-append, reverse-cons}
 use Prim.Native.Nat.{ℕ, zero, suc, _+_, _*_, _/_, _%_, _^_}
 use native.Mathlib.Nat.{pow-zero, pow-suc}
@@ -95,9 +95,12 @@ pub length-mirror : (s : ℕ) (m : Mirror) (w : List ℕ) → length (mirror s m
 unfolding mirror
 length-mirror s m w = length-map (reverse w) (mirrorRank s m) ∙ length-reverse w
 
+-- The digits of a word whose outer letters are a and, as the mirror shows it, r; t says whether they are equal.
+abbrev pub endDigits : ℕ → Mirror → ℕ → ℕ → List ℕ → ℕ → Bool → List ℕ
+endDigits s m n a u r t = cond t (0 ∷ (digits s m n u ++ (r ∷ []))) ((pairRank s a r / s + 1) ∷ (pairRank s a r % s) ∷ u)
+
 pub digits-ends : (s : ℕ) (m : Mirror) (n a b : ℕ) (u : List ℕ) → length u ≡ n
-    → digits s m (suc (suc n)) (a ∷ (u ++ (b ∷ [])))
-    ≡ cond (eqb a (mirrorRank s m b)) (0 ∷ (digits s m n u ++ (mirrorRank s m b ∷ []))) ((pairRank s a (mirrorRank s m b) / s + 1) ∷ (pairRank s a (mirrorRank s m b) % s) ∷ u)
+    → digits s m (suc (suc n)) (a ∷ (u ++ (b ∷ []))) ≡ endDigits s m n a u (mirrorRank s m b) (eqb a (mirrorRank s m b))
 unfolding digits
 digits-ends s m n a b u h = rw (getD-at u b [] 0 n h, take-at u (b ∷ []) n h)
 

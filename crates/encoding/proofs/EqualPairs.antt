@@ -30,17 +30,21 @@ module _ (s : ℕ) (hs : 1 < s) (n a x b c y d : ℕ) (hb : b < s) (hd : d < s) 
       ∙ (rw e at (g .equal))
       ∙ prefix-ends s n c y d (n - p) hs hd (omega arith)
 
+  -- The digits after the first of each number, up to the pairs that agree.
+  rest-of : (p z : ℕ) → p ≤ n → z < s ^ n → z / s ^ (n - p) < s ^ (n - (n - p))
+  rest-of p z h g = prefix-lt s n z (n - p) hs (omega arith) g
+
   agree-first : (p : ℕ) → Agree s (suc (suc n)) (a * s ^ suc n + x * s + b) (c * s ^ suc n + y * s + d) (suc p) → a ≡ c
   agree-first p g =
       let h : p ≤ n = omega (arith, g .fits) in
-      digits-first (s ^ (n - (n - p))) a c (x / s ^ (n - p)) (y / s ^ (n - p)) (prefix-lt s n x (n - p) hs (omega arith) hx) (prefix-lt s n y (n - p) hs (omega arith) hy) (outer p h g)
+      digits-first (s ^ (n - (n - p))) a c (x / s ^ (n - p)) (y / s ^ (n - p)) (rest-of p x h hx) (rest-of p y h hy) (outer p h g)
 
   agree-inner : (p : ℕ) → Agree s (suc (suc n)) (a * s ^ suc n + x * s + b) (c * s ^ suc n + y * s + d) (suc p) → Agree s n x y p
   agree-inner p g =
       let h : p ≤ n = omega (arith, g .fits) in
       record {
         fits = omega (arith, g .fits);
-        equal = digits-rest (s ^ (n - (n - p))) a c (x / s ^ (n - p)) (y / s ^ (n - p)) (prefix-lt s n x (n - p) hs (omega arith) hx) (prefix-lt s n y (n - p) hs (omega arith) hy) (outer p h g);
+        equal = digits-rest (s ^ (n - (n - p))) a c (x / s ^ (n - p)) (y / s ^ (n - p)) (rest-of p x h hx) (rest-of p y h hy) (outer p h g);
         differs = λ k q.
             let e : suc (suc n) - suc (suc p) ≡ suc (n - suc p) = omega arith in
             g .differs (omega arith)
@@ -58,7 +62,8 @@ module _ (s : ℕ) (hs : 1 < s) (n a x b c y d : ℕ) (hb : b < s) (hd : d < s) 
       let e₂ : c * s ^ suc n + y * s + d ≡ c * s ^ suc n + (y * s + d) = omega arith in
       g .differs (omega arith) (rw (e, e₁, e₂, digits-div a hr, digits-div c hr′) q)
 
-pub agree-at : (s : ℕ) (m : Mirror) → 1 < s → (n : ℕ) (w : List ℕ) → length w ≡ n → Ranks s w → (p : ℕ) → Agree s n (plain s w) (plain s (mirror s m w)) p → equalPairs s m n w ≡ p
+pub agree-at : (s : ℕ) (m : Mirror) → 1 < s → (n : ℕ) (w : List ℕ) → length w ≡ n → Ranks s w → (p : ℕ)
+    → Agree s n (plain s w) (plain s (mirror s m w)) p → equalPairs s m n w ≡ p
 unfolding equalPairs
 agree-at s m hs =
     ends (λ n w. Ranks s w → (p : ℕ) → Agree s n (plain s w) (plain s (mirror s m w)) p → equalPairs s m n w ≡ p)
@@ -73,10 +78,21 @@ agree-at s m hs =
         → Agree s (suc (suc n)) (a * s ^ suc n + plain s u * s + b) (mirrorRank s m b * s ^ suc n + plain s (mirror s m u) * s + mirrorRank s m a) p
         → cond (eqb a (mirrorRank s m b)) (suc (equalPairs s m n u)) 0 ≡ p
     step n a b u l ih h zero g =
+        let last = last-lt s m n a b u l h in
+        let mirrored-first = mirrorRank-lt s m a (first-lt s m n a b u l h) in
+        let rest = rest-lt s m n a b u l h in
+        let mirrored-rest = mirror-rest-lt s m n a b u l h in
         rw (ne-eqb a (mirrorRank s m b)
-        (agree-none s hs n a (plain s u) b (mirrorRank s m b) (plain s (mirror s m u)) (mirrorRank s m a) (last-lt s m n a b u l h) (mirrorRank-lt s m a (first-lt s m n a b u l h)) (inner-lt s m n a b u l h) (inner-mirror-lt s m n a b u l h) (rest-lt s m n a b u l h) (mirror-rest-lt s m n a b u l h) g))
+        (agree-none s hs n a (plain s u) b (mirrorRank s m b) (plain s (mirror s m u)) (mirrorRank s m a) last mirrored-first
+        (inner-lt s m n a b u l h) (inner-mirror-lt s m n a b u l h) rest mirrored-rest g))
     step n a b u l ih h (suc p) g =
+        let last = last-lt s m n a b u l h in
+        let mirrored-first = mirrorRank-lt s m a (first-lt s m n a b u l h) in
+        let inner = inner-lt s m n a b u l h in
+        let mirrored-inner = inner-mirror-lt s m n a b u l h in
         rw (eq-eqb a (mirrorRank s m b)
-        (agree-first s hs n a (plain s u) b (mirrorRank s m b) (plain s (mirror s m u)) (mirrorRank s m a) (last-lt s m n a b u l h) (mirrorRank-lt s m a (first-lt s m n a b u l h)) (inner-lt s m n a b u l h) (inner-mirror-lt s m n a b u l h) p g))
+        (agree-first s hs n a (plain s u) b (mirrorRank s m b) (plain s (mirror s m u)) (mirrorRank s m a) last mirrored-first inner
+        mirrored-inner p g))
         (ap suc (ih (inner-ranks s m n a b u l h) p
-        (agree-inner s hs n a (plain s u) b (mirrorRank s m b) (plain s (mirror s m u)) (mirrorRank s m a) (last-lt s m n a b u l h) (mirrorRank-lt s m a (first-lt s m n a b u l h)) (inner-lt s m n a b u l h) (inner-mirror-lt s m n a b u l h) p g)))
+        (agree-inner s hs n a (plain s u) b (mirrorRank s m b) (plain s (mirror s m u)) (mirrorRank s m a) last mirrored-first inner
+        mirrored-inner p g)))

@@ -79,14 +79,16 @@ pub capitals-none : (letters d : List ℕ) → d ≡ inCapitals letters [] ++ d
 unfolding inCapitals
 capitals-none letters d = refl
 
-capitals-next : (letters w : List ℕ) (i : ℕ) → i < length w → inCapitals letters (take (i + 1) w) ≡ inCapitals letters (take i w) ++ (getD letters (getD w i 0) 0 ∷ [])
+capitals-next : (letters w : List ℕ) (i : ℕ) → i < length w
+    → inCapitals letters (take (i + 1) w) ≡ inCapitals letters (take i w) ++ (getD letters (getD w i 0) 0 ∷ [])
 unfolding inCapitals
 capitals-next letters w i h = rw (add-one i, take-suc w i 0 h) (map-snoc (λ (j : ℕ). getD letters j 0) (take i w) (getD w i 0))
 
 pub capitals-written : (letters w d : List ℕ) (i : ℕ) → i < length w → length w ≤ length d
     → set (inCapitals letters (take i w) ++ drop i d) i (getD letters (getD w i 0) 0) ≡ inCapitals letters (take (i + 1) w) ++ drop (i + 1) d
 capitals-written letters w d i h g =
-    write-next (inCapitals letters (take i w)) d i (getD letters (getD w i 0) 0) (length-capitals letters (take i w) ∙ length-take-le i w (omega arith)) (omega arith)
+    let passed = length-capitals letters (take i w) ∙ length-take-le i w (omega arith) in
+    write-next (inCapitals letters (take i w)) d i (getD letters (getD w i 0) 0) passed (omega arith)
     ∙ ap (λ (l : List ℕ). l ++ drop (i + 1) d) (sym (capitals-next letters w i h))
 
 pub capitals-all : (letters w d : List ℕ) (i : ℕ) → i ≡ length w → inCapitals letters (take i w) ++ drop i d ≡ inCapitals letters w ++ drop (length w) d

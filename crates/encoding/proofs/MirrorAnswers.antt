@@ -51,4 +51,8 @@ module _ (letters : List ℕ) (k m : ℕ) (word old : List ℕ) where
         bytes-are = mirrored-bytes letters m word (st .mirror) (good .mirror-is)
 
         bytes-length : length (mirrorBytes letters m word) ≡ length word
-        bytes-length = sym (ap length bytes-are) ∙ length-capitals letters _ ∙ length-mirror (length letters) (st .mirror) (ranksOf letters word) ∙ length-ranksOf letters word
+        bytes-length =
+            sym (ap length bytes-are)
+            ∙ length-capitals letters _
+            ∙ length-mirror (length letters) (st .mirror) (ranksOf letters word)
+            ∙ length-ranksOf letters word

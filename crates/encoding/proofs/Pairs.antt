@@ -74,7 +74,13 @@ ofRank-pair (suc t) R h =
     high : (R′ : ℕ) → R ≡ suc t + R′ → IsPair t R′ (pairOfRank t R′) → IsPair (suc t) R (pairOfRank (suc t) R)
     high R′ e g =
         rw (e, high-rank t R′)
-        (record { below = omega (arith, g .below); within = omega (arith, g .within); rank = rank-suc t (pairOfRank t R′ .0) (pairOfRank t R′ .1) (g .below) (g .within) ∙ ap (λ (x : ℕ). suc t + x) (g .rank) })
+        (record {
+          below = omega (arith, g .below);
+          within = omega (arith, g .within);
+          rank =
+              rank-suc t (pairOfRank t R′ .0) (pairOfRank t R′ .1) (g .below) (g .within)
+              ∙ ap (λ (x : ℕ). suc t + x) (g .rank);
+        })
 
 -- The same over s letters.
 pub below-pairs : (s l r : ℕ) → l < r → r < s → pairRank s l r < pairCount s

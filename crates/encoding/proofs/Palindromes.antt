@@ -62,8 +62,9 @@ module _ (s : ℕ) (m : Mirror) (hs : 1 < s) (he : EvenUnder s m) where
     same-lowest : a ≡ mirrorRank s m b → (Palindrome s m u ↔ (codeRec s m n u < palindromes s m n))
         → Palindrome s m (a ∷ (u ++ (b ∷ []))) ↔ (codeRec s m (suc (suc n)) (a ∷ (u ++ (b ∷ []))) < palindromes s m (suc (suc n)))
     same-lowest e ih =
+        let last = mirrorRank-lt s m b (last-lt s m n a b u l h) in
         rw (codeRec-same s m n a b u l e, palindromes-suc s m n) (
-          λ p. scaled-lt s (codeRec s m n u) (mirrorRank s m b) (palindromes s m n) (ih .0 (inner-palindrome p)) (mirrorRank-lt s m b (last-lt s m n a b u l h)),
+          λ p. scaled-lt s (codeRec s m n u) (mirrorRank s m b) (palindromes s m n) (ih .0 (inner-palindrome p)) last,
           λ q. outer-palindrome e (ih .1 (lt-scaled s (codeRec s m n u) (mirrorRank s m b) (palindromes s m n) q)),
         )
 
@@ -77,7 +78,8 @@ module _ (s : ℕ) (m : Mirror) (hs : 1 < s) (he : EvenUnder s m) where
 
   lowest-step : (n a b : ℕ) (u : List ℕ) → length u ≡ n → Lowest n u → Lowest (suc (suc n)) (a ∷ (u ++ (b ∷ [])))
   lowest-step n a b u l ih h g =
-      elim (ℕ-discrete a (mirrorRank s m b)) as (λ _. Palindrome s m (a ∷ (u ++ (b ∷ []))) ↔ (codeRec s m (suc (suc n)) (a ∷ (u ++ (b ∷ []))) < palindromes s m (suc (suc n)))) [
+      elim (ℕ-discrete a (mirrorRank s m b)) as (λ _.
+      Palindrome s m (a ∷ (u ++ (b ∷ []))) ↔ (codeRec s m (suc (suc n)) (a ∷ (u ++ (b ∷ []))) < palindromes s m (suc (suc n)))) [
         | yes e ↦ same-lowest n a b u l h e (ih (inner-ranks s m n a b u l h) (canonical-inner s m n a b u l h g e))
         | no ne ↦ differ-lowest n a b u l h ne
       ]

@@ -32,7 +32,8 @@ pub coded-none : (letters : List ℕ) (k m : ℕ) (word : List ℕ) (q : ℕ) �
 unfolding coding
 coded-none letters k m word q e = given-none (codeGround letters k m word) q _ e
 
-pub refused-coding : (letters : List ℕ) (k m : ℕ) (word : List ℕ) (f : Ground) → refused f ≡ coding letters k m word → false ≡ noneApplies (codeGround letters k m word)
+pub refused-coding : (letters : List ℕ) (k m : ℕ) (word : List ℕ) (f : Ground) → refused f ≡ coding letters k m word
+    → false ≡ noneApplies (codeGround letters k m word)
 unfolding coding
 refused-coding letters k m word f e = refused-some (codeGround letters k m word) f _ e
 
@@ -49,7 +50,8 @@ pub within-of : (letters : List ℕ) (k m : ℕ) (w : List ℕ) → true ≡ non
 unfolding codeGround
 within-of letters k m w e =
     let n = none-is _ e in
-    let l : length w ≡ k = eqb-true (length w) k (not-false _ (test-fails 5 (wrongLength k w) (first-none _ _ (later-none (settingsGround letters k m) _ n)))) in
+    let long-enough = test-fails 5 (wrongLength k w) (first-none _ _ (later-none (settingsGround letters k m) _ n)) in
+    let l : length w ≡ k = eqb-true (length w) k (not-false _ long-enough) in
     let s = limits letters k m (first-none _ _ n) in
     rw l (record { two = s .two; few = s .few; even = tt; small = s .small })
 
@@ -72,7 +74,8 @@ module _ (letters : List ℕ) (k m : ℕ) (a b r : RefT (List ℕ)) where
       let (f, g) = some-is (codeGround letters k m (b .now)) e in
       refuse f (ap (λ (o : Option Ground). o orElse codeGround letters k m (b .now)) (none-is (codeGround letters k m (a .now)) d) ∙ g) p n
 
-  both : true ≡ noneApplies (codeGround letters k m (a .now)) → true ≡ noneApplies (codeGround letters k m (b .now)) → pickGround letters k m (a .now) (b .now) ≡ none
+  both : true ≡ noneApplies (codeGround letters k m (a .now)) → true ≡ noneApplies (codeGround letters k m (b .now))
+      → pickGround letters k m (a .now) (b .now) ≡ none
   unfolding pickGround
   both d e =
       ap (λ (o : Option Ground). o orElse codeGround letters k m (b .now)) (none-is (codeGround letters k m (a .now)) d)

@@ -20,7 +20,9 @@ pub ranks-wordOfPlain : (s n q : ℕ) → 1 < s → q < s ^ n → Ranks s (wordO
 unfolding wordOfPlain
 ranks-wordOfPlain s zero q h g = tt
 ranks-wordOfPlain s (suc n) q h g =
-    (div-lt-iff-lt-mul (pow-pos s n h) .1 (subst (λ (x : ℕ). q < x) (pow-suc s n ∙ mul-comm (s ^ n) s) g), ranks-wordOfPlain s n (q % s ^ n) h (mod-lt q (pow-pos s n h)))
+    let pos = pow-pos s n h in
+    let below = subst (λ (x : ℕ). q < x) (pow-suc s n ∙ mul-comm (s ^ n) s) g in
+    (div-lt-iff-lt-mul pos .1 below, ranks-wordOfPlain s n (q % s ^ n) h (mod-lt q pos))
 
 pub plain-wordOfPlain : (s n q : ℕ) → 1 < s → q < s ^ n → plain s (wordOfPlain s n q) ≡ q
 unfolding plain wordOfPlain

@@ -20,7 +20,8 @@ module _ (s : ℕ) (w : List ℕ) (i : ℕ) (h : i < length w) where
   pub plain-next-lt : 1 < s → Ranks s w → plain s (take i w) * s + getD w i 0 < s ^ length w
   plain-next-lt hs r =
       let l : length (take (i + 1) w) ≡ i + 1 = length-take-le (i + 1) w (omega arith) in
-      let lt : plain s (take (i + 1) w) < s ^ (i + 1) = subst (λ (n : ℕ). plain s (take (i + 1) w) < s ^ n) l (plain-lt s (take (i + 1) w) (ranks-take s (i + 1) w r)) in
+      let lt : plain s (take (i + 1) w) < s ^ (i + 1)
+      = subst (λ (n : ℕ). plain s (take (i + 1) w) < s ^ n) l (plain-lt s (take (i + 1) w) (ranks-take s (i + 1) w r)) in
       let up : s ^ (i + 1) ≤ s ^ length w = pow-le-pow-right (omega arith) (omega arith) in
       omega (arith, plain-next)
 
@@ -31,7 +32,8 @@ plain-none s = refl
 -- ---- the mirror, written from its start
 
 module _ (s : ℕ) (m : Mirror) (w : List ℕ) (i : ℕ) where
-  pub mirror-next : i < length w → mirror s m (drop (length w - (i + 1)) w) ≡ mirror s m (drop (length w - i) w) ++ (mirrorRank s m (getD w (length w - 1 - i) 0) ∷ [])
+  pub mirror-next : i < length w
+      → mirror s m (drop (length w - (i + 1)) w) ≡ mirror s m (drop (length w - i) w) ++ (mirrorRank s m (getD w (length w - 1 - i) 0) ∷ [])
   mirror-next h =
       let e : length w - (i + 1) ≡ length w - 1 - i = omega arith in
       let f : suc (length w - 1 - i) ≡ length w - i = omega arith in
@@ -50,7 +52,8 @@ mirror-none s m w d =
     rw (drop-of-length-le w h)
 
 pub mirror-written : (s : ℕ) (m : Mirror) (w d : List ℕ) (i : ℕ) → i < length w → length w ≤ length d
-    → set (mirror s m (drop (length w - i) w) ++ drop i d) i (mirrorRank s m (getD w (length w - 1 - i) 0)) ≡ mirror s m (drop (length w - (i + 1)) w) ++ drop (i + 1) d
+    → set (mirror s m (drop (length w - i) w) ++ drop i d) i (mirrorRank s m (getD w (length w - 1 - i) 0))
+    ≡ mirror s m (drop (length w - (i + 1)) w) ++ drop (i + 1) d
 mirror-written s m w d i h g =
     write-next (mirror s m (drop (length w - i) w)) d i (mirrorRank s m (getD w (length w - 1 - i) 0)) (length-mirrored s m w i (omega arith)) (omega arith)
     ∙ ap (λ (l : List ℕ). l ++ drop (i + 1) d) (sym (mirror-next s m w i h))

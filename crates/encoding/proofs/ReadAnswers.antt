@@ -29,7 +29,9 @@ module _ (letters : List ℕ) (k m q : ℕ) (old : List ℕ) where
     good = known letters k m st e
 
     pub read-into-short : length old < k → Reads (refused (7, k)) old
-    read-into-short h = kept-by (readGround letters k m q (length old)) k (wordBytes letters k m q) old (7, k) (read-short letters k m (good .none-applies) q (length old) h)
+    read-into-short h =
+        kept-by (readGround letters k m q (length old)) k (wordBytes letters k m q) old (7, k)
+        (read-short letters k m (good .none-applies) q (length old) h)
 
     pub read-bad-code : k ≤ length old → st .classes ≤ q → Reads (refused (8, 0)) old
     read-bad-code h g =

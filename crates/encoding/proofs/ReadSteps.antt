@@ -42,10 +42,14 @@ snoc-of : (s j q : ℕ) → 1 < s → q < s ^ suc j → wordOfPlain s (suc j) q 
 snoc-of s j q hs h =
     let pos : 0 < s = omega arith in
     let low : q / s < s ^ j = div-lt-iff-lt-mul pos .1 (subst (λ (x : ℕ). q < x) (pow-suc s j) h) in
-    let w = wordOfPlain s j (q / s) ++ (q % s ∷ []) in
-    let p : plain s (wordOfPlain s j (q / s) ++ (q % s ∷ [])) ≡ q = plain-snoc s (q % s) (wordOfPlain s j (q / s)) ∙ ap (λ (x : ℕ). x * s + q % s) (plain-wordOfPlain s j (q / s) hs low) ∙ div-add-mod' q s in
-    let l : length (wordOfPlain s j (q / s) ++ (q % s ∷ [])) ≡ suc j = omega (arith, length-append (wordOfPlain s j (q / s)) (q % s ∷ []), length-wordOfPlain s j (q / s)) in
-    let r : Ranks s (wordOfPlain s j (q / s) ++ (q % s ∷ [])) = Ranks-append s (wordOfPlain s j (q / s)) (q % s ∷ []) (ranks-wordOfPlain s j (q / s) hs low) (mod-lt q (omega arith), tt) in
+    let p : plain s (wordOfPlain s j (q / s) ++ (q % s ∷ [])) ≡ q
+    = plain-snoc s (q % s) (wordOfPlain s j (q / s))
+    ∙ ap (λ (x : ℕ). x * s + q % s) (plain-wordOfPlain s j (q / s) hs low)
+    ∙ div-add-mod' q s in
+    let l : length (wordOfPlain s j (q / s) ++ (q % s ∷ [])) ≡ suc j
+    = omega (arith, length-append (wordOfPlain s j (q / s)) (q % s ∷ []), length-wordOfPlain s j (q / s)) in
+    let r : Ranks s (wordOfPlain s j (q / s) ++ (q % s ∷ []))
+    = Ranks-append s (wordOfPlain s j (q / s)) (q % s ∷ []) (ranks-wordOfPlain s j (q / s) hs low) (mod-lt q (omega arith), tt) in
     ap (wordOfPlain s (suc j)) (sym p) ∙ wordOfPlain-plain s (suc j) (wordOfPlain s j (q / s) ++ (q % s ∷ [])) hs l r
 
 module _ (s i q : ℕ) (hs : 1 < s) (hi : 0 < i) (h : q < s ^ i) where
@@ -152,7 +156,10 @@ module _ (s : ℕ) (m : Mirror) (out : List ℕ) (h : 2 ≤ length out) where
       ∙ sym (word-low s m (length out - 2) q g)
       ∙ ap (λ (n : ℕ). wordOf s m n q) (sym two-more)
 
-  pub high-word : (q p : ℕ) → p ≡ s ^ (length out - 2) → (X Y : List ℕ) (l r t : ℕ) → l ≡ pairOfRank (s - 1) (q / p) .0 → r ≡ pairOfRank (s - 1) (q / p) .1 → t ≡ mirrorRank s m r
+  pub high-word : (q p : ℕ) → p ≡ s ^ (length out - 2) → (X Y : List ℕ) (l r t : ℕ)
+      → l ≡ pairOfRank (s - 1) (q / p) .0
+      → r ≡ pairOfRank (s - 1) (q / p) .1
+      → t ≡ mirrorRank s m r
       → X ≡ l ∷ (take (length out - 2) (drop 1 out) ++ (t ∷ []))
       → Y ≡ wordOfPlain s (length (take (length out - 1 - 1) (drop 1 X))) (q % p)
       → putMid 1 (length out - 1 - 1) X Y ≡ wordOf s m (length out) (s * classes s m (length out - 2) + q)
@@ -220,8 +227,8 @@ one-word s m q (a ∷ []) e x f = ap (λ (y : ℕ). y ∷ []) f
 one-word s m q (a ∷ (b ∷ out)) e x f = absurd (omega arith)
 
 -- A code that is not below those of equal outer pairs.
-module _ (s : ℕ) (m : Mirror) (out : List ℕ) (two : 2 ≤ length out) (f : Limits s m (length out)) (q : ℕ) (g : q < classes s m (length out)) (n : ℕ) (e : n ≡ classes s m (length out - 2))
-    (h : s * n ≤ q) where
+module _ (s : ℕ) (m : Mirror) (out : List ℕ) (two : 2 ≤ length out) (f : Limits s m (length out)) (q : ℕ)
+    (g : q < classes s m (length out)) (n : ℕ) (e : n ≡ classes s m (length out - 2)) (h : s * n ≤ q) where
   pub upper : FitHighCode s m out (q - s * n)
   upper = record { limits = f; long = two; below = omega (arith, ap (λ (x : ℕ). s * x) e) }
 

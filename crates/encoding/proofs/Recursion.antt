@@ -17,7 +17,7 @@ use Rattle.encoding.specs.Words.{Mirror, Reversal, Complement, Ranks, mi
 use Rattle.encoding.specs.Codes.{digits, differingPair, pairRank, shift, oddShift, codeOfCanonical}
 use Rattle.encoding.specs.WordsOfCodes.{middleOfCode}
 use Rattle.encoding.proofs.ClassNumbers.{shift-suc, shift-first, oddShift-suc}
-use Rattle.encoding.proofs.Ends.{ends, plain-one, plain-snoc, digits-ends, differingPair-ends}
+use Rattle.encoding.proofs.Ends.{ends, plain-one, plain-snoc, endDigits, digits-ends, differingPair-ends}
 use Rattle.encoding.proofs.Canonical.{IsCanonical, inner-ranks, canonical-inner, canonical-one}
 
 -- The code by recursion.
@@ -83,7 +83,7 @@ module _ (s : ℕ) (m : Mirror) (hs : 1 < s) (he : EvenUnder s m) where
       (go (eqb a (mirrorRank s m b)) refl)
     where
       go : (t : Bool) → eqb a (mirrorRank s m b) ≡ t
-          → plain s (cond t (0 ∷ (digits s m n u ++ (mirrorRank s m b ∷ []))) ((pairRank s a (mirrorRank s m b) / s + 1) ∷ (pairRank s a (mirrorRank s m b) % s) ∷ u))
+          → plain s (endDigits s m n a u (mirrorRank s m b) t)
           ≡ cond t (s * codeRec s m n u + mirrorRank s m b) (s * classes s m n + pairRank s a (mirrorRank s m b) * s ^ n + plain s u)
           + shift s (suc (suc n)) (cond t (cond (eqb (differingPair s m n u) 0) 0 (suc (differingPair s m n u))) 1) + oddShift s m (suc (suc n))
       go true e =

@@ -41,7 +41,8 @@ stops-at s m =
     ends (λ n w. (p : ℕ) → Stops s m n w p → equalPairs s m n w ≡ p) (λ p g. omega (arith, g .fits)) (λ a p g. omega (arith, g .fits))
     (λ n a b u l ih p g. equalPairs-ends s m n a b u l ∙ step n a b u l ih p g)
   where
-    step : (n a b : ℕ) (u : List ℕ) → length u ≡ n → ((p : ℕ) → Stops s m n u p → equalPairs s m n u ≡ p) → (p : ℕ) → Stops s m (suc (suc n)) (a ∷ (u ++ (b ∷ []))) p
+    step : (n a b : ℕ) (u : List ℕ) → length u ≡ n → ((p : ℕ) → Stops s m n u p → equalPairs s m n u ≡ p) → (p : ℕ)
+        → Stops s m (suc (suc n)) (a ∷ (u ++ (b ∷ []))) p
         → cond (eqb a (mirrorRank s m b)) (suc (equalPairs s m n u)) 0 ≡ p
     step n a b u l ih zero g =
         let d : a ≢ mirrorRank s m b = λ e. g .differs (suc n) (omega arith) (omega arith) (e ∙ ap (mirrorRank s m) (sym (getD-at u b [] 0 n l))) in
@@ -87,9 +88,14 @@ pair-suc : (n p : ℕ) → cond (eqb (pairAfter n p) 0) 0 (suc (pairAfter n p)) 
 unfolding pairAfter
 pair-suc n p = go (leb (2 * suc p) n) refl
   where
-    go : (t : Bool) → leb (2 * suc p) n ≡ t → cond (eqb (cond t (suc p) 0) 0) 0 (suc (cond t (suc p) 0)) ≡ cond (leb (2 * suc (suc p)) (suc (suc n))) (suc (suc p)) 0
-    go true e = let h : 2 * suc p ≤ n = leb-true (2 * suc p) n e in rw (le-leb (2 * suc (suc p)) (suc (suc n)) (omega arith), ne-eqb (suc p) 0 (λ z. omega arith))
-    go false e = let h : n < 2 * suc p = leb-false (2 * suc p) n e in rw (lt-leb (2 * suc (suc p)) (suc (suc n)) (omega arith))
+    go : (t : Bool) → leb (2 * suc p) n ≡ t
+        → cond (eqb (cond t (suc p) 0) 0) 0 (suc (cond t (suc p) 0)) ≡ cond (leb (2 * suc (suc p)) (suc (suc n))) (suc (suc p)) 0
+    go true e =
+        let h : 2 * suc p ≤ n = leb-true (2 * suc p) n e in
+        rw (le-leb (2 * suc (suc p)) (suc (suc n)) (omega arith), ne-eqb (suc p) 0 (λ z. omega arith))
+    go false e =
+        let h : n < 2 * suc p = leb-false (2 * suc p) n e in
+        rw (lt-leb (2 * suc (suc p)) (suc (suc n)) (omega arith))
 
 pair-first : (n : ℕ) → 1 ≡ pairAfter (suc (suc n)) 0
 unfolding pairAfter
@@ -99,7 +105,10 @@ pub differingPair-is : (s : ℕ) (m : Mirror) (n : ℕ) (w : List ℕ) → lengt
 unfolding differingPair equalPairs pairAfter
 differingPair-is s m =
     ends (λ n w. differingPair s m n w ≡ pairAfter n (equalPairs s m n w)) refl (λ a. refl)
-    (λ n a b u l ih. differingPair-ends s m n a b u l ∙ step n a b u ih (eqb a (mirrorRank s m b)) ∙ ap (pairAfter (suc (suc n))) (sym (equalPairs-ends s m n a b u l)))
+    (λ n a b u l ih.
+    differingPair-ends s m n a b u l
+    ∙ step n a b u ih (eqb a (mirrorRank s m b))
+    ∙ ap (pairAfter (suc (suc n))) (sym (equalPairs-ends s m n a b u l)))
   where
     step : (n a b : ℕ) (u : List ℕ) → differingPair s m n u ≡ pairAfter n (equalPairs s m n u) → (t : Bool)
         → cond t (cond (eqb (differingPair s m n u) 0) 0 (suc (differingPair s m n u))) 1 ≡ pairAfter (suc (suc n)) (cond t (suc (equalPairs s m n u)) 0)

@@ -112,8 +112,12 @@ module _ (letters word : List ℕ) (m : Mirror) (f : Limits (length letters) m (
       pub other-least : q < p → FitCanonical (length letters) m (take (length word) other)
       other-least h = subst⁻¹ (FitCanonical (length letters) m) other-is (other-canonical letters word m f (other-low h))
 
-      pub own-answer : p ≤ q → (r : ℕ) → r ≡ codeOfCanonical (length letters) m (length (take (length word) own)) (take (length word) own) → r ≡ code (length letters) m (length word) (ranksOf letters word)
+      pub own-answer : p ≤ q → (r : ℕ)
+          → r ≡ codeOfCanonical (length letters) m (length (take (length word) own)) (take (length word) own)
+          → r ≡ code (length letters) m (length word) (ranksOf letters word)
       own-answer h r x = x ∙ ap (λ (l : List ℕ). codeOfCanonical (length letters) m (length l) l) own-is ∙ own-code letters word m f (own-low h)
 
-      pub other-answer : q < p → (r : ℕ) → r ≡ codeOfCanonical (length letters) m (length (take (length word) other)) (take (length word) other) → r ≡ code (length letters) m (length word) (ranksOf letters word)
+      pub other-answer : q < p → (r : ℕ)
+          → r ≡ codeOfCanonical (length letters) m (length (take (length word) other)) (take (length word) other)
+          → r ≡ code (length letters) m (length word) (ranksOf letters word)
       other-answer h r x = x ∙ ap (λ (l : List ℕ). codeOfCanonical (length letters) m (length l) l) other-is ∙ other-code letters word m f (other-low h)

@@ -12,7 +12,7 @@ use Rattle.encoding.specs.Codes.{digits, pairRank}
 use Rattle.encoding.specs.Needs.{FitWord}
 use Rattle.encoding.specs.Words.{Ranks, Mirror, mirrorRank, plain}
 use Rattle.encoding.proofs.Canonical.{plain-lt}
-use Rattle.encoding.proofs.Ends.{Ranks-left, Ranks-right, digits-ends, plain-snoc}
+use Rattle.encoding.proofs.Ends.{Ranks-left, Ranks-right, endDigits, digits-ends, plain-snoc}
 use Rattle.encoding.proofs.Recursion.{pair-value}
 
 pub rank-at : (s : ℕ) (w : List ℕ) (i : ℕ) → Ranks s w → i < length w → getD w i 0 < s
@@ -46,9 +46,8 @@ span-ends i n w h =
 
 pub digits-span : (s : ℕ) (m : Mirror) (i n : ℕ) (w : List ℕ) → i + suc (suc n) ≤ length w
     → digits s m (suc (suc n)) (span i (suc (suc n)) w)
-    ≡ cond (eqb (getD w i 0) (mirrorRank s m (getD w (i + suc n) 0)))
-    (0 ∷ (digits s m n (span (suc i) n w) ++ (mirrorRank s m (getD w (i + suc n) 0) ∷ [])))
-    ((pairRank s (getD w i 0) (mirrorRank s m (getD w (i + suc n) 0)) / s + 1) ∷ (pairRank s (getD w i 0) (mirrorRank s m (getD w (i + suc n) 0)) % s) ∷ span (suc i) n w)
+    ≡ endDigits s m n (getD w i 0) (span (suc i) n w) (mirrorRank s m (getD w (i + suc n) 0))
+    (eqb (getD w i 0) (mirrorRank s m (getD w (i + suc n) 0)))
 digits-span s m i n w h =
     ap (digits s m (suc (suc n))) (span-ends i n w h)
     ∙ digits-ends s m n (getD w i 0) (getD w (i + suc n) 0) (span (suc i) n w) (length-span (suc i) n w (omega arith))
@@ -63,10 +62,12 @@ pub value-span : (s : ℕ) (m : Mirror) (i n : ℕ) (w : List ℕ) → i + suc (
     (plain s (digits s m n (span (suc i) n w)) * s + mirrorRank s m (getD w (i + suc n) 0))
     ((pairRank s (getD w i 0) (mirrorRank s m (getD w (i + suc n) 0)) + s) * s ^ n + plain s (span (suc i) n w))
 unfolding plain
-value-span s m i n w h = ap (plain s) (digits-span s m i n w h) ∙ go (eqb (getD w i 0) (mirrorRank s m (getD w (i + suc n) 0))) (mirrorRank s m (getD w (i + suc n) 0))
+value-span s m i n w h =
+    ap (plain s) (digits-span s m i n w h)
+    ∙ go (eqb (getD w i 0) (mirrorRank s m (getD w (i + suc n) 0))) (mirrorRank s m (getD w (i + suc n) 0))
   where
     go : (t : Bool) (r : ℕ)
-        → plain s (cond t (0 ∷ (digits s m n (span (suc i) n w) ++ (r ∷ []))) ((pairRank s (getD w i 0) r / s + 1) ∷ (pairRank s (getD w i 0) r % s) ∷ span (suc i) n w))
+        → plain s (endDigits s m n (getD w i 0) (span (suc i) n w) r t)
         ≡ cond t (plain s (digits s m n (span (suc i) n w)) * s + r) ((pairRank s (getD w i 0) r + s) * s ^ n + plain s (span (suc i) n w))
     go true r = omega (arith, plain-snoc s r (digits s m n (span (suc i) n w)))
     go false r =

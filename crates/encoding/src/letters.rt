@@ -71,7 +71,9 @@ pub fn write_letters(letters: &[u8], w: &[u64], out: &mut [u8])
 pub fn write_mirror(letters: &[u8], word: &[u8], m: Mirror, out: &mut [u8])
     requires { ⌜ Limits (length (now letters)) m (length (now word)) × (length (now word) ≤ length (now out)) ⌝ }
     ensures { λ _.
-        ⌜ now (out .exit) ≡ inCapitals (now (letters .entry)) (mirror (length (now (letters .entry))) m (ranksOf (now (letters .entry)) (now (word .entry)))) ++ drop (length (now (word .entry))) (now (out .entry)) ⌝ }
+        ⌜ now (out .exit)
+        ≡ inCapitals (now (letters .entry)) (mirror (length (now (letters .entry))) m (ranksOf (now (letters .entry)) (now (word .entry))))
+        ++ drop (length (now (word .entry))) (now (out .entry)) ⌝ }
 {
     let s = letters.len() as u64;
     let k = word.len();

@@ -53,7 +53,8 @@ pub fn code_of(letters: &[u8], k: usize, mirror: u64, word: &[u8]) -> Coding
 // Writes the canonical word with a code, in capitals, to the first k bytes of out. Refused by the first of the grounds 1 to 4, 7 and 8.
 pub fn word_of(letters: &[u8], k: usize, mirror: u64, q: Code, out: &mut [u8]) -> Filling
     ensures { λ r.
-        ⌜ Overwrites (readGround (now (letters .entry)) k mirror (q .0) (length (now (out .entry)))) k (wordBytes (now (letters .entry)) k mirror (q .0)) (now (out .entry)) (ofFilling r) (now (out .exit)) ⌝ }
+        ⌜ Overwrites (readGround (now (letters .entry)) k mirror (q .0) (length (now (out .entry)))) k
+        (wordBytes (now (letters .entry)) k mirror (q .0)) (now (out .entry)) (ofFilling r) (now (out .exit)) ⌝ }
 {
     match settings::check(letters, k, mirror) {
         Checked::Bad(f) => Filling::Unfilled(f),
@@ -74,7 +75,8 @@ pub fn word_of(letters: &[u8], k: usize, mirror: u64, q: Code, out: &mut [u8]) -
 // Writes a word's mirror, in capitals, to the first k bytes of out. Refused by the first of the grounds 1 to 5, 7 and 9.
 pub fn mirror_of(letters: &[u8], k: usize, mirror: u64, word: &[u8], out: &mut [u8]) -> Filling
     ensures { λ r.
-        ⌜ Overwrites (mirrorGround (now (letters .entry)) k mirror (now (word .entry)) (length (now (out .entry)))) k (mirrorBytes (now (letters .entry)) mirror (now (word .entry))) (now (out .entry)) (ofFilling r) (now (out .exit)) ⌝ }
+        ⌜ Overwrites (mirrorGround (now (letters .entry)) k mirror (now (word .entry)) (length (now (out .entry)))) k
+        (mirrorBytes (now (letters .entry)) mirror (now (word .entry))) (now (out .entry)) (ofFilling r) (now (out .exit)) ⌝ }
 {
     match settings::check(letters, k, mirror) {
         Checked::Bad(f) => Filling::Unfilled(f),

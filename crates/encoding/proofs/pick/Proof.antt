@@ -30,7 +30,9 @@ returns-2 c =
     let if1 = fb .before in
     let fa = if1 .before in
     let a = fa .before .before .before .before .args in
-    second-bad (a .letters .now) (a .k) (a .mirror) (a .first) (a .second) _ (sym (not-false _ (if1 .if1 .left)) ∙ fa .can-code .ensures) (sym (not-true _ (c .before .if2 .taken)) ∙ fb .can-code2 .ensures) refl refl
+    let first-good = sym (not-false _ (if1 .if1 .left)) ∙ fa .can-code .ensures in
+    let second-fails = sym (not-true _ (c .before .if2 .taken)) ∙ fb .can-code2 .ensures in
+    second-bad (a .letters .now) (a .k) (a .mirror) (a .first) (a .second) _ first-good second-fails refl refl
 
 plain-of-requires : tie.Need-plain-of-requires
 plain-of-requires c κs =
@@ -56,7 +58,10 @@ returns-3 c =
     let if1 = fb .before in
     let fa = if1 .before in
     let a = fa .before .before .before .before .args in
-    first-taken (a .letters .now) (a .k) (a .mirror) (a .first) (a .second) _ (sym (not-false _ (if1 .if1 .left)) ∙ fa .can-code .ensures) (sym (not-false _ (if2 .if2 .left)) ∙ fb .can-code2 .ensures) _ _ (pa .plain-of .ensures) (pb .plain-of2 .ensures) (c .if3 .taken) refl refl
+    let first-good = sym (not-false _ (if1 .if1 .left)) ∙ fa .can-code .ensures in
+    let second-good = sym (not-false _ (if2 .if2 .left)) ∙ fb .can-code2 .ensures in
+    first-taken (a .letters .now) (a .k) (a .mirror) (a .first) (a .second) _ first-good second-good _ _ (pa .plain-of .ensures)
+    (pb .plain-of2 .ensures) (c .if3 .taken) refl refl
 
 returns-4 : tie.Need-returns-4
 returns-4 c =
@@ -67,7 +72,10 @@ returns-4 c =
     let if1 = fb .before in
     let fa = if1 .before in
     let a = fa .before .before .before .before .args in
-    second-taken (a .letters .now) (a .k) (a .mirror) (a .first) (a .second) _ (sym (not-false _ (if1 .if1 .left)) ∙ fa .can-code .ensures) (sym (not-false _ (if2 .if2 .left)) ∙ fb .can-code2 .ensures) _ _ (pa .plain-of .ensures) (pb .plain-of2 .ensures) (c .if3 .left) refl refl
+    let first-good = sym (not-false _ (if1 .if1 .left)) ∙ fa .can-code .ensures in
+    let second-good = sym (not-false _ (if2 .if2 .left)) ∙ fb .can-code2 .ensures in
+    second-taken (a .letters .now) (a .k) (a .mirror) (a .first) (a .second) _ first-good second-good _ _ (pa .plain-of .ensures)
+    (pb .plain-of2 .ensures) (c .if3 .left) refl refl
 
 pub pick-spec : {M : Type 1} → statement M
 pick-spec =

@@ -18,35 +18,55 @@ enum-known-st c = search needs
 
 returns : tie.Need-returns
 returns c =
-    let a = c .before .before .before .before .before .before .before .args in
-    let e = sym (ap ofChecked (c .before .before .st .given .1)) ∙ c .before .before .before .before .check .ensures in
+    let st = c .before .before in
+    let check = st .before .before in
+    let a = check .before .before .before .args in
+    let e = sym (ap ofChecked (st .st .given .1)) ∙ check .check .ensures in
     read-into-short (a .letters .now) (a .k) (a .mirror) (a .q .0) (a .out .now) _ e (c .if1 .taken)
 
 returns-2 : tie.Need-returns-2
 returns-2 c =
-    let a = c .before .before .before .before .before .before .before .before .before .before .args in
-    let e = sym (ap ofChecked (c .before .before .before .before .before .st .given .1)) ∙ c .before .before .before .before .before .before .before .check .ensures in
-    read-bad-code (a .letters .now) (a .k) (a .mirror) (a .q .0) (a .out .now) _ e (c .before .before .before .if1 .left) (c .if2 .taken)
+    let if1 = c .before .before .before in
+    let st = if1 .before .before in
+    let check = st .before .before in
+    let a = check .before .before .before .args in
+    let e = sym (ap ofChecked (st .st .given .1)) ∙ check .check .ensures in
+    read-bad-code (a .letters .now) (a .k) (a .mirror) (a .q .0) (a .out .now) _ e (if1 .if1 .left) (c .if2 .taken)
 
 write-word-requires : tie.Need-write-word-requires
 write-word-requires c κs =
-    let a = c .before .before .before .before .before .before .before .before .before .before .before .args in
-    let e = sym (ap ofChecked (c .before .before .before .before .before .before .st .given .1)) ∙ c .before .before .before .before .before .before .before .before .check .ensures in
-    (known (a .letters .now) (a .k) (a .mirror) _ e .within, good-code (a .letters .now) (a .k) (a .mirror) (a .q .0) (a .out .now) _ e (c .before .if2 .left), c .before .before .before .before .if1 .left)
+    let if2 = c .before in
+    let if1 = if2 .before .before .before in
+    let st = if1 .before .before in
+    let check = st .before .before in
+    let a = check .before .before .before .args in
+    let e = sym (ap ofChecked (st .st .given .1)) ∙ check .check .ensures in
+    let within = known (a .letters .now) (a .k) (a .mirror) _ e .within in
+    let below = good-code (a .letters .now) (a .k) (a .mirror) (a .q .0) (a .out .now) _ e (if2 .if2 .left) in
+    (within, below, if1 .if1 .left)
 
 returns-3 : tie.Need-returns-3
 returns-3 c =
-    let a = c .before .before .before .before .before .before .args in
-    read-bad-settings (a .letters .now) (a .k) (a .mirror) (a .q .0) (a .out .now) _ (sym (ap ofChecked (c .before .f .given .1)) ∙ c .before .before .before .check .ensures)
+    let f = c .before in
+    let check = f .before .before in
+    let a = check .before .before .before .args in
+    let e = sym (ap ofChecked (f .f .given .1)) ∙ check .check .ensures in
+    read-bad-settings (a .letters .now) (a .k) (a .mirror) (a .q .0) (a .out .now) _ e
 
 same-length : tie.Need-same-length
 same-length c = search needs
 
 returns-4 : tie.Need-returns-4
 returns-4 c =
-    let a = c .before .before .before .before .before .before .before .before .before .before .before .before .before .before .args in
-    let e = sym (ap ofChecked (c .before .before .before .before .before .before .before .before .before .st .given .1)) ∙ c .before .before .before .before .before .before .before .before .before .before .before .check .ensures in
-    word-read (a .letters .now) (a .k) (a .mirror) (a .q .0) (a .out .now) _ e (c .before .before .before .before .before .before .before .if1 .left) (c .before .before .before .before .if2 .left) _ (c .before .before .write-word .ensures)
+    let written = c .before .before in
+    let if2 = written .before .before in
+    let if1 = if2 .before .before .before in
+    let st = if1 .before .before in
+    let check = st .before .before in
+    let a = check .before .before .before .args in
+    let e = sym (ap ofChecked (st .st .given .1)) ∙ check .check .ensures in
+    word-read (a .letters .now) (a .k) (a .mirror) (a .q .0) (a .out .now) _ e (if1 .if1 .left) (if2 .if2 .left) _
+    (written .write-word .ensures)
 
 pub word-of-spec : {M : Type 1} → statement M
 word-of-spec =

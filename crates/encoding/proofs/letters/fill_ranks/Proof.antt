@@ -42,7 +42,8 @@ loop-again : tie.Need-loop-again Inv-loop μ-loop
 loop-again c =
     let at = c .before .before .before in
     let a = at .before .before .before .before .args in
-    (omega arith, simp length-set (omega arith), rw (at .loop .inv .2, c .rank-or-zero .ensures) (ranks-written (a .letters .now) (a .word .now) (a .out .now) (at .loop .i) (omega arith) (omega arith)))
+    let written = ranks-written (a .letters .now) (a .word .now) (a .out .now) (at .loop .i) (omega arith) (omega arith) in
+    (omega arith, simp length-set (omega arith), rw (at .loop .inv .2, c .rank-or-zero .ensures) written)
 
 same-length : tie.Need-same-length Inv-loop μ-loop
 same-length c = c .before .loop .inv .1

@@ -39,7 +39,9 @@ returns : tie.Need-returns
 returns c =
     let fr = c .before .before .before in
     let start = fr .before .before .before .before in
-    c .plain-rank .ensures ∙ ap (plain (length (start .args .letters .now))) (own-is (start .args .letters .now) (start .args .word .now) Reversal (start .pre) _ _ (fr .fill-ranks .ensures))
+    let letters = start .args .letters .now in
+    let own = own-is letters (start .args .word .now) Reversal (start .pre) _ _ (fr .fill-ranks .ensures) in
+    c .plain-rank .ensures ∙ ap (plain (length letters)) own
 
 pub plain-of-spec : {M : Type 1} → statement M
 plain-of-spec =

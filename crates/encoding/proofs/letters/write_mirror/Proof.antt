@@ -44,13 +44,17 @@ array-share-prefix-other : tie.Need-array-share-prefix-other
 array-share-prefix-other c =
     let ranks = c .before .before .before .before .before in
     let start = ranks .before .before .before .before .before in
-    other-long (start .args .letters .now) (start .args .word .now) (start .args .m) (start .pre .0) _ _ (ranks .fill-ranks .ensures) _ _ (c .before .fill-mirror .ensures)
+    let own = ranks .fill-ranks .ensures in
+    let other = c .before .fill-mirror .ensures in
+    other-long (start .args .letters .now) (start .args .word .now) (start .args .m) (start .pre .0) _ _ own _ _ other
 
 slice-aggregate-write-letters : tie.Need-slice-aggregate-write-letters
 slice-aggregate-write-letters c =
     let ranks = c .before .before .before .before .before .before in
     let start = ranks .before .before .before .before .before in
-    other-len (start .args .letters .now) (start .args .word .now) (start .args .m) (start .pre .0) _ _ (ranks .fill-ranks .ensures) _ _ (c .before .before .fill-mirror .ensures)
+    let own = ranks .fill-ranks .ensures in
+    let other = c .before .before .fill-mirror .ensures in
+    other-len (start .args .letters .now) (start .args .word .now) (start .args .m) (start .pre .0) _ _ own _ _ other
 
 write-letters-requires : tie.Need-write-letters-requires
 write-letters-requires c κs =
@@ -72,7 +76,9 @@ returns c =
     let mirrored = written .before .before .before .before in
     let ranks = mirrored .before .before .before .before in
     let start = ranks .before .before .before .before .before in
-    other-written (start .args .letters .now) (start .args .word .now) (start .args .m) (start .pre .0) _ _ (ranks .fill-ranks .ensures) _ _ (mirrored .fill-mirror .ensures)
+    let own = ranks .fill-ranks .ensures in
+    let other = mirrored .fill-mirror .ensures in
+    other-written (start .args .letters .now) (start .args .word .now) (start .args .m) (start .pre .0) _ _ own _ _ other
     (start .args .out .now) _ (written .write-letters .ensures)
 
 pub write-mirror-spec : {M : Type 1} → statement M

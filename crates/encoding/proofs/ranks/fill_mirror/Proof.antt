@@ -56,7 +56,8 @@ loop-again : tie.Need-loop-again Inv-loop μ-loop
 loop-again c =
     let at = c .before .before .before in
     let a = at .before .before .before .args in
-    (omega arith, simp length-set (omega arith), rw (at .loop .inv .2, c .mirror-rank .ensures) (mirror-written (a .s) (a .m) (a .w .now) (a .out .now) (at .loop .i) (omega arith) (omega arith)))
+    let written = mirror-written (a .s) (a .m) (a .w .now) (a .out .now) (at .loop .i) (omega arith) (omega arith) in
+    (omega arith, simp length-set (omega arith), rw (at .loop .inv .2, c .mirror-rank .ensures) written)
 
 same-length : tie.Need-same-length Inv-loop μ-loop
 same-length c = c .before .loop .inv .1

@@ -22,7 +22,9 @@ mul-p : tie.Need-mul-p Inv-loop μ-loop
 mul-p c =
     let at = c .before in
     let start = at .before in
-    omega (arith, plain-next-lt (start .args .s) (start .args .w .now) (at .loop .i) (c .loop-test .taken) (start .pre .two) (start .pre .ranks), start .pre .small, ap (λ (x : ℕ). x * start .args .s) (at .loop .inv .1))
+    let s = start .args .s in
+    let next = plain-next-lt s (start .args .w .now) (at .loop .i) (c .loop-test .taken) (start .pre .two) (start .pre .ranks) in
+    omega (arith, next, start .pre .small, ap (λ (x : ℕ). x * s) (at .loop .inv .1))
 
 mul-p-2 : tie.Need-mul-p-2 Inv-loop μ-loop
 mul-p-2 c = omega arith
@@ -34,7 +36,9 @@ add-p : tie.Need-add-p Inv-loop μ-loop
 add-p c =
     let at = c .before .before in
     let start = at .before in
-    omega (arith, plain-next-lt (start .args .s) (start .args .w .now) (at .loop .i) (c .before .loop-test .taken) (start .pre .two) (start .pre .ranks), start .pre .small, ap (λ (x : ℕ). x * start .args .s) (at .loop .inv .1))
+    let s = start .args .s in
+    let next = plain-next-lt s (start .args .w .now) (at .loop .i) (c .before .loop-test .taken) (start .pre .two) (start .pre .ranks) in
+    omega (arith, next, start .pre .small, ap (λ (x : ℕ). x * s) (at .loop .inv .1))
 
 add-i : tie.Need-add-i Inv-loop μ-loop
 add-i c = omega arith

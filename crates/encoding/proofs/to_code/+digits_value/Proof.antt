@@ -85,8 +85,12 @@ digits-value-digits-value-requires t c κs =
     let if1 = if2 .before .before .before in
     let start = if1 .before .before in
     let a = start .args in
+    let w = a .w .now in
+    let can = start .pre .1 in
     let e = c .before .if3 .taken ∙ if2 .before .mirror-rank .ensures in
-    (subst (λ (j : ℕ). length (take (length (a .w .now) - 1 - 1) (drop 1 (a .w .now))) < j) (start .pre .0) (shorter (a .s) (a .m) (a .w .now) (start .pre .1) (if1 .if1 .left) (if2 .if2 .left)), inner-canonical (a .s) (a .m) (a .w .now) (start .pre .1) (if1 .if1 .left) (if2 .if2 .left) e)
+    let fewer = shorter (a .s) (a .m) w can (if1 .if1 .left) (if2 .if2 .left) in
+    let inner = inner-canonical (a .s) (a .m) w can (if1 .if1 .left) (if2 .if2 .left) e in
+    (subst (λ (j : ℕ). length (take (length w - 1 - 1) (drop 1 w)) < j) (start .pre .0) fewer, inner)
 
 digits-value-mul-result : (t : ℕ) → digits-value-lts.Need-mul-result (claims t) (digits-value-at t) digits-value.Post
 digits-value-mul-result t c =
@@ -97,7 +101,8 @@ digits-value-mul-result t c =
     let a = start .args in
     let e = if3 .if3 .taken ∙ if2 .before .mirror-rank .ensures in
     let can = start .pre .1 in
-    omega (arith, value-equal (a .s) (a .m) (a .w .now) can (if1 .if1 .left) (if2 .if2 .left) e _ (c .digits-value .ensures), value-small (a .s) (a .m) (a .w .now) can (if1 .if1 .left) (if2 .if2 .left))
+    let value = value-equal (a .s) (a .m) (a .w .now) can (if1 .if1 .left) (if2 .if2 .left) e _ (c .digits-value .ensures) in
+    omega (arith, value, value-small (a .s) (a .m) (a .w .now) can (if1 .if1 .left) (if2 .if2 .left))
 
 digits-value-add-result : (t : ℕ) → digits-value-lts.Need-add-result (claims t) (digits-value-at t) digits-value.Post
 digits-value-add-result t c =
@@ -108,7 +113,9 @@ digits-value-add-result t c =
     let a = start .args in
     let e = if3 .if3 .taken ∙ if2 .before .mirror-rank .ensures in
     let can = start .pre .1 in
-    omega (arith, if2 .before .mirror-rank .ensures, value-equal (a .s) (a .m) (a .w .now) can (if1 .if1 .left) (if2 .if2 .left) e _ (c .digits-value .ensures), value-small (a .s) (a .m) (a .w .now) can (if1 .if1 .left) (if2 .if2 .left))
+    let value = value-equal (a .s) (a .m) (a .w .now) can (if1 .if1 .left) (if2 .if2 .left) e _ (c .digits-value .ensures) in
+    let small = value-small (a .s) (a .m) (a .w .now) can (if1 .if1 .left) (if2 .if2 .left) in
+    omega (arith, if2 .before .mirror-rank .ensures, value, small)
 
 digits-value-returns-3 : (t : ℕ) → digits-value-lts.Need-returns-3 (claims t) (digits-value-at t) digits-value.Post
 digits-value-returns-3 t c =
@@ -118,7 +125,8 @@ digits-value-returns-3 t c =
     let start = if1 .before .before in
     let a = start .args in
     let e = if3 .if3 .taken ∙ if2 .before .mirror-rank .ensures in
-    rw (if2 .before .mirror-rank .ensures) (value-equal (a .s) (a .m) (a .w .now) (start .pre .1) (if1 .if1 .left) (if2 .if2 .left) e _ (c .digits-value .ensures))
+    rw (if2 .before .mirror-rank .ensures)
+    (value-equal (a .s) (a .m) (a .w .now) (start .pre .1) (if1 .if1 .left) (if2 .if2 .left) e _ (c .digits-value .ensures))
 
 digits-value-differing-value-requires : (t : ℕ) → digits-value-lts.Need-differing-value-requires (claims t) (digits-value-at t) digits-value.Post
 digits-value-differing-value-requires t c κs =
@@ -126,7 +134,9 @@ digits-value-differing-value-requires t c κs =
     let if1 = if2 .before .before .before in
     let start = if1 .before .before in
     let a = start .args in
-    rw (if2 .before .mirror-rank .ensures) (differs (a .s) (a .m) (a .w .now) (start .pre .1) (if1 .if1 .left) (if2 .if2 .left) (λ e. c .if3 .left (e ∙ sym (if2 .before .mirror-rank .ensures))))
+    let last = if2 .before .mirror-rank .ensures in
+    rw (if2 .before .mirror-rank .ensures)
+    (differs (a .s) (a .m) (a .w .now) (start .pre .1) (if1 .if1 .left) (if2 .if2 .left) (λ e. c .if3 .left (e ∙ sym last)))
 
 digits-value-returns-4 : (t : ℕ) → digits-value-lts.Need-returns-4 (claims t) (digits-value-at t) digits-value.Post
 digits-value-returns-4 t c =
@@ -135,8 +145,10 @@ digits-value-returns-4 t c =
     let if1 = if2 .before .before .before in
     let start = if1 .before .before in
     let a = start .args in
+    let last = if2 .before .mirror-rank .ensures in
     c .differing-value .ensures
-    ∙ rw (if2 .before .mirror-rank .ensures) (value-differ (a .s) (a .m) (a .w .now) (start .pre .1) (if1 .if1 .left) (if2 .if2 .left) (λ e. if3 .if3 .left (e ∙ sym (if2 .before .mirror-rank .ensures))))
+    ∙ rw (if2 .before .mirror-rank .ensures)
+    (value-differ (a .s) (a .m) (a .w .now) (start .pre .1) (if1 .if1 .left) (if2 .if2 .left) (λ e. if3 .if3 .left (e ∙ sym last)))
 
 pub +digits-value-spec : {M : Type 1} → statement M
 +digits-value-spec = close μ-digits-value λ t. digits-value-lts.spec (claims t)

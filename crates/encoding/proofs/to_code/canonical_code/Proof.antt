@@ -11,7 +11,8 @@ differing-at-requires c κs = search needs
 shift-of-requires : tie.Need-shift-of-requires
 shift-of-requires c κs =
     let start = c .before .before in
-    (start .pre .word .two, start .pre .word .small, at-le (start .args .s) (start .args .m) (start .args .w .now) (start .pre) _ 0 0 0 (c .differing-at .ensures))
+    let at = at-le (start .args .s) (start .args .m) (start .args .w .now) (start .pre) _ 0 0 0 (c .differing-at .ensures) in
+    (start .pre .word .two, start .pre .word .small, at)
 
 odd-shift-requires : tie.Need-odd-shift-requires
 odd-shift-requires c κs = search needs
@@ -23,19 +24,28 @@ sub-t9 : tie.Need-sub-t9
 sub-t9 c =
     let sh = c .before .before in
     let start = sh .before .before .before in
-    omega (arith, enough (start .args .s) (start .args .m) (start .args .w .now) (start .pre) _ _ _ _ (sh .before .differing-at .ensures) (sh .shift-of .ensures) (c .before .odd-shift .ensures) (c .digits-value .ensures))
+    omega (
+      arith,
+      enough (start .args .s) (start .args .m) (start .args .w .now) (start .pre) _ _ _ _ (sh .before .differing-at .ensures)
+          (sh .shift-of .ensures) (c .before .odd-shift .ensures) (c .digits-value .ensures),
+    )
 
 sub-t10 : tie.Need-sub-t10
 sub-t10 c =
     let sh = c .before .before in
     let start = sh .before .before .before in
-    omega (arith, enough (start .args .s) (start .args .m) (start .args .w .now) (start .pre) _ _ _ _ (sh .before .differing-at .ensures) (sh .shift-of .ensures) (c .before .odd-shift .ensures) (c .digits-value .ensures))
+    omega (
+      arith,
+      enough (start .args .s) (start .args .m) (start .args .w .now) (start .pre) _ _ _ _ (sh .before .differing-at .ensures)
+          (sh .shift-of .ensures) (c .before .odd-shift .ensures) (c .digits-value .ensures),
+    )
 
 returns : tie.Need-returns
 returns c =
     let sh = c .before .before in
     let start = sh .before .before .before in
-    code-is-this (start .args .s) (start .args .m) (start .args .w .now) (start .pre) _ _ _ _ (sh .before .differing-at .ensures) (sh .shift-of .ensures) (c .before .odd-shift .ensures) (c .digits-value .ensures)
+    code-is-this (start .args .s) (start .args .m) (start .args .w .now) (start .pre) _ _ _ _ (sh .before .differing-at .ensures)
+    (sh .shift-of .ensures) (c .before .odd-shift .ensures) (c .digits-value .ensures)
 
 pub canonical-code-spec : {M : Type 1} → statement M
 canonical-code-spec =

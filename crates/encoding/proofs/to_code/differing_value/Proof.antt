@@ -1,15 +1,20 @@
 -- `encoding::to_code::differing_value` meets its contract.
-use mathlib.Core.Path.{subst⁻¹}
+use mathlib.Core.Path.{_≡_, subst⁻¹}
 use Prim.Native.Nat.{_-_, _<_, ℕ}
 use native.Mathlib.Omega.{arith}
 use borrow.Author.Needs.{needs}
 use lib.ListN.{length}
 use Rattle.laws.proofs.Powers.{pairCount}
+use Rattle.encoding.specs.Codes.{pairRank}
 use Rattle.encoding.proofs.DigitValues.{first-small, high-small, high-is, differing-small, differing-is}
 use Rattle.encoding.proofs.Pairs.{below-pairs}
 use Rattle.encoding.proofs.WordParts.{inner-of}
 use Rattle.encoding.proofs.to_code.differing_value.Statement.{statement}
 use Rattle.encoding.proofs.to_code.differing_value.Tie as tie
+
+-- What `pair_rank` gives is the rank of a pair.
+rank-lt : (s l r R : ℕ) → l < r → r < s → R ≡ pairRank s l r → R < pairCount s
+rank-lt s l r R h g e = subst⁻¹ (λ (x : ℕ). x < pairCount s) e (below-pairs s l r h g)
 
 pair-rank-requires : tie.Need-pair-rank-requires
 pair-rank-requires c κs = search needs
@@ -22,7 +27,7 @@ add-high c =
     let a = c .before .before .args in
     let pre = c .before .before .pre in
     let R = c .pair-rank .result in
-    let lt : R < pairCount (a .s) = subst⁻¹ (λ (x : ℕ). x < pairCount (a .s)) (c .pair-rank .ensures) (below-pairs (a .s) (a .l) (a .r) (pre .less) (pre .rank)) in
+    let lt = rank-lt (a .s) (a .l) (a .r) R (pre .less) (pre .rank) (c .pair-rank .ensures) in
     omega (arith, first-small (a .s) R (pre .word .two) (pre .few) lt, high-small (a .s) R (pre .word .two) (pre .few) lt)
 
 mul-high : tie.Need-mul-high
@@ -30,7 +35,7 @@ mul-high c =
     let a = c .before .before .args in
     let pre = c .before .before .pre in
     let R = c .pair-rank .result in
-    let lt : R < pairCount (a .s) = subst⁻¹ (λ (x : ℕ). x < pairCount (a .s)) (c .pair-rank .ensures) (below-pairs (a .s) (a .l) (a .r) (pre .less) (pre .rank)) in
+    let lt = rank-lt (a .s) (a .l) (a .r) R (pre .less) (pre .rank) (c .pair-rank .ensures) in
     omega (arith, high-is (a .s) R (pre .word .two) (pre .few) lt, high-small (a .s) R (pre .word .two) (pre .few) lt)
 
 rem-high : tie.Need-rem-high
@@ -41,7 +46,7 @@ add-high-2 c =
     let a = c .before .before .args in
     let pre = c .before .before .pre in
     let R = c .pair-rank .result in
-    let lt : R < pairCount (a .s) = subst⁻¹ (λ (x : ℕ). x < pairCount (a .s)) (c .pair-rank .ensures) (below-pairs (a .s) (a .l) (a .r) (pre .less) (pre .rank)) in
+    let lt = rank-lt (a .s) (a .l) (a .r) R (pre .less) (pre .rank) (c .pair-rank .ensures) in
     omega (arith, high-is (a .s) R (pre .word .two) (pre .few) lt, high-small (a .s) R (pre .word .two) (pre .few) lt)
 
 sub-plain-rank : tie.Need-sub-plain-rank
@@ -72,19 +77,31 @@ mul-result : tie.Need-mul-result
 mul-result c =
     let pr = c .before .before .before in
     let start = pr .before .before in
-    omega (arith, differing-small (start .args .s) (start .args .w .now) (start .args .l) (start .args .r) (start .pre) _ _ _ (pr .pair-rank .ensures) (c .power .ensures) (c .before .plain-rank .ensures))
+    let a = start .args in
+    omega (
+      arith,
+      differing-small (a .s) (a .w .now) (a .l) (a .r) (start .pre) _ _ _ (pr .pair-rank .ensures) (c .power .ensures)
+          (c .before .plain-rank .ensures),
+    )
 
 add-result : tie.Need-add-result
 add-result c =
     let pr = c .before .before .before .before in
     let start = pr .before .before in
-    omega (arith, differing-small (start .args .s) (start .args .w .now) (start .args .l) (start .args .r) (start .pre) _ _ _ (pr .pair-rank .ensures) (c .before .power .ensures) (c .before .before .plain-rank .ensures))
+    let a = start .args in
+    omega (
+      arith,
+      differing-small (a .s) (a .w .now) (a .l) (a .r) (start .pre) _ _ _ (pr .pair-rank .ensures) (c .before .power .ensures)
+          (c .before .before .plain-rank .ensures),
+    )
 
 returns : tie.Need-returns
 returns c =
     let pr = c .before .before .before .before in
     let start = pr .before .before in
-    differing-is (start .args .s) (start .args .w .now) (start .args .l) (start .args .r) (start .pre) _ _ _ (pr .pair-rank .ensures) (c .before .power .ensures) (c .before .before .plain-rank .ensures)
+    let a = start .args in
+    differing-is (a .s) (a .w .now) (a .l) (a .r) (start .pre) _ _ _ (pr .pair-rank .ensures) (c .before .power .ensures)
+    (c .before .before .plain-rank .ensures)
 
 pub differing-value-spec : {M : Type 1} → statement M
 differing-value-spec =

@@ -22,7 +22,8 @@ returns c = rw (c .enum-told .given .1) (odd-reversal (c .before .before .args .
 returns-2 : tie.Need-returns-2
 returns-2 c =
     let start = c .before .before .before .before in
-    rw (c .before .before .enum-told2 .given .1) (odd-complement (start .args .s) (start .args .k) (start .pre .0) (start .pre .1) (c .before .if1 .taken) _ (c .power .ensures))
+    rw (c .before .before .enum-told2 .given .1)
+    (odd-complement (start .args .s) (start .args .k) (start .pre .0) (start .pre .1) (c .before .if1 .taken) _ (c .power .ensures))
 
 returns-3 : tie.Need-returns-3
 returns-3 c =

@@ -37,7 +37,9 @@ sub-result c =
     let s = start .args .s in
     let k = start .args .k in
     let p = start .args .p in
-    omega (arith, capped s k (k - p - 1) _ (start .pre .0) (omega arith) (start .pre .1) (c .before .power .ensures), capped s k (k - k / 2) _ (start .pre .0) (omega arith) (start .pre .1) (c .power2 .ensures), shift-pow s k p (start .pre .2) (start .pre .0) (if1 .if1 .left))
+    let upper = capped s k (k - p - 1) _ (start .pre .0) (omega arith) (start .pre .1) (c .before .power .ensures) in
+    let lower = capped s k (k - k / 2) _ (start .pre .0) (omega arith) (start .pre .1) (c .power2 .ensures) in
+    omega (arith, upper, lower, shift-pow s k p (start .pre .2) (start .pre .0) (if1 .if1 .left))
 
 returns-2 : tie.Need-returns-2
 returns-2 c =
@@ -46,8 +48,9 @@ returns-2 c =
     let s = start .args .s in
     let k = start .args .k in
     let p = start .args .p in
-    rw (capped s k (k - p - 1) _ (start .pre .0) (omega arith) (start .pre .1) (c .before .power .ensures), capped s k (k - k / 2) _ (start .pre .0) (omega arith) (start .pre .1) (c .power2 .ensures))
-    (some-shift s k p (start .pre .2) (if1 .if1 .left))
+    let upper = capped s k (k - p - 1) _ (start .pre .0) (omega arith) (start .pre .1) (c .before .power .ensures) in
+    let lower = capped s k (k - k / 2) _ (start .pre .0) (omega arith) (start .pre .1) (c .power2 .ensures) in
+    rw (upper, lower) (some-shift s k p (start .pre .2) (if1 .if1 .left))
 
 pub shift-of-spec : {M : Type 1} → statement M
 shift-of-spec =

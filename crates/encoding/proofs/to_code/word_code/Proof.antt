@@ -34,7 +34,8 @@ fill-mirror-requires : tie.Need-fill-mirror-requires
 fill-mirror-requires c κs =
     let start = c .before .before .before .before .before .before .before in
     let fr = c .before .before .before .fill-ranks in
-    (own-ranks (start .args .letters .now) (start .args .word .now) (start .args .m) (start .pre) _ _ (fr .ensures), own-short (start .args .letters .now) (start .args .word .now) (start .args .m) (start .pre) _ _ (fr .ensures))
+    let ranks = own-ranks (start .args .letters .now) (start .args .word .now) (start .args .m) (start .pre) _ _ (fr .ensures) in
+    (ranks, own-short (start .args .letters .now) (start .args .word .now) (start .args .m) (start .pre) _ _ (fr .ensures))
 
 array-share-prefix-other : tie.Need-array-share-prefix-other
 array-share-prefix-other c =
@@ -54,7 +55,6 @@ plain-rank-requires : tie.Need-plain-rank-requires
 plain-rank-requires c κs =
     let start = c .before .before .before .before .before .before .before .before .before .before in
     let fr = c .before .before .before .before .before .before .fill-ranks in
-    let fm = c .before .before .fill-mirror in
     own-word (start .args .letters .now) (start .args .word .now) (start .args .m) (start .pre) _ _ (fr .ensures)
 
 plain-rank-requires-2 : tie.Need-plain-rank-requires-2
@@ -69,28 +69,40 @@ canonical-code-requires c κs =
     let start = c .before .before .before .before .before .before .before .before .before .before .before .before .before .before .before in
     let fr = c .before .before .before .before .before .before .before .before .before .before .before .fill-ranks in
     let fm = c .before .before .before .before .before .before .before .fill-mirror in
-    own-least (start .args .letters .now) (start .args .word .now) (start .args .m) (start .pre) _ _ (fr .ensures) _ _ (fm .ensures) _ _ (c .before .before .before .before .plain-rank .ensures) (c .before .before .before .plain-rank2 .ensures) (c .if1 .taken)
+    let own-plain = c .before .before .before .before .plain-rank .ensures in
+    let other-plain = c .before .before .before .plain-rank2 .ensures in
+    own-least (start .args .letters .now) (start .args .word .now) (start .args .m) (start .pre) _ _ (fr .ensures) _ _ (fm .ensures) _ _ own-plain
+    other-plain (c .if1 .taken)
 
 canonical-code-requires-2 : tie.Need-canonical-code-requires-2
 canonical-code-requires-2 c κs =
     let start = c .before .before .before .before .before .before .before .before .before .before .before .before .before .before .before in
     let fr = c .before .before .before .before .before .before .before .before .before .before .before .fill-ranks in
     let fm = c .before .before .before .before .before .before .before .fill-mirror in
-    other-least (start .args .letters .now) (start .args .word .now) (start .args .m) (start .pre) _ _ (fr .ensures) _ _ (fm .ensures) _ _ (c .before .before .before .before .plain-rank .ensures) (c .before .before .before .plain-rank2 .ensures) (c .if1 .left)
+    let own-plain = c .before .before .before .before .plain-rank .ensures in
+    let other-plain = c .before .before .before .plain-rank2 .ensures in
+    other-least (start .args .letters .now) (start .args .word .now) (start .args .m) (start .pre) _ _ (fr .ensures) _ _ (fm .ensures) _ _ own-plain
+    other-plain (c .if1 .left)
 
 returns : tie.Need-returns
 returns c =
     let start = c .before .before .before .before .before .before .before .before .before .before .before .before .before .before .before .before in
     let fr = c .before .before .before .before .before .before .before .before .before .before .before .before .fill-ranks in
     let fm = c .before .before .before .before .before .before .before .before .fill-mirror in
-    own-answer (start .args .letters .now) (start .args .word .now) (start .args .m) (start .pre) _ _ (fr .ensures) _ _ (fm .ensures) _ _ (c .before .before .before .before .before .plain-rank .ensures) (c .before .before .before .before .plain-rank2 .ensures) (c .before .if1 .taken) _ (c .canonical-code .ensures)
+    let own-plain = c .before .before .before .before .before .plain-rank .ensures in
+    let other-plain = c .before .before .before .before .plain-rank2 .ensures in
+    own-answer (start .args .letters .now) (start .args .word .now) (start .args .m) (start .pre) _ _ (fr .ensures) _ _ (fm .ensures) _ _ own-plain
+    other-plain (c .before .if1 .taken) _ (c .canonical-code .ensures)
 
 returns-2 : tie.Need-returns-2
 returns-2 c =
     let start = c .before .before .before .before .before .before .before .before .before .before .before .before .before .before .before .before in
     let fr = c .before .before .before .before .before .before .before .before .before .before .before .before .fill-ranks in
     let fm = c .before .before .before .before .before .before .before .before .fill-mirror in
-    other-answer (start .args .letters .now) (start .args .word .now) (start .args .m) (start .pre) _ _ (fr .ensures) _ _ (fm .ensures) _ _ (c .before .before .before .before .before .plain-rank .ensures) (c .before .before .before .before .plain-rank2 .ensures) (c .before .if1 .left) _ (c .canonical-code2 .ensures)
+    let own-plain = c .before .before .before .before .before .plain-rank .ensures in
+    let other-plain = c .before .before .before .before .plain-rank2 .ensures in
+    other-answer (start .args .letters .now) (start .args .word .now) (start .args .m) (start .pre) _ _ (fr .ensures) _ _ (fm .ensures) _ _ own-plain
+    other-plain (c .before .if1 .left) _ (c .canonical-code2 .ensures)
 
 pub word-code-spec : {M : Type 1} → statement M
 word-code-spec =

@@ -1,11 +1,13 @@
 -- The proof of the cycle of calls {fill_word}. The measure is the length of the word.
-use mathlib.Core.Path.{subst, ap, _∙_}
+use mathlib.Core.Path.{_≡_, subst, ap, _∙_}
+use mathlib.Core.List.{List}
 use Prim.Native.Nat.{_-_, ℕ, _<_, _≤_, _*_}
 use native.Mathlib.Nat.{mod-lt}
 use native.Mathlib.Omega.{arith}
 use borrow.Author.Needs.{needs}
 use lib.ListN.{length, length-set}
 use Rattle.settings.specs.Settings.{classes}
+use Rattle.encoding.specs.Words.{Mirror}
 use Rattle.encoding.specs.WordsOfCodes.{wordOf}
 use Rattle.encoding.proofs.ReadSteps.{none-word, one-word, inner-small, low-small, part-length, inner-fine, inner-lt, upper, low-word, upper-is}
 use borrow.Fn.Kinds.{In}
@@ -48,6 +50,10 @@ claims t = (
   fill-differing-reads.Learnt,
 )
 
+-- A code below `low`, with the number of classes as the call gives it.
+below-low : (s : ℕ) (m : Mirror) (q : ℕ) (w : List ℕ) (n : ℕ) → n ≡ classes s m (length w - 2) → q < s * n → q < s * classes s m (length w - 2)
+below-low s m q w n e h = subst (λ (x : ℕ). q < s * x) e h
+
 fill-word-returns : (t : ℕ) → fill-word-lts.Need-returns (claims t) (fill-word-at t) fill-word.Post
 fill-word-returns t c =
     let start = c .before .before in
@@ -59,7 +65,6 @@ fill-word-middle-of-requires : (t : ℕ) → fill-word-lts.Need-middle-of-requir
 fill-word-middle-of-requires t c κs =
     let start = c .before .before .before in
     let s = start .args .s in
-    let w = start .args .out .now in
     (subst (λ (n : ℕ). start .args .q < classes s (start .args .m) n) (c .if2 .taken) (start .pre .1 .1), start .pre .1 .0 .few)
 
 fill-word-slice-write-out : (t : ℕ) → fill-word-lts.Need-slice-write-out (claims t) (fill-word-at t) fill-word.Post
@@ -97,24 +102,15 @@ fill-word-mul-low t c =
 fill-word-rem-r : (t : ℕ) → fill-word-lts.Need-rem-r (claims t) (fill-word-at t) fill-word.Post
 fill-word-rem-r t c =
     let start = c .before .before .before .before .before in
-    let s = start .args .s in
-    let w = start .args .out .now in
     omega (arith, start .pre .1 .0 .two)
 
 fill-word-mirror-rank-requires : (t : ℕ) → fill-word-lts.Need-mirror-rank-requires (claims t) (fill-word-at t) fill-word.Post
 fill-word-mirror-rank-requires t c κs =
     let start = c .before .before .before .before .before .before in
-    let s = start .args .s in
-    let w = start .args .out .now in
     mod-lt (start .args .q) (omega (arith, start .pre .1 .0 .two))
 
 fill-word-set-ends-requires : (t : ℕ) → fill-word-lts.Need-set-ends-requires (claims t) (fill-word-at t) fill-word.Post
-fill-word-set-ends-requires t c κs =
-    let start = c .before .before .before .before .before .before .before in
-    let s = start .args .s in
-    let w = start .args .out .now in
-    let two : 2 ≤ length w = omega arith in
-    two
+fill-word-set-ends-requires t c κs = omega arith
 
 fill-word-sub-fill-word : (t : ℕ) → fill-word-lts.Need-sub-fill-word (claims t) (fill-word-at t) fill-word.Post
 fill-word-sub-fill-word t c = omega arith
@@ -131,8 +127,6 @@ fill-word-part-fill-word-end t c = search needs
 fill-word-div-fill-word : (t : ℕ) → fill-word-lts.Need-div-fill-word (claims t) (fill-word-at t) fill-word.Post
 fill-word-div-fill-word t c =
     let start = c .before .before .before .before .before .before .before .before .before .before .before in
-    let s = start .args .s in
-    let w = start .args .out .now in
     omega (arith, start .pre .1 .0 .two)
 
 fill-word-fill-word-requires : (t : ℕ) → fill-word-lts.Need-fill-word-requires (claims t) (fill-word-at t) fill-word.Post
@@ -141,7 +135,8 @@ fill-word-fill-word-requires t c κs =
     let s = start .args .s in
     let w = start .args .out .now in
     let two : 2 ≤ length w = omega arith in
-    let low : start .args .q < s * classes s (start .args .m) (length w - 2) = subst (λ (x : ℕ). start .args .q < s * x) (c .before .before .before .before .before .before .before .class-count .ensures) (c .before .before .before .before .before .before .if3 .taken) in
+    let if3 = c .before .before .before .before .before .before in
+    let low = below-low s (start .args .m) (start .args .q) w _ (if3 .before .class-count .ensures) (if3 .if3 .taken) in
     let pl = part-length w _ two _ _ (c .before .before .before .set-ends .ensures) in
     let fine = start .pre .1 .0 in
     (omega (arith, start .pre .0, pl), (inner-fine s (start .args .m) w two fine _ pl, inner-lt s (start .args .m) w two fine (start .args .q) low _ pl))
@@ -163,8 +158,12 @@ fill-word-returns-3 t c =
     let s = start .args .s in
     let w = start .args .out .now in
     let two : 2 ≤ length w = omega arith in
-    let low : start .args .q < s * classes s (start .args .m) (length w - 2) = subst (λ (x : ℕ). start .args .q < s * x) (c .before .before .before .before .before .before .before .before .before .before .class-count .ensures) (c .before .before .before .before .before .before .before .before .before .if3 .taken) in
-    low-word s (start .args .m) w two (start .args .q) low _ _ _ (c .before .before .before .before .before .before .before .mirror-rank .ensures) (c .before .before .before .before .before .before .set-ends .ensures) (c .before .before .fill-word .ensures)
+    let ends = c .before .before .before .before .before .before in
+    let last = ends .before in
+    let if3 = last .before .before in
+    let low = below-low s (start .args .m) (start .args .q) w _ (if3 .before .class-count .ensures) (if3 .if3 .taken) in
+    low-word s (start .args .m) w two (start .args .q) low _ _ _ (last .mirror-rank .ensures) (ends .set-ends .ensures)
+    (c .before .before .fill-word .ensures)
 
 fill-word-same-length-3 : (t : ℕ) → fill-word-lts.Need-same-length-3 (claims t) (fill-word-at t) fill-word.Post
 fill-word-same-length-3 t c = search needs
@@ -175,7 +174,10 @@ fill-word-returns-4 t c =
     let s = start .args .s in
     let w = start .args .out .now in
     let two : 2 ≤ length w = omega arith in
-    c .before .before .fill-differing .ensures ∙ ap (λ (x : ℕ). wordOf s (start .args .m) (length w) x) (upper-is s (start .args .m) w two (start .pre .1 .0) (start .args .q) (start .pre .1 .1) _ (c .before .before .before .before .before .class-count .ensures) (c .before .before .before .before .if3 .left))
+    let if3 = c .before .before .before .before in
+    let code = upper-is s (start .args .m) w two (start .pre .1 .0) (start .args .q) (start .pre .1 .1) _ (if3 .before .class-count .ensures)
+    (if3 .if3 .left) in
+    c .before .before .fill-differing .ensures ∙ ap (λ (x : ℕ). wordOf s (start .args .m) (length w) x) code
 
 pub +fill-word-spec : {M : Type 1} → statement M
 +fill-word-spec = close μ-fill-word λ t. fill-word-lts.spec (claims t)

@@ -16,22 +16,20 @@ power-requires c κs = search needs
 
 div-pair-of : tie.Need-div-pair-of
 div-pair-of c =
-    let pw = c in
-    let start = pw .before .before in
+    let start = c .before .before in
     let s = start .args .s in
     let w = start .args .out .now in
     let pre = start .pre in
-    let p = capped s (length w) (length w - 2) _ (pre .limits .two) (omega arith) (pre .limits .small) (pw .power .ensures) in
+    let p = capped s (length w) (length w - 2) _ (pre .limits .two) (omega arith) (pre .limits .small) (c .power .ensures) in
     p-pos s (start .args .m) w (pre .long) (pre .limits) (start .args .q) (pre .below) _ p
 
 pair-of-requires : tie.Need-pair-of-requires
 pair-of-requires c κs =
-    let pw = c in
-    let start = pw .before .before in
+    let start = c .before .before in
     let s = start .args .s in
     let w = start .args .out .now in
     let pre = start .pre in
-    let p = capped s (length w) (length w - 2) _ (pre .limits .two) (omega arith) (pre .limits .small) (pw .power .ensures) in
+    let p = capped s (length w) (length w - 2) _ (pre .limits .two) (omega arith) (pre .limits .small) (c .power .ensures) in
     rank-below s (start .args .m) w (pre .long) (pre .limits) (start .args .q) (pre .below) _ p
 
 mirror-rank-requires : tie.Need-mirror-rank-requires
@@ -77,20 +75,25 @@ fill-plain-requires c κs =
     let w = start .args .out .now in
     let pre = start .pre in
     let p = capped s (length w) (length w - 2) _ (pre .limits .two) (omega arith) (pre .limits .small) (pw .power .ensures) in
-    (pre .limits .two, rest-lt s (start .args .m) w (pre .long) (pre .limits) (start .args .q) (pre .below) _ p _ (part-length w _ (pre .long) _ _ (c .before .before .before .set-ends .ensures)))
+    let inner-length = part-length w _ (pre .long) _ _ (c .before .before .before .set-ends .ensures) in
+    (pre .limits .two, rest-lt s (start .args .m) w (pre .long) (pre .limits) (start .args .q) (pre .below) _ p _ inner-length)
 
 same-length : tie.Need-same-length
 same-length c = search needs
 
 returns : tie.Need-returns
 returns c =
-    let pw = c .before .before .before .before .before .before .before .before .before .before in
+    let ends = c .before .before .before .before .before .before in
+    let last = ends .before in
+    let pair = last .before .before in
+    let pw = pair .before in
     let start = pw .before .before in
     let s = start .args .s in
     let w = start .args .out .now in
     let pre = start .pre in
     let p = capped s (length w) (length w - 2) _ (pre .limits .two) (omega arith) (pre .limits .small) (pw .power .ensures) in
-    high-word s (start .args .m) w (pre .long) (start .args .q) _ p _ _ _ _ _ (c .before .before .before .before .before .before .before .before .before .pair-of .ensures .0) (c .before .before .before .before .before .before .before .before .before .pair-of .ensures .1) (c .before .before .before .before .before .before .before .mirror-rank .ensures) (c .before .before .before .before .before .before .set-ends .ensures) (c .before .before .fill-plain .ensures)
+    high-word s (start .args .m) w (pre .long) (start .args .q) _ p _ _ _ _ _ (pair .pair-of .ensures .0) (pair .pair-of .ensures .1)
+    (last .mirror-rank .ensures) (ends .set-ends .ensures) (c .before .before .fill-plain .ensures)
 
 pub fill-differing-spec : {M : Type 1} → statement M
 fill-differing-spec =

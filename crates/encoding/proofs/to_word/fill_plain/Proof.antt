@@ -10,7 +10,11 @@ use Rattle.encoding.proofs.to_word.fill_plain.Statement.{statement}
 use Rattle.encoding.proofs.to_word.fill_plain.Tie as tie
 
 abbrev Inv-loop : tie.InvT-loop
-Inv-loop out₀ s q i₀ left₀ out i left = (i ≤ length out₀) × (length out ≡ length out₀) × (left < s ^ i) × (wordOfPlain s (length out₀) q ≡ wordOfPlain s i left ++ drop i out)
+Inv-loop out₀ s q i₀ left₀ out i left =
+    (i ≤ length out₀)
+    × (length out ≡ length out₀)
+    × (left < s ^ i)
+    × (wordOfPlain s (length out₀) q ≡ wordOfPlain s i left ++ drop i out)
 
 abbrev μ-loop : tie.MeasureT-loop
 μ-loop out₀ s q i₀ left₀ out i left = i
@@ -39,18 +43,23 @@ loop-less c = omega arith
 loop-again : tie.Need-loop-again Inv-loop μ-loop
 loop-again c =
     let at = c .before in
-    let start = at .before in (
+    let start = at .before in
+    let s = start .args .s in
+    let i = at .loop .i in
+    let left = at .loop .left in (
       omega arith,
       simp length-set (omega arith),
-      left-lt (start .args .s) (at .loop .i) (at .loop .left) (start .pre .0) (c .loop-test .taken) (at .loop .inv .2),
-      at .loop .inv .3 ∙ plain-back (start .args .s) (at .loop .i) (at .loop .left) (start .pre .0) (c .loop-test .taken) (at .loop .inv .2) (at .loop .out) (omega arith),
+      left-lt s i left (start .pre .0) (c .loop-test .taken) (at .loop .inv .2),
+      at .loop .inv .3 ∙ plain-back s i left (start .pre .0) (c .loop-test .taken) (at .loop .inv .2) (at .loop .out) (omega arith),
     )
 
 same-length : tie.Need-same-length Inv-loop μ-loop
 same-length c = c .before .loop .inv .1
 
 returns : tie.Need-returns Inv-loop μ-loop
-returns c = plain-end (c .before .before .args .s) (c .before .loop .i) (c .before .loop .left) _ (c .before .loop .out) (c .loop-test .left) (c .before .loop .inv .3)
+returns c =
+    let at = c .before in
+    plain-end (at .before .args .s) (at .loop .i) (at .loop .left) _ (at .loop .out) (c .loop-test .left) (at .loop .inv .3)
 
 pub fill-plain-spec : {M : Type 1} → statement M
 fill-plain-spec =

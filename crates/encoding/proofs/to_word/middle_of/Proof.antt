@@ -18,12 +18,16 @@ enum-told-2 c = search needs
 sub-result : tie.Need-sub-result
 sub-result c =
     let start = c .before .before in
-    omega (arith, middle-lt (start .args .s) (start .args .q) (subst (λ m. start .args .q < classes (start .args .s) m 1) (c .enum-told2 .given .1) (start .pre .0)))
+    let s = start .args .s in
+    let q = start .args .q in
+    omega (arith, middle-lt s q (subst (λ m. q < classes s m 1) (c .enum-told2 .given .1) (start .pre .0)))
 
 sub-result-2 : tie.Need-sub-result-2
 sub-result-2 c =
     let start = c .before .before in
-    omega (arith, middle-lt (start .args .s) (start .args .q) (subst (λ m. start .args .q < classes (start .args .s) m 1) (c .enum-told2 .given .1) (start .pre .0)))
+    let s = start .args .s in
+    let q = start .args .q in
+    omega (arith, middle-lt s q (subst (λ m. q < classes s m 1) (c .enum-told2 .given .1) (start .pre .0)))
 
 returns : tie.Need-returns
 unfolding middleOfCode

@@ -9,7 +9,11 @@ use Rattle.encoding.proofs.to_word.pair_of.Statement.{statement}
 use Rattle.encoding.proofs.to_word.pair_of.Tie as tie
 
 abbrev Inv-loop : tie.InvT-loop
-Inv-loop s rank t₀ left₀ l₀ t left l = (t + l + 1 ≡ s) × (left < pairCount (suc t)) × (pairOfRank (s - 1) rank .0 ≡ l + pairOfRank t left .0) × (pairOfRank (s - 1) rank .1 ≡ l + pairOfRank t left .1)
+Inv-loop s rank t₀ left₀ l₀ t left l =
+    (t + l + 1 ≡ s)
+    × (left < pairCount (suc t))
+    × (pairOfRank (s - 1) rank .0 ≡ l + pairOfRank t left .0)
+    × (pairOfRank (s - 1) rank .1 ≡ l + pairOfRank t left .1)
 
 abbrev μ-loop : tie.MeasureT-loop
 μ-loop s rank t₀ left₀ l₀ t left l = t
@@ -51,7 +55,9 @@ add-t8 c = omega arith
 returns : tie.Need-returns Inv-loop μ-loop
 returns c =
     let at = c .before in
-    (omega (arith, at .loop .inv .2, rank-here-0 (at .loop .t) (at .loop .left) (c .loop-test .left)), omega (arith, at .loop .inv .3, rank-here-1 (at .loop .t) (at .loop .left) (c .loop-test .left)))
+    let l = rank-here-0 (at .loop .t) (at .loop .left) (c .loop-test .left) in
+    let r = rank-here-1 (at .loop .t) (at .loop .left) (c .loop-test .left) in
+    (omega (arith, at .loop .inv .2, l), omega (arith, at .loop .inv .3, r))
 
 pub pair-of-spec : {M : Type 1} → statement M
 pair-of-spec =

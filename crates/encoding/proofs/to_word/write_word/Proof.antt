@@ -17,7 +17,6 @@ array-borrow-prefix-ranks c =
     let a = start .args in
     let l = a .letters .now in
     let f = start .pre .0 in
-    let g = start .pre .1 in
     omega (arith, exponent-le (length l) (a .k) (f .two) (f .small))
 
 slice-aggregate-fill-word : tie.Need-slice-aggregate-fill-word
@@ -36,7 +35,8 @@ fill-word-requires c κs =
     let l = a .letters .now in
     let f = start .pre .0 in
     let g = start .pre .1 in
-    (subst⁻¹ (λ (n : ℕ). Limits (length l) (a .m) n) (zeros-length l (a .k) (a .m) (a .q) f g) f, subst⁻¹ (λ (n : ℕ). a .q < classes (length l) (a .m) n) (zeros-length l (a .k) (a .m) (a .q) f g) g)
+    let k-places = zeros-length l (a .k) (a .m) (a .q) f g in
+    (subst⁻¹ (λ (n : ℕ). Limits (length l) (a .m) n) k-places f, subst⁻¹ (λ (n : ℕ). a .q < classes (length l) (a .m) n) k-places g)
 
 array-share-prefix-ranks : tie.Need-array-share-prefix-ranks
 array-share-prefix-ranks c =
@@ -63,7 +63,9 @@ write-letters-requires c κs =
     let l = a .letters .now in
     let f = start .pre .0 in
     let g = start .pre .1 in
-    (front-ranks l (a .k) (a .m) (a .q) f g _ (c .before .before .before .fill-word .ensures) _, omega (arith, front-length l (a .k) (a .m) (a .q) f g _ (c .before .before .before .fill-word .ensures) (drop (a .k) zeros), start .pre .2))
+    let filled = c .before .before .before .fill-word .ensures in
+    let k-ranks = front-length l (a .k) (a .m) (a .q) f g _ filled (drop (a .k) zeros) in
+    (front-ranks l (a .k) (a .m) (a .q) f g _ filled _, omega (arith, k-ranks, start .pre .2))
 
 same-length : tie.Need-same-length
 same-length c = search needs
@@ -75,7 +77,8 @@ returns c =
     let l = a .letters .now in
     let f = start .pre .0 in
     let g = start .pre .1 in
-    front-written l (a .k) (a .m) (a .q) f g _ (c .before .before .before .before .before .before .fill-word .ensures) _ _ _ (c .before .before .write-letters .ensures)
+    let filled = c .before .before .before .before .before .before .fill-word .ensures in
+    front-written l (a .k) (a .m) (a .q) f g _ filled _ _ _ (c .before .before .write-letters .ensures)
 
 pub write-word-spec : {M : Type 1} → statement M
 write-word-spec =
