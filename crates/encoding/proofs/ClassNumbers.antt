@@ -1,6 +1,6 @@
 -- The number of classes, the number of palindromes and the shift, each from those of the word two letters shorter. With s^n written out,
 -- classes(n + 2) = s * classes(n) + s(s - 1)/2 * s^n: the words with equal outer letters, and those with a pair l < r.
-use mathlib.Core.Path.{_≡_, refl, sym, ap, _∙_, subst⁻¹}
+use mathlib.Core.Path.{_≡_, refl, ap, subst⁻¹}
 use mathlib.Core.Bool.{Bool, true, false, cond, false≢true}
 use Prim.Native.Nat.{ℕ, zero, suc, _+_, _-_, _*_, _/_, _%_, _^_, _<_, _≤_}
 use native.Mathlib.Nat.{pow-zero, pow-suc, pow-le-pow-right}

@@ -112,14 +112,3 @@ module _ (s : ℕ) (m : Mirror) (hs : 1 < s) (he : EvenUnder s m) where
       (λ q. inl (sym mv ∙ ap (mirror s m) (sym p ∙ c ∙ q) ∙ mw))
       (is-canonical s m k w lw hw .one))
       (is-canonical s m k v lv hv .one)
-
-  -- A word has the code q exactly where it is the word of q or its mirror.
-  pub code-is-of : (k q : ℕ) (w : List ℕ) → q < classes s m k → length w ≡ k → Ranks s w → code s m k w ≡ q → (w ≡ wordOf s m k q) ⊎ (w ≡ mirror s m (wordOf s m k q))
-  code-is-of k q w h l hw e =
-      code-injective k w (wordOf s m k q) l (length-wordOf k q h) hw (ranks-wordOf k q h) (e ∙ sym (code-wordOf k q h))
-
-  pub of-code-is : (k q : ℕ) (w : List ℕ) → q < classes s m k → (w ≡ wordOf s m k q) ⊎ (w ≡ mirror s m (wordOf s m k q)) → code s m k w ≡ q
-  of-code-is k q w h =
-      ⊎-elim
-      (λ e. ap (code s m k) e ∙ code-wordOf k q h)
-      (λ e. ap (code s m k) e ∙ code-mirror k (wordOf s m k q) (length-wordOf k q h) (ranks-wordOf k q h) ∙ code-wordOf k q h)

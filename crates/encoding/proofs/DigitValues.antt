@@ -135,7 +135,7 @@ module _ (s : ℕ) (m : Mirror) (w : List ℕ) (c : FitCanonical s m w) (h0 : le
   pub value-small : plain s (digits s m (length w) w) < 2 ^ 62
   value-small = omega (arith, value-lt s m (c .word .two) (length w) w refl (c .word .ranks) (c .least), c .word .small)
 
-  pub differs : (getD w 0 0 ≡ mirrorRank s m (getD w (length w - 1) 0) → ⊥) → FitDiffering s w (getD w 0 0) (mirrorRank s m (getD w (length w - 1) 0))
+  differs : (getD w 0 0 ≡ mirrorRank s m (getD w (length w - 1) 0) → ⊥) → FitDiffering s w (getD w 0 0) (mirrorRank s m (getD w (length w - 1) 0))
   differs d =
       let le : getD w 0 0 ≤ mirrorRank s m (getD w (length w - 1) 0)
       = canonical-first s m (length w - 1 - 1) (getD w 0 0) (getD w (length w - 1) 0) (take (length w - 1 - 1) (drop 1 w)) in-len whole-ranks
@@ -148,9 +148,21 @@ module _ (s : ℕ) (m : Mirror) (w : List ℕ) (c : FitCanonical s m w) (h0 : le
         rank = mirrorRank-lt s m (getD w (length w - 1) 0) (last-lt s w (c .word .ranks) h0);
       }
 
-  pub value-differ : (getD w 0 0 ≡ mirrorRank s m (getD w (length w - 1) 0) → ⊥)
+  value-differ : (getD w 0 0 ≡ mirrorRank s m (getD w (length w - 1) 0) → ⊥)
       → (pairRank s (getD w 0 0) (mirrorRank s m (getD w (length w - 1) 0)) + s) * s ^ (length w - 2) + plain s (take (length w - 2) (drop 1 w))
       ≡ plain s (digits s m (length w) w)
   value-differ d =
       let e : length w - 2 ≡ length w - 1 - 1 = omega arith in
       sym (step ∙ rw (ne-eqb (getD w 0 0) (mirrorRank s m (getD w (length w - 1) 0)) d, e))
+
+  -- The same of the last letter as `mirror_rank` gives it, and the value as `differing_value` does.
+  module _ (r : ℕ) (last-is : r ≡ mirrorRank s m (getD w (length w - 1) 0)) (ne : getD w 0 0 ≡ r → ⊥) where
+    ne-mirror : getD w 0 0 ≡ mirrorRank s m (getD w (length w - 1) 0) → ⊥
+    ne-mirror e = ne (e ∙ sym last-is)
+
+    pub fit-differing : FitDiffering s w (getD w 0 0) r
+    fit-differing = rw last-is (differs ne-mirror)
+
+    pub differing-answer : (v : ℕ) → v ≡ (pairRank s (getD w 0 0) r + s) * s ^ (length w - 2) + plain s (take (length w - 2) (drop 1 w))
+        → v ≡ plain s (digits s m (length w) w)
+    differing-answer v e = e ∙ rw last-is (value-differ ne-mirror)

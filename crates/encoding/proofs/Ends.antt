@@ -1,6 +1,6 @@
 -- A word from both ends: a ∷ (u ++ (b ∷ [])), where u is two letters shorter. The induction by it, and what each definition is at such a word,
 -- so that no later proof meets take, drop or getD.
-use mathlib.Core.Path.{_≡_, refl, sym, ap, _∙_, subst⁻¹}
+use mathlib.Core.Path.{_≡_, sym, ap, _∙_, subst⁻¹}
 use mathlib.Core.Bool.{Bool, cond}
 use mathlib.Core.List.{List, [], _∷_, _++_, map, reverse, reverse-append, reverse-cons}
 use Prim.Native.Nat.{ℕ, zero, suc, _+_, _*_, _/_, _%_, _^_}

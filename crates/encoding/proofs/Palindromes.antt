@@ -1,26 +1,26 @@
 -- Palindromes have the lowest codes: a word of n letters is a palindrome exactly when its code is below the number of palindromes. First for
 -- canonical words, by induction from both ends; then for any word, whose canonical word is a palindrome with it.
-use mathlib.Core.Path.{_≡_, refl, sym, ap, _∙_, subst}
-use mathlib.Core.Logic.{_⊎_, ⊎-elim, _↔_}
+use mathlib.Core.Path.{_≡_, refl, sym, ap, _∙_}
+use mathlib.Core.Logic.{⊎-elim, _↔_}
 use mathlib.Core.List.{List, [], _∷_, _++_}
-use Prim.Native.Nat.{ℕ, zero, suc, _+_, _-_, _*_, _/_, _%_, _^_, _<_, _≤_}
+use Prim.Native.Nat.{ℕ, suc, _+_, _-_, _*_, _<_}
 use native.Mathlib.Nat.{pow-zero, mul-le-mul-left}
 use native.Mathlib.Decide.{ℕ-discrete, decLe}
 use native.Mathlib.Omega.{arith}
 use lib.ListN.{length, take}
 use lib.Seq.{take-at}
-use Rattle.settings.specs.Settings.{halfUp, isOdd, classes}
+use Rattle.settings.specs.Settings.{halfUp, isOdd}
 use Rattle.settings.specs.Limits.{EvenUnder}
 use Rattle.laws.proofs.Powers.{pow-one}
-use Rattle.encoding.specs.Words.{Mirror, Reversal, Complement, Ranks, mirrorRank, mirror, plain, canonical, Palindrome}
-use Rattle.encoding.specs.Codes.{pairRank, code}
+use Rattle.encoding.specs.Words.{Mirror, Reversal, Complement, Ranks, mirrorRank, mirror, canonical, Palindrome}
+use Rattle.encoding.specs.Codes.{code}
 use Rattle.encoding.specs.WordsOfCodes.{middleOfCode}
 use Rattle.encoding.specs.Needs.{palindromes}
 use Rattle.encoding.proofs.ClassNumbers.{palindromes-suc, classes-palindromes}
 use Rattle.encoding.proofs.Ends.{ends, mirror-ends, length-mirror}
-use Rattle.encoding.proofs.Canonical.{IsCanonical, mirrorRank-lt, mirrorRank-twice, mirror-mirror, first-lt, last-lt, inner-ranks, canonical-inner}
+use Rattle.encoding.proofs.Canonical.{IsCanonical, mirrorRank-lt, mirrorRank-twice, mirror-mirror, last-lt, inner-ranks, canonical-inner}
 use Rattle.encoding.proofs.Recursion.{codeRec, code-is, codeRec-same, codeRec-differ}
-use Rattle.encoding.proofs.Codes.{CanonicalOf, is-canonical, canonical-low}
+use Rattle.encoding.proofs.Codes.{is-canonical}
 
 -- Two words with as many letters within that are equal have equal first letters and equal words within.
 tails-equal : (n b d : ℕ) (u v : List ℕ) → length u ≡ n → length v ≡ n → u ++ (b ∷ []) ≡ v ++ (d ∷ []) → u ≡ v

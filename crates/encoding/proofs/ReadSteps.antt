@@ -232,8 +232,12 @@ module _ (s : ℕ) (m : Mirror) (out : List ℕ) (two : 2 ≤ length out) (f : L
   pub upper : FitHighCode s m out (q - s * n)
   upper = record { limits = f; long = two; below = omega (arith, ap (λ (x : ℕ). s * x) e) }
 
-  pub upper-is : s * classes s m (length out - 2) + (q - s * n) ≡ q
+  upper-is : s * classes s m (length out - 2) + (q - s * n) ≡ q
   upper-is = omega (arith, ap (λ (x : ℕ). s * x) e)
+
+  -- What `fill_differing` writes for it is its word.
+  pub upper-word : (new : List ℕ) → new ≡ wordOf s m (length out) (s * classes s m (length out - 2) + (q - s * n)) → new ≡ wordOf s m (length out) q
+  upper-word new x = x ∙ ap (wordOf s m (length out)) upper-is
 
 -- ---- the bytes of a word
 

@@ -1,10 +1,10 @@
 -- What is claimed of the encoding, for every number of letters, every k and both mirrors within the limits (`Limits`: 2 to 16 letters, an even
 -- number of them under complement, s^k at most 2^62). Each theorem stands below its statement in words; docs/CLAIMS.md cites them by name.
-use mathlib.Core.Path.{_≡_, refl, sym, ap, _∙_}
+use mathlib.Core.Path.{_≡_, sym, ap, _∙_}
 use mathlib.Core.Bool.{true, false}
 use mathlib.Core.List.{List}
 use mathlib.Core.Logic.{_↔_, _⊎_, ⊎-elim}
-use Prim.Native.Nat.{ℕ, _/_, _%_, _^_, _<_, _≤_}
+use Prim.Native.Nat.{ℕ, _/_, _^_, _<_, _≤_}
 use native.Mathlib.Omega.{arith}
 use Rattle.settings.specs.Settings.{halfUp, isOdd, classes}
 use Rattle.settings.specs.Limits.{Limits}

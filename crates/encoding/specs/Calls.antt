@@ -73,12 +73,9 @@ pickGround letters k mirror first second = codeGround letters k mirror first orE
 unfoldable pub coding : (letters : List ℕ) (k mirror : ℕ) (word : List ℕ) → Outcome ℕ
 coding letters k m word = outcome (codeGround letters k m word) (code (length letters) (mirrorOf m) k (ranksOf letters word))
 
--- Reading and mirroring answer how many bytes they wrote, which is k.
+-- Reading answers how many bytes it wrote, which is k.
 abbrev pub reading : (letters : List ℕ) (k mirror q room : ℕ) → Outcome ℕ
 reading letters k m q room = outcome (readGround letters k m q room) k
-
-abbrev pub mirroring : (letters : List ℕ) (k mirror : ℕ) (word : List ℕ) (room : ℕ) → Outcome ℕ
-mirroring letters k m word room = outcome (mirrorGround letters k m word room) k
 
 -- "A code below the number of classes gives its canonical word, in capitals"
 unfoldable pub wordBytes : (letters : List ℕ) (k mirror q : ℕ) → List ℕ

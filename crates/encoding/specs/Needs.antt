@@ -1,6 +1,5 @@
 -- What private functions ask of each other and laws speak of, and no claim cites: where the scan of a word stops, the number of palindromes, and
 -- words and codes that fit 62 bits.
-use mathlib.Core.Path.{_≡_}
 use mathlib.Core.Bool.{Bool, true, false, cond}
 use mathlib.Core.Option.{Option, none, some}
 use mathlib.Core.List.{List}

@@ -2,6 +2,7 @@
 // The calls take the settings as they are and refuse what no rule allows; the modules below them work on good settings.
 mod to_code; // from a word to its code
 mod letters; // from bytes to ranks and back
+pub mod pair_ranks; // the rank of a pair of ranks
 mod ranks; // words of ranks: mirror and plain rank
 mod to_word; // from a code to its word
 

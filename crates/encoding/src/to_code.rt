@@ -9,6 +9,7 @@ ghost use Rattle.encoding.specs.Calls.{ranksOf};
 ghost use Rattle.encoding.specs.Needs.{equalPairs, pairAfter, FitCanonical, FitDiffering};
 use crate::Code;
 use crate::letters;
+use crate::pair_ranks::pair_rank;
 use crate::ranks;
 use settings::Mirror;
 
@@ -29,14 +30,6 @@ fn differing_at(w: &[u64], s: u64, m: Mirror) -> usize
         i += 1;
     };
     at
-}
-
-// R, the rank of a pair l < r among all such pairs.
-fn pair_rank(s: u64, l: u64, r: u64) -> u64
-    requires { ⌜ (l < r) × (r < s) × (s ≤ 16) ⌝ }
-    ensures { λ v. ⌜ v ≡ pairRank s l r ⌝ }
-{
-    l * (2 * s - 3 - l) / 2 + r - 1
 }
 
 // The value of the digits of a word whose outer pair l < r differs: R/s + 1, R mod s, and the inner letters.

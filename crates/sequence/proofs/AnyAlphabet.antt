@@ -59,7 +59,8 @@ module _ {s mir k : ℕ} {pw d : List ℕ} {j : ℕ} {t : Inner} (W : Window s m
       → (top + t .palindromes) / 2 + R * low + w ≡ code s m k (part j k d)
   differing-is w R top low O ne chosen eR et el =
       rw (et, el)
-      (differ-is s m two even d (W .input .ranks) j k (j + k - 1) (t .forward) (t .back) w (t .palindromes) R (O .two) (W .inside) refl (W .ahead) (W .behind) (W .count)
+      (differ-is s m two even d (W .input .ranks) j k (j + k - 1) (t .forward) (t .back) w (t .palindromes) R (O .two) (W .inside) refl
+      (W .ahead) (W .behind) (W .count)
       (rw (O .first, O .last) at ne) (rw (O .first, O .last) at (chosen .0)) (rw (O .first, O .last) at (chosen .1)) (rw (O .first, O .last) at eR))
 
   -- ---- the window within
@@ -165,8 +166,8 @@ module _ {s mir k : ℕ} {pw d : List ℕ} {j : ℕ} {t : Inner} {a n closing sc
 -- ---- the next window
 
 -- The letter that enters it is a rank.
-pub entering-lt : {s mir k : ℕ} {pw d : List ℕ} {j : ℕ} {t : Inner} → Window s mir k pw d j t → j + k < length d → {n y : ℕ} → n ≡ k - 2 → y ≡ getD d (j + 1 + n) 0 → 1 ≤ k
-    → y < s
+pub entering-lt : {s mir k : ℕ} {pw d : List ℕ} {j : ℕ} {t : Inner} → Window s mir k pw d j t → j + k < length d
+    → {n y : ℕ} → n ≡ k - 2 → y ≡ getD d (j + 1 + n) 0 → 1 ≤ k → y < s
 entering-lt {s} {d = d} {j = j} W more {n = n} en ey some = rw ey (ranks-at s d (j + 1 + n) (W .input .ranks) (omega arith))
 
 module _ {s mir k : ℕ} {pw d : List ℕ} {j : ℕ} {t : Inner} (W : Window s mir k pw d j t) (some : 1 ≤ k) (more : j + k < length d)
@@ -208,7 +209,8 @@ module _ {s mir k : ℕ} {pw d : List ℕ} {j : ℕ} {t : Inner} (W : Window s m
   behind-fits =
       rw behind-more (lt-of-lt-of-le (back-lt s (mirrorOf mir) (suc j) (suc n) d (W .input .ranks) (omega arith)) (power-fits (W .input) (suc n) (omega arith)))
 
-  pub next-is : (u v : ℕ) → u ≡ t .forward * s + y - x * q → v ≡ (t .back + z * q) / s → Window s mir k pw d (j + 1) (record { palindromes = t .palindromes; forward = u; back = v })
+  pub next-is : (u v : ℕ) → u ≡ t .forward * s + y - x * q → v ≡ (t .back + z * q) / s
+      → Window s mir k pw d (j + 1) (record { palindromes = t .palindromes; forward = u; back = v })
   next-is u v eu ev =
       record {
         input = W .input;
@@ -258,7 +260,9 @@ module _ {s mir k : ℕ} {pw d : List ℕ} (I : Input s mir k pw d) (long : k �
       behind-more′ = rw (O .behind, ey, x-at, eq) (omega (arith, back-more s (mirrorOf mir) 1 i d inside))
 
       pub open-behind : v + y * q < 2 ^ 62
-      open-behind = rw behind-more′ (lt-of-lt-of-le (back-lt s (mirrorOf mir) 1 (suc i) d (I .ranks) (omega (arith, inside))) (power-fits I (suc i) (omega arith)))
+      open-behind =
+          let below = back-lt s (mirrorOf mir) 1 (suc i) d (I .ranks) (omega (arith, inside)) in
+          rw behind-more′ (lt-of-lt-of-le below (power-fits I (suc i) (omega arith)))
 
       pub open-more : Opened s mir d n (u * s + x) (v + y * q) (i + 1)
       open-more = record { upto = omega arith; ahead = ahead-more′ ∙ rw add-one; behind = behind-more′ ∙ rw add-one }

@@ -72,7 +72,8 @@ ranked-at rank (b ∷ w) e zero h = and-split (isRank (rank b)) (allRanked rank 
 ranked-at rank (b ∷ w) e (suc p) h = ranked-at rank w (and-split (isRank (rank b)) (allRanked rank w) e .1) p (omega arith)
 
 -- Nothing is to be blanked.
-pub blanked-nothing : (table : List ℕ) (k : ℕ) (bytes old : List ℕ) → allRanked (rankByTable table) bytes ≡ true → Blanked table k bytes old old (length bytes + 1 - k)
+pub blanked-nothing : (table : List ℕ) (k : ℕ) (bytes old : List ℕ) → allRanked (rankByTable table) bytes ≡ true
+    → Blanked table k bytes old old (length bytes + 1 - k)
 blanked-nothing table k bytes old all =
     record { kept-length = refl; at = λ j h. sym (rw (window j (omega arith))); later = λ j h. refl }
   where
@@ -177,7 +178,8 @@ module _ {table : List ℕ} {k : ℕ} {bytes old : List ℕ} (some : 1 ≤ k) wh
         };
       }
 
-  pub blanked-all : {new : List ℕ} {run j : ℕ} → Blanking table k bytes old new run j → length bytes < j + k → Blanked table k bytes old new (length bytes + 1 - k)
+  pub blanked-all : {new : List ℕ} {run j : ℕ} → Blanking table k bytes old new run j → length bytes < j + k
+      → Blanked table k bytes old new (length bytes + 1 - k)
   blanked-all {new} {run} {j} A end = let n : length bytes + 1 - k ≡ j = omega (arith, A .inside) in rw n (A .blanked)
 
 pub blanked-none : (table : List ℕ) (k : ℕ) (bytes old : List ℕ) → length bytes < k → Blanked table k bytes old old (length bytes + 1 - k)

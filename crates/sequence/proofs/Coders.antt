@@ -31,5 +31,6 @@ module _ {c : Coder} {powers : List ℕ} (C : Coding c powers) (two : c .kernel 
         count = C .count ∙ rw (taken .0, taken .1);
       }
 
-  pub two-bit-codes : (ranks : List ℕ) {o new : List ℕ} → Fills (windowCodes 4 Complement (c .k) ranks) o new → Fills (windowCodes (c .s) (mirrorOf (c .mirror)) (c .k) ranks) o new
+  pub two-bit-codes : (ranks : List ℕ) {o new : List ℕ} → Fills (windowCodes 4 Complement (c .k) ranks) o new
+      → Fills (windowCodes (c .s) (mirrorOf (c .mirror)) (c .k) ranks) o new
   two-bit-codes ranks F = rw (taken .0, taken .1) F

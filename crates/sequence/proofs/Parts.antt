@@ -1,7 +1,7 @@
 -- Parts of a list of ranks: their ends, their ranks, their plain rank and their mirror's with a letter more at either end.
 use mathlib.Core.Path.{_≡_, ap, _∙_, subst}
 use mathlib.Core.List.{List, [], _∷_, _++_}
-use Prim.Native.Nat.{ℕ, zero, suc, _+_, _-_, _*_, _/_, _%_, _^_, _<_, _≤_}
+use Prim.Native.Nat.{ℕ, zero, suc, _+_, _*_, _/_, _%_, _^_, _<_, _≤_}
 use native.Mathlib.Omega.{arith}
 use lib.Arith.{digits-div, digits-mod}
 use lib.ListN.{length, getD, take, drop, length-drop}
@@ -88,5 +88,6 @@ module _ (s : ℕ) (m : Mirror) (i n : ℕ) (w : List ℕ) (inside : suc i + n <
 
   pub back-next : plain s (mirror s m (part (suc i) (suc n) w)) ≡ mirrorRank s m (getD w (suc i + n) 0) * s ^ n + plain s (mirror s m (part i (suc n) w)) / s
   back-next =
+      let leaving = mirrorRank-lt s m (getD w i 0) (ranks-at s w i h (omega arith)) in
       back-more s m (suc i) n w inside
-      ∙ rw (back-first s m i n w (omega arith), digits-div (plain s (mirror s m (part (suc i) n w))) (mirrorRank-lt s m (getD w i 0) (ranks-at s w i h (omega arith))))
+      ∙ rw (back-first s m i n w (omega arith), digits-div (plain s (mirror s m (part (suc i) n w))) leaving)

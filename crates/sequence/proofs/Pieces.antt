@@ -32,13 +32,15 @@ module _ (rank : ℕ → Option ℕ) (bytes array R : List ℕ) (is : R ≡ rank
 
 -- ---- the numbers of a batch
 
-module _ (table : List ℕ) (s : ℕ) (m : Mirror) (k : ℕ) (bytes : List ℕ) {o mid : List ℕ} (ranks : List ℕ) (is : ranks ≡ ranksBy (rankByTable table) bytes) (some : 1 ≤ k)
-    (room : length bytes + 1 - k ≤ length o) (F : Fills (windowCodes s m k ranks) o mid) where
-  pub batch-numbers : {new : List ℕ} → Blanked table k bytes mid new (length bytes + 1 - k) → Fills (map (codeBy (rankByTable table) s m k) (windows k bytes)) o new
+module _ (table : List ℕ) (s : ℕ) (m : Mirror) (k : ℕ) (bytes : List ℕ) {o mid : List ℕ} (ranks : List ℕ)
+    (is : ranks ≡ ranksBy (rankByTable table) bytes) (some : 1 ≤ k) (room : length bytes + 1 - k ≤ length o) (F : Fills (windowCodes s m k ranks) o mid) where
+  pub batch-numbers : {new : List ℕ} → Blanked table k bytes mid new (length bytes + 1 - k)
+      → Fills (map (codeBy (rankByTable table) s m k) (windows k bytes)) o new
   batch-numbers B = blanked-codes s m some room (rw is at F) B
 
   -- Where all bytes are letters nothing is to be blanked.
-  pub batch-letters : (all : Bool) → all ≡ allRanked (rankByTable table) bytes → all ≡ true → Fills (map (codeBy (rankByTable table) s m k) (windows k bytes)) o mid
+  pub batch-letters : (all : Bool) → all ≡ allRanked (rankByTable table) bytes → all ≡ true
+      → Fills (map (codeBy (rankByTable table) s m k) (windows k bytes)) o mid
   batch-letters all e h = batch-numbers (blanked-nothing table k bytes mid (sym e ∙ h))
 
 -- ---- batch after batch

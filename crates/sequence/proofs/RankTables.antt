@@ -80,7 +80,8 @@ pub part-bytes : (i n : ℕ) (w : List ℕ) → Bytes w → Bytes (take n (drop 
 part-bytes i n w B = take-bytes n (drop i w) (drop-bytes i w B)
 
 -- Two functions that agree on words of bytes give the windows of bytes the same numbers.
-same-codes : (f g : List ℕ → ℕ) (k : ℕ) → ((word : List ℕ) → Bytes word → f word ≡ g word) → (bytes : List ℕ) → Bytes bytes → map f (windows k bytes) ≡ map g (windows k bytes)
+same-codes : (f g : List ℕ → ℕ) (k : ℕ) → ((word : List ℕ) → Bytes word → f word ≡ g word) → (bytes : List ℕ) → Bytes bytes
+    → map f (windows k bytes) ≡ map g (windows k bytes)
 unfolding windows
 same-codes f g k same [] B = refl
 same-codes f g k same (b ∷ bs) B = go (leb k (suc (length bs))) (same (take k (b ∷ bs)) (take-bytes k (b ∷ bs) B)) (same-codes f g k same bs (tail-bytes B))

@@ -19,14 +19,15 @@ use Rattle.sequence.specs.declared.Filled.the-variants.{Count, Refused}
 use Rattle.sequence.specs.declared.kernels.Kernel.{Kernel}
 use Rattle.sequence.specs.declared.kernels.Coder.{Coder}
 use Rattle.sequence.specs.Windows.{windows}
-use Rattle.sequence.specs.Sequences.{sequenceCodes, sequenceGround, FillsCodes}
+use Rattle.sequence.specs.Sequences.{sequenceGround, FillsCodes}
 use Rattle.settings.specs.RankTables.{rankByTable, RankTable}
 use Rattle.sequence.specs.Needs.{Fills, Powers, Takes, Coding, RanksBelow, codeBy}
 use Rattle.sequence.proofs.Windows.{length-windows}
 use Rattle.sequence.proofs.RankTables.{Bytes, table-below, codes-by-table}
 
 -- A call refused by its first grounds changes nothing, whatever grounds come after.
-refused-leaves : {A : Type 0} (f : Ground) (a : A) (g later : Option Ground) (places old : List ℕ) → refused f ≡ outcome g a → old ≡ overwritten (g orElse later) places old
+refused-leaves : {A : Type 0} (f : Ground) (a : A) (g later : Option Ground) (places old : List ℕ) → refused f ≡ outcome g a
+    → old ≡ overwritten (g orElse later) places old
 refused-leaves f a none later places old e = absurd (let z : _≡_ {A = ℕ} 0 1 = cc in omega arith)
 refused-leaves f a (some g) later places old e = refl
 
@@ -38,7 +39,7 @@ module _ (letters : List ℕ) (k m : ℕ) (sequence old : List ℕ) where
   settings-refused f e =
       record {
         answers = refused-on (groundOf f) (settingsOf letters k m) (length (windows k sequence)) (settingsGround letters k m) _ e;
-        leaves = refused-leaves (groundOf f) (settingsOf letters k m) (settingsGround letters k m) _ (sequenceCodes letters k m sequence) old e;
+        leaves = refused-leaves (groundOf f) (settingsOf letters k m) (settingsGround letters k m) _ _ old e;
       }
 
   module _ (good : settingsGround letters k m ≡ none) where

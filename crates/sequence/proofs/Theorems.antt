@@ -4,14 +4,14 @@ use mathlib.Core.Path.{_≡_, refl, sym, ap, _∙_}
 use mathlib.Core.Bool.{Bool, true, false, cond}
 use mathlib.Core.List.{List, [], _∷_, _++_, map}
 use mathlib.Core.Logic.{_↔_}
-use mathlib.Core.Option.{Option, none, some}
+use mathlib.Core.Option.{none}
 use Prim.Native.Nat.{ℕ, suc, _+_, _-_, _<_, _≤_}
 use native.Mathlib.Omega.{arith}
 use lib.ListN.{length, getD, take, drop, length-map}
 use Rattle.laws.specs.Text.{bytes}
 use Rattle.settings.specs.Settings.{mirrorOf, rankIn, settingsGround}
 use Rattle.settings.proofs.SettingsGrounds.{limits}
-use Rattle.encoding.specs.Words.{Mirror, Ranks}
+use Rattle.encoding.specs.Words.{Mirror}
 use Rattle.encoding.specs.Codes.{code}
 use Rattle.encoding.specs.Calls.{rankOrZero, ranksOf}
 use Rattle.encoding.proofs.ClassNumbers.{classes-le}
@@ -69,7 +69,9 @@ pieces k some-k a run h = batch k some-k a run h
 
 pub pieces-codes : (s : ℕ) (m : Mirror) (k : ℕ) → 1 ≤ k → (a : ℕ) (run : List ℕ) → a + k ≤ suc (length run)
     → windowCodes s m k run ≡ windowCodes s m k (take (a + k - 1) run) ++ windowCodes s m k (drop a run)
-pieces-codes s m k some-k a run h = ap (map (code s m k)) (batch k some-k a run h) ∙ map-append (code s m k) (windows k (take (a + k - 1) run)) (windows k (drop a run))
+pieces-codes s m k some-k a run h =
+    ap (map (code s m k)) (batch k some-k a run h)
+    ∙ map-append (code s m k) (windows k (take (a + k - 1) run)) (windows k (drop a run))
 
 -- ---- the two paths agree
 

@@ -155,19 +155,27 @@ total s A B C X R x top E e f g =
 -- p equal pairs, a pair that differs, and n letters within.
 pair-value : (n p k e a b : ℕ) → k ≡ n + 2 * suc p → e ≡ palindromes 4 Complement k
     → byRanks 4 Complement k p a b
-    ≡ (4 ^ suc (p + n) + e) / 2 + pairRank 4 (a / 4 ^ suc (p + n) % 4) (b / 4 ^ suc (p + n) % 4) * 4 ^ (p + n) + a / 4 / 4 ^ p % 4 ^ n * 4 ^ p + (4 ^ p - 1 - a % 4 ^ p)
+    ≡ (4 ^ suc (p + n) + e) / 2 + pairRank 4 (a / 4 ^ suc (p + n) % 4) (b / 4 ^ suc (p + n) % 4) * 4 ^ (p + n)
+    + a / 4 / 4 ^ p % 4 ^ n * 4 ^ p
+    + (4 ^ p - 1 - a % 4 ^ p)
 unfolding byRanks within closing window
 pair-value n p k e a b ek ee =
     let i₁ : k - 2 * p ≡ suc (suc n) = omega arith in
     let i₂ : k - p - 1 ≡ suc (p + n) = omega arith in
     let i₃ : p + 1 ≡ suc p = omega arith in
     let one : 4 ^ 1 ≡ 4 = refl in
-    let E : e ≡ 4 ^ p * 4 * palindromes 4 Complement n = ee ∙ ap (palindromes 4 Complement) ek ∙ palindromes-up 4 Complement n (suc p) ∙ ap (λ (x : ℕ). x * palindromes 4 Complement n) (pow-suc 4 p) in
+    let E : e ≡ 4 ^ p * 4 * palindromes 4 Complement n
+    = ee
+    ∙ ap (palindromes 4 Complement) ek
+    ∙ palindromes-up 4 Complement n (suc p)
+    ∙ ap (λ (x : ℕ). x * palindromes 4 Complement n) (pow-suc 4 p) in
     let top : 4 ^ suc (p + n) ≡ 4 ^ p * 4 ^ n * 4 = pow-suc 4 (p + n) ∙ ap (λ (x : ℕ). x * 4) (pow-add 4 p n) in
     let low : a / 4 ^ suc p ≡ a / 4 / 4 ^ p = rw (pow-succ' 4 p) (sym (div-div-eq-div-mul a 4 (4 ^ p))) in
     rw (i₁, i₂, i₃, one)
     (ap (λ (x : ℕ). x + (4 ^ p - 1 - a % 4 ^ p))
-    (total 4 (4 ^ p) (4 ^ n) (classes 4 Complement n) (palindromes 4 Complement n) (pairRank 4 (a / 4 ^ suc (p + n) % 4) (b / 4 ^ suc (p + n) % 4)) (a / 4 ^ suc p % 4 ^ n) (4 ^ suc (p + n)) e (twice-classes 4 Complement n four-even) top E
+    (total 4 (4 ^ p) (4 ^ n) (classes 4 Complement n) (palindromes 4 Complement n)
+    (pairRank 4 (a / 4 ^ suc (p + n) % 4) (b / 4 ^ suc (p + n) % 4)) (a / 4 ^ suc p % 4 ^ n) (4 ^ suc (p + n)) e
+    (twice-classes 4 Complement n four-even) top E
     ∙ rw (pow-add 4 p n, low) (omega arith)))
 
 middle-value : (p k a b : ℕ) → k ≡ 2 * p + 1 → byRanks 4 Complement k p a b ≡ (1 - a / 4 ^ p % 4) * 4 ^ p + (4 ^ p - 1 - a % 4 ^ p)
@@ -225,7 +233,9 @@ module _ {k e : ℕ} {d : List ℕ} {j x y : ℕ} (W : TwoBitWindow k e d j x y)
       pub pair-lt : a / 4 ^ (q - 1) % 4 < b / 4 ^ (q - 1) % 4
       pair-lt =
           let s : q ≡ suc (q - 1) = omega arith in
-          let f : (n : ℕ) → n / 4 ^ (q - 1) / 4 ≡ n / 4 ^ q = λ n. div-div-eq-div-mul n (4 ^ (q - 1)) 4 ∙ ap (λ (z : ℕ). n / z) (sym (pow-suc 4 (q - 1)) ∙ ap (λ (z : ℕ). 4 ^ z) (sym s)) in
+          let power : 4 ^ (q - 1) * 4 ≡ 4 ^ q = sym (pow-suc 4 (q - 1)) ∙ ap (λ (z : ℕ). 4 ^ z) (sym s) in
+          let f : (n : ℕ) → n / 4 ^ (q - 1) / 4 ≡ n / 4 ^ q
+          = λ n. div-div-eq-div-mul n (4 ^ (q - 1)) 4 ∙ ap (λ (z : ℕ). n / z) power in
           let le : a / 4 ^ (q - 1) ≤ b / 4 ^ (q - 1) = div-mono a b (4 ^ (q - 1)) (four-pos (q - 1)) (omega (arith, O .lower, O .higher)) in
           let ne : a / 4 ^ (q - 1) ≢ b / 4 ^ (q - 1) = O .differ .other (omega arith) in
           digit-lt (a / 4 ^ (q - 1)) (b / 4 ^ (q - 1)) (f a ∙ O .differ .same ∙ sym (f b)) (strict (a / 4 ^ (q - 1)) (b / 4 ^ (q - 1)) le ne)
@@ -258,7 +268,9 @@ module _ {k e : ℕ} {d : List ℕ} {j x y : ℕ} (W : TwoBitWindow k e d j x y)
       same-above : (i : ℕ) → q ≤ i → a / 4 ^ i ≡ b / 4 ^ i
       same-above i h =
           let s : i ≡ q + (i - q) = omega arith in
-          let f : (n : ℕ) → n / 4 ^ q / 4 ^ (i - q) ≡ n / 4 ^ i = λ n. div-div-eq-div-mul n (4 ^ q) (4 ^ (i - q)) ∙ ap (λ (z : ℕ). n / z) (sym (ap (λ (z : ℕ). 4 ^ z) s ∙ pow-add 4 q (i - q))) in
+          let power : 4 ^ q * 4 ^ (i - q) ≡ 4 ^ i = sym (ap (λ (z : ℕ). 4 ^ z) s ∙ pow-add 4 q (i - q)) in
+          let f : (n : ℕ) → n / 4 ^ q / 4 ^ (i - q) ≡ n / 4 ^ i
+          = λ n. div-div-eq-div-mul n (4 ^ q) (4 ^ (i - q)) ∙ ap (λ (z : ℕ). n / z) power in
           sym (f a) ∙ ap (λ (z : ℕ). z / 4 ^ (i - q)) (O .differ .same) ∙ f b
 
       short-agree : Agree 4 k a b (k / 2)

@@ -103,7 +103,8 @@ module _ (s : ℕ) (m : Mirror) (hs : 1 < s) (he : EvenUnder s m) (d : List ℕ)
       let k1 : suc (suc n) - 1 ≡ suc n = omega arith in
       let k2 : suc (suc n) - 2 ≡ n = omega arith in
       rw (k1, k2)
-      (elim (decLe (suc (getD d j 0)) (mirrorRank s m (getD d i 0))) as (λ _. (s ^ suc n + e) / 2 + R * s ^ n + w ≡ code s m (suc (suc n)) (part j (suc (suc n)) d)) [
+      (elim (decLe (suc (getD d j 0)) (mirrorRank s m (getD d i 0))) as (λ _.
+      (s ^ suc n + e) / 2 + R * s ^ n + w ≡ code s m (suc (suc n)) (part j (suc (suc n)) d)) [
         | yes p ↦
             let a : min (getD d j 0) (mirrorRank s m (getD d i 0)) ≡ getD d j 0 = omega arith in
             let b : max (getD d j 0) (mirrorRank s m (getD d i 0)) ≡ mirrorRank s m (getD d i 0) = omega arith in
@@ -141,7 +142,8 @@ module _ (s : ℕ) (m : Mirror) (hs : 1 < s) (he : EvenUnder s m) (d : List ℕ)
       ((rw k2 at e) ∙ forward-ends s m hs he d hd (suc j) (k - 4) at))
 
   pub back-is : (k v i : ℕ) → 4 ≤ k → j + k ≤ length d → i ≡ j + k - 2 → v ≡ plain s (mirror s m (part (suc j) (k - 2) d))
-      → (mirrorRank s m (getD d i 0) * s ^ (k - 3) ≤ v) × ((v - mirrorRank s m (getD d i 0) * s ^ (k - 3)) / s ≡ plain s (mirror s m (part (suc (suc j)) (k - 2 - 2) d)))
+      → (mirrorRank s m (getD d i 0) * s ^ (k - 3) ≤ v)
+      × ((v - mirrorRank s m (getD d i 0) * s ^ (k - 3)) / s ≡ plain s (mirror s m (part (suc (suc j)) (k - 2 - 2) d)))
   back-is k v i h inside i-at e =
       let k2 : k - 2 ≡ suc (suc (k - 4)) = omega arith in
       let k3 : k - 3 ≡ suc (k - 4) = omega arith in
@@ -149,7 +151,8 @@ module _ (s : ℕ) (m : Mirror) (hs : 1 < s) (he : EvenUnder s m) (d : List ℕ)
       let at : suc j + suc (suc (k - 4)) ≤ length d = omega arith in
       let i-is : i ≡ suc j + suc (k - 4) = omega arith in
       rw (k4, k3, i-is)
-      (peeled s (mirrorRank s m (getD d (suc j + suc (k - 4)) 0)) (s ^ suc (k - 4)) (plain s (mirror s m (part (suc (suc j)) (k - 4) d))) (mirrorRank s m (getD d (suc j) 0)) v
+      (peeled s (mirrorRank s m (getD d (suc j + suc (k - 4)) 0)) (s ^ suc (k - 4)) (plain s (mirror s m (part (suc (suc j)) (k - 4) d)))
+      (mirrorRank s m (getD d (suc j) 0)) v
       (mirrorRank-lt s m (getD d (suc j) 0) (ranks-at s d (suc j) hd (omega arith)))
       ((rw k2 at e) ∙ back-ends s m hs he d hd (suc j) (k - 4) at))
 

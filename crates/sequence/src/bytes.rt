@@ -5,7 +5,7 @@ ghost use Prim.Native.Nat.{_+_, _-_, _<_, _≤_};
 ghost use lib.ListN.{length, getD};
 ghost use Rattle.encoding.specs.Calls.{rankOrZero};
 ghost use Rattle.sequence.specs.Sequences.{isRank};
-ghost use Rattle.settings.specs.RankTables.{asRank, rankByTable, RankTable};
+ghost use Rattle.settings.specs.RankTables.{asRank, rankByTable};
 ghost use Rattle.sequence.specs.Needs.{ranksBy, allRanked, Run, Blanked};
 
 fn table_at(table: &[u8; 256], b: u8) -> u8

@@ -3,8 +3,8 @@
 // between them or that of their mirror, and only outer pairs that are equal are scanned. Divisors are constants.
 use super::pairs::higher;
 use super::pairs::lower;
-use super::pairs::pair_rank;
 use super::pairs::rank_at;
+use encoding::pair_ranks::pair_rank;
 ghost use mathlib.Core.Path.{_≡_};
 ghost use mathlib.Core.Logic.{_≢_};
 ghost use mathlib.Core.List.{[], _∷_};

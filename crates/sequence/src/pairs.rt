@@ -1,8 +1,7 @@
-// What both kernels share: ranks of a list, the lower and the higher of two numbers, the rank of a pair.
+// What both kernels share: ranks of a list, the lower and the higher of two numbers.
 ghost use mathlib.Core.Path.{_≡_};
-ghost use Prim.Native.Nat.{_<_, _≤_, min, max};
+ghost use Prim.Native.Nat.{_<_, min, max};
 ghost use lib.ListN.{length, getD};
-ghost use Rattle.encoding.specs.Codes.{pairRank};
 
 pub fn lower(a: u64, b: u64) -> u64
     ensures { λ r. ⌜ r ≡ min a b ⌝ }
@@ -21,14 +20,4 @@ pub fn rank_at(d: &[u8], i: usize) -> u64
     ensures { λ r. ⌜ r ≡ getD (now (d .entry)) i 0 ⌝ }
 {
     d[i] as u64
-}
-
-// R of a pair l < r.
-pub fn pair_rank(s: u64, l: u64, r: u64) -> u64
-    requires { ⌜ l < r ⌝ }
-    requires { ⌜ r < s ⌝ }
-    requires { ⌜ s ≤ 16 ⌝ }
-    ensures { λ q. ⌜ q ≡ pairRank s l r ⌝ }
-{
-    l * (2 * s - 3 - l) / 2 + r - 1
 }

@@ -2,8 +2,8 @@
 // count of leading zeros finds the pair that differs (source document 002, section 5.2).
 use super::pairs::higher;
 use super::pairs::lower;
-use super::pairs::pair_rank;
 use super::pairs::rank_at;
+use encoding::pair_ranks::pair_rank;
 ghost use mathlib.Core.Path.{_≡_};
 ghost use Prim.Native.Nat.{_+_, _-_, _*_, _/_, _%_, _^_, _<_, _≤_};
 ghost use lib.ListN.{length};

@@ -1,9 +1,9 @@
 -- The proof of the cycle of calls {digits_value}. The measure is the length of the word.
-use mathlib.Core.Path.{_∙_, subst, sym}
+use mathlib.Core.Path.{_∙_, subst}
 use Prim.Native.Nat.{_-_, ℕ, _<_}
 use native.Mathlib.Omega.{arith}
 use lib.ListN.{length, take, drop}
-use Rattle.encoding.proofs.DigitValues.{digits-none, last-lt, digits-one, shorter, inner-canonical, value-equal, value-small, value-differ, differs}
+use Rattle.encoding.proofs.DigitValues.{digits-none, last-lt, digits-one, shorter, inner-canonical, value-equal, value-small, fit-differing, differing-answer}
 use borrow.Fn.Kinds.{In}
 use borrow.Fn.PlainCycle.{Measures, is, falls, and}
 use Rattle.encoding.proofs.to_code.digits_value.Reads as digits-value
@@ -134,9 +134,8 @@ digits-value-differing-value-requires t c κs =
     let if1 = if2 .before .before .before in
     let start = if1 .before .before in
     let a = start .args in
-    let last = if2 .before .mirror-rank .ensures in
-    rw (if2 .before .mirror-rank .ensures)
-    (differs (a .s) (a .m) (a .w .now) (start .pre .1) (if1 .if1 .left) (if2 .if2 .left) (λ e. c .if3 .left (e ∙ sym last)))
+    let last = if2 .before .mirror-rank in
+    fit-differing (a .s) (a .m) (a .w .now) (start .pre .1) (if1 .if1 .left) (if2 .if2 .left) (last .result) (last .ensures) (c .if3 .left)
 
 digits-value-returns-4 : (t : ℕ) → digits-value-lts.Need-returns-4 (claims t) (digits-value-at t) digits-value.Post
 digits-value-returns-4 t c =
@@ -145,10 +144,9 @@ digits-value-returns-4 t c =
     let if1 = if2 .before .before .before in
     let start = if1 .before .before in
     let a = start .args in
-    let last = if2 .before .mirror-rank .ensures in
-    c .differing-value .ensures
-    ∙ rw (if2 .before .mirror-rank .ensures)
-    (value-differ (a .s) (a .m) (a .w .now) (start .pre .1) (if1 .if1 .left) (if2 .if2 .left) (λ e. if3 .if3 .left (e ∙ sym last)))
+    let last = if2 .before .mirror-rank in
+    differing-answer (a .s) (a .m) (a .w .now) (start .pre .1) (if1 .if1 .left) (if2 .if2 .left) (last .result) (last .ensures) (if3 .if3 .left) _
+    (c .differing-value .ensures)
 
 pub +digits-value-spec : {M : Type 1} → statement M
 +digits-value-spec = close μ-digits-value λ t. digits-value-lts.spec (claims t)

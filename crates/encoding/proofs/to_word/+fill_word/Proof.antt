@@ -1,5 +1,5 @@
 -- The proof of the cycle of calls {fill_word}. The measure is the length of the word.
-use mathlib.Core.Path.{_≡_, subst, ap, _∙_}
+use mathlib.Core.Path.{_≡_, subst, ap}
 use mathlib.Core.List.{List}
 use Prim.Native.Nat.{_-_, ℕ, _<_, _≤_, _*_}
 use native.Mathlib.Nat.{mod-lt}
@@ -8,8 +8,7 @@ use borrow.Author.Needs.{needs}
 use lib.ListN.{length, length-set}
 use Rattle.settings.specs.Settings.{classes}
 use Rattle.encoding.specs.Words.{Mirror}
-use Rattle.encoding.specs.WordsOfCodes.{wordOf}
-use Rattle.encoding.proofs.ReadSteps.{none-word, one-word, inner-small, low-small, part-length, inner-fine, inner-lt, upper, low-word, upper-is}
+use Rattle.encoding.proofs.ReadSteps.{none-word, one-word, inner-small, low-small, part-length, inner-fine, inner-lt, upper, low-word, upper-word}
 use borrow.Fn.Kinds.{In}
 use borrow.Fn.PlainCycle.{Measures, is, falls, and}
 use Rattle.encoding.proofs.to_word.fill_word.Reads as fill-word
@@ -175,9 +174,8 @@ fill-word-returns-4 t c =
     let w = start .args .out .now in
     let two : 2 ≤ length w = omega arith in
     let if3 = c .before .before .before .before in
-    let code = upper-is s (start .args .m) w two (start .pre .1 .0) (start .args .q) (start .pre .1 .1) _ (if3 .before .class-count .ensures)
-    (if3 .if3 .left) in
-    c .before .before .fill-differing .ensures ∙ ap (λ (x : ℕ). wordOf s (start .args .m) (length w) x) code
+    upper-word s (start .args .m) w two (start .pre .1 .0) (start .args .q) (start .pre .1 .1) _ (if3 .before .class-count .ensures)
+    (if3 .if3 .left) _ (c .before .before .fill-differing .ensures)
 
 pub +fill-word-spec : {M : Type 1} → statement M
 +fill-word-spec = close μ-fill-word λ t. fill-word-lts.spec (claims t)

@@ -40,7 +40,7 @@ pair-rank-requires c κs =
     let start = c .before .before .before .before .before .before in
     let p = start .pre in
     let lt = outer-lt (p .0) (p .1 .0) in
-    (omega (arith, p .1 .1), (omega (arith, lt .0, lt .1), p .0 .input .limits .few))
+    (omega (arith, p .1 .1), omega (arith, lt .0, lt .1), p .0 .input .limits .few)
 
 add-result : tie.Need-add-result
 add-result c = omega (arith, returns c, code-fits (c .before .before .before .before .before .before .before .before .pre .0))

@@ -29,10 +29,13 @@ mirror-rank-at-requires : tie.Need-mirror-rank-at-requires Inv-loop μ-loop
 mirror-rank-at-requires c κs = (omega (arith, c .before .before .loop .inv .window .inside), c .before .before .loop .inv .window .input .ranks)
 
 differing-code-requires : tie.Need-differing-code-requires Inv-loop μ-loop
-differing-code-requires c κs = (
-  c .before .before .before .before .loop .inv .window,
-  (record { two = c .before .before .before .loop-test .taken; first = c .before .before .rank-at .ensures; last = c .before .mirror-rank-at .ensures }, c .if1 .taken),
-)
+differing-code-requires c κs =
+    let last = c .before in
+    let first = last .before in
+    let test = first .before in (
+      test .before .loop .inv .window,
+      (record { two = test .loop-test .taken; first = first .rank-at .ensures; last = last .mirror-rank-at .ensures }, c .if1 .taken),
+    )
 
 mul-result : tie.Need-mul-result Inv-loop μ-loop
 mul-result c = let S = c .before .before .before .before .before .loop .inv in omega (arith, scan-done S _ (c .differing-code .ensures), S .fits)
@@ -79,8 +82,12 @@ loop-less c = omega arith
 
 loop-again : tie.Need-loop-again Inv-loop μ-loop
 loop-again c =
-    scan-within (c .before .before .before .before .before .loop .inv)
-    (record { two = c .before .before .before .before .loop-test .taken; first = c .before .before .before .rank-at .ensures; last = c .before .before .mirror-rank-at .ensures }) (c .before .if1 .left) (c .inner-window .ensures)
+    let last = c .before .before in
+    let first = last .before in
+    let test = first .before in
+    scan-within (test .before .loop .inv)
+    (record { two = test .loop-test .taken; first = first .rank-at .ensures; last = last .mirror-rank-at .ensures }) (c .before .if1 .left)
+    (c .inner-window .ensures)
 
 rank-at-requires-2 : tie.Need-rank-at-requires-2 Inv-loop μ-loop
 rank-at-requires-2 c κs = omega (arith, c .before .before .loop .inv .window .inside)

@@ -37,7 +37,7 @@ pair-rank-requires : tie.Need-pair-rank-requires
 pair-rank-requires c κs =
     let start = c .before .before .before in
     let p = start .pre in
-    (rw (c .before .without-low .ensures, c .without-low2 .ensures) (pair-lt (p .0) (p .1 .0) (p .1 .1)), (omega arith, omega arith))
+    (rw (c .before .without-low .ensures, c .without-low2 .ensures) (pair-lt (p .0) (p .1 .0) (p .1 .1)), omega arith, omega arith)
 
 sub-power-of-four : tie.Need-sub-power-of-four
 sub-power-of-four c = search needs

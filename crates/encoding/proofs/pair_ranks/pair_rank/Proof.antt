@@ -1,11 +1,11 @@
--- `encoding::to_code::pair_rank` meets its contract.
+-- `encoding::pair_ranks::pair_rank` meets its contract. The product is at most 16 * 32, so that nothing wraps.
 use mathlib.Core.Path.{refl}
 use native.Mathlib.Omega.{arith}
 use borrow.Author.Needs.{needs}
 use Rattle.encoding.specs.Codes.{pairRank}
 use Rattle.encoding.proofs.DigitValues.{pair-small}
-use Rattle.encoding.proofs.to_code.pair_rank.Statement.{statement}
-use Rattle.encoding.proofs.to_code.pair_rank.Tie as tie
+use Rattle.encoding.proofs.pair_ranks.pair_rank.Statement.{statement}
+use Rattle.encoding.proofs.pair_ranks.pair_rank.Tie as tie
 
 mul-result : tie.Need-mul-result
 mul-result c = search needs
