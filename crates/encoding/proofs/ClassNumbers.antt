@@ -111,6 +111,23 @@ oddShift-suc s m n h =
       pow-suc s (halfUp n),
     )
 
+-- The shift where the outer pair differs.
+pub shift-first : (s : ℕ) (m : Mirror) (n : ℕ) → 1 < s → EvenUnder s m → s ^ suc n ≡ s * classes s m n + shift s (suc (suc n)) 1 + oddShift s m (suc (suc n))
+unfolding shift
+shift-first s m n h g =
+    let e₁ : suc (suc n) - 1 ≡ suc n = omega arith in
+    let (d, f) = gap s n (halfUp n) h (halfUp-le n) in
+    omega (
+      arith,
+      ap (λ (x : ℕ). s ^ x) e₁,
+      ap (λ (x : ℕ). s ^ x) (halfUp-suc n),
+      twice-classes s m n g,
+      ap (λ (x : ℕ). s * x) (twice-classes s m n g),
+      odd-palindromes s m (suc (suc n)) g,
+      palindromes-suc s m n,
+      pow-suc s n,
+    )
+
 half-scaled : (s a b d : ℕ) → a ≡ b + 2 * d → (a * s - b * s) / 2 ≡ s * ((a - b) / 2)
 half-scaled s a b d e =
     let f : (a - b) / 2 ≡ d = omega arith in
@@ -130,23 +147,6 @@ shift-suc s n i h g =
     rw (halfUp-suc n)
     (shift-exponents s (n - suc (suc i)) (halfUp n - 1) (suc (suc n) - suc (suc i)) (n - suc i) (halfUp n) h
     (omega (arith, halfUp-twice n)) (omega arith) (omega arith) (omega (arith, halfUp-twice n)))
-
--- The shift where the outer pair differs.
-pub shift-first : (s : ℕ) (m : Mirror) (n : ℕ) → 1 < s → EvenUnder s m → s ^ suc n ≡ s * classes s m n + shift s (suc (suc n)) 1 + oddShift s m (suc (suc n))
-unfolding shift
-shift-first s m n h g =
-    let e₁ : suc (suc n) - 1 ≡ suc n = omega arith in
-    let (d, f) = gap s n (halfUp n) h (halfUp-le n) in
-    rw (e₁, halfUp-suc n)
-    (omega (
-      arith,
-      ap (λ (x : ℕ). s ^ x) (halfUp-suc n),
-      twice-classes s m n g,
-      ap (λ (x : ℕ). s * x) (twice-classes s m n g),
-      odd-palindromes s m (suc (suc n)) g,
-      palindromes-suc s m n,
-      pow-suc s n,
-    ))
 
 -- The number of classes is at most s^k.
 pub palindromes-le : (s : ℕ) (m : Mirror) (n : ℕ) → 1 < s → palindromes s m n ≤ s ^ n

@@ -1,5 +1,3 @@
--- First what the definitions compute: a wrong one is refused at a case of the document, before any law of it.
-pub mod Cases
 -- The theory of the encoding, from the plainest laws up to the theorems that docs/CLAIMS.md cites.
 pub mod Ends
 pub mod ClassNumbers
@@ -14,6 +12,7 @@ pub mod Bounds
 pub mod ByRanks
 pub mod EqualPairs
 pub mod Palindromes
+pub mod Cases
 pub mod Theorems
 -- Then what the functions' proofs cite: words a place at a time, and what each call answers at each of its tests.
 pub mod WordParts

@@ -32,6 +32,7 @@ pub fn fill_mirror(w: &[u64], s: u64, m: Mirror, out: &mut [u64])
     }
 }
 
+// The plain rank of a word: its ranks read as digits in base s.
 pub fn plain_rank(w: &[u64], s: u64) -> PlainRank
     requires { ⌜ FitWord s (now w) ⌝ }
     ensures { λ r. ⌜ r .0 ≡ plain s (now (w .entry)) ⌝ }

@@ -93,6 +93,7 @@ fn odd_shift(s: u64, m: Mirror, k: usize) -> u64
     }
 }
 
+// The code of a canonical word: the value of its digits, less the shifts.
 fn canonical_code(w: &[u64], s: u64, m: Mirror) -> Code
     requires { ⌜ FitCanonical s m (now w) ⌝ }
     ensures { λ r. ⌜ r .0 ≡ codeOfCanonical s m (length (now (w .entry))) (now (w .entry)) ⌝ }

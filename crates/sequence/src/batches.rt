@@ -13,6 +13,7 @@ ghost use Rattle.sequence.specs.Windows.{windows};
 ghost use Rattle.settings.specs.RankTables.{rankByTable};
 ghost use Rattle.sequence.specs.Needs.{Fills, Coding, RanksBelow, codeBy};
 
+// Room for the ranks of a batch.
 fn no_ranks() -> [u8; 4096]
     ensures { λ r. ⌜ length r ≡ 4096 ⌝ }
 {

@@ -8,6 +8,7 @@ ghost use Rattle.sequence.specs.Sequences.{isRank};
 ghost use Rattle.settings.specs.RankTables.{asRank, rankByTable};
 ghost use Rattle.sequence.specs.Needs.{ranksBy, allRanked, Run, Blanked};
 
+// What the table has for a byte: its rank, or 255.
 fn table_at(table: &[u8; 256], b: u8) -> u8
     ensures { λ r. ⌜ r ≡ getD (now (table .entry)) b 0 ⌝ }
 {
@@ -58,6 +59,7 @@ fn next_run(bytes: &[u8], table: &[u8; 256], i: usize, run: usize) -> usize
     if r == 255 { 0 } else { run + 1 }
 }
 
+// How many letters stand in a row at the end of the first n bytes.
 fn first_run(bytes: &[u8], table: &[u8; 256], n: usize) -> usize
     requires { ⌜ n ≤ length (now bytes) ⌝ }
     ensures { λ r. ⌜ Run (now (table .entry)) (now (bytes .entry)) n r ⌝ }

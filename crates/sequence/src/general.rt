@@ -98,6 +98,7 @@ fn power_at(powers: &[u64; 64], s: u64, k: usize, i: usize) -> u64
     powers[i]
 }
 
+// The rank at place i, as the mirror shows it.
 fn mirror_rank_at(d: &[u8], i: usize, s: u64, mirror: u64) -> u64
     requires { ⌜ i < length (now d) ⌝ }
     requires { ⌜ Ranks s (now d) ⌝ }
@@ -231,6 +232,7 @@ fn inner_length(k: usize) -> usize
     if k < 2 { 0 } else { k - 2 }
 }
 
+// What is kept of the window at 0, letter by letter; e is the number of palindromes.
 fn first_window(d: &[u8], k: usize, s: u64, mirror: u64, powers: &[u64; 64], e: u64) -> Inner
     requires { ⌜ Input s mirror k (now powers) (now d) ⌝ }
     requires { ⌜ k ≤ length (now d) ⌝ }

@@ -24,6 +24,7 @@ pub struct Coder {
     pub palindromes: u64,
 }
 
+// Writes the powers of s up to s^k.
 fn fill_powers(table: &mut [u64], s: u64, k: usize)
     requires { ⌜ length (now table) ≡ 64 ⌝ }
     requires { ⌜ 1 < s ⌝ }

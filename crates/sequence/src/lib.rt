@@ -27,6 +27,7 @@ pub enum Filled {
     Refused(Refusal),
 }
 
+// How many windows of k bytes a sequence of n bytes has.
 fn window_count(n: usize, k: usize) -> usize
     requires { ⌜ n ≤ 16777216 ⌝ }
     ensures { λ r. ⌜ r ≡ n + 1 - k ⌝ }
@@ -69,6 +70,7 @@ fn fill_checked(
     Filled::Count(needed)
 }
 
+// Both paths, under settings as they are.
 fn fill_list(
     letters: &[u8],
     k: usize,

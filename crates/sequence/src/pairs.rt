@@ -3,18 +3,21 @@ ghost use mathlib.Core.Path.{_≡_};
 ghost use Prim.Native.Nat.{_<_, min, max};
 ghost use lib.ListN.{length, getD};
 
+// The lower of two numbers.
 pub fn lower(a: u64, b: u64) -> u64
     ensures { λ r. ⌜ r ≡ min a b ⌝ }
 {
     if a < b { a } else { b }
 }
 
+// The higher of two numbers.
 pub fn higher(a: u64, b: u64) -> u64
     ensures { λ r. ⌜ r ≡ max a b ⌝ }
 {
     if a < b { b } else { a }
 }
 
+// The rank at place i.
 pub fn rank_at(d: &[u8], i: usize) -> u64
     requires { ⌜ i < length (now d) ⌝ }
     ensures { λ r. ⌜ r ≡ getD (now (d .entry)) i 0 ⌝ }

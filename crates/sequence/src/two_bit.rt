@@ -18,6 +18,7 @@ pub struct Strands {
     pub back: u64,
 }
 
+// 4^i, a bit in the place of the letter i.
 fn power_of_four(i: u64) -> u64
     requires { ⌜ i < 32 ⌝ }
     ensures { λ r. ⌜ r ≡ 4 ^ i ⌝ }
@@ -116,6 +117,7 @@ fn window_code(d: &[u8], j: usize, k: u64, e: u64, x: u64, y: u64) -> u64
     middle_code(d, j, k, e, x, y, a, b, q)
 }
 
+// The plain rank of the window at 0 and its mirror's, letter by letter.
 fn first_strands(d: &[u8], k: u64, e: u64) -> Strands
     requires { ⌜ TwoBitInput k e (now d) ⌝ }
     requires { ⌜ k ≤ length (now d) ⌝ }

@@ -92,18 +92,6 @@ digits-value-digits-value-requires t c κs =
     let inner = inner-canonical (a .s) (a .m) w can (if1 .if1 .left) (if2 .if2 .left) e in
     (subst (λ (j : ℕ). length (take (length w - 1 - 1) (drop 1 w)) < j) (start .pre .0) fewer, inner)
 
-digits-value-mul-result : (t : ℕ) → digits-value-lts.Need-mul-result (claims t) (digits-value-at t) digits-value.Post
-digits-value-mul-result t c =
-    let if3 = c .before .before in
-    let if2 = if3 .before .before in
-    let if1 = if2 .before .before .before in
-    let start = if1 .before .before in
-    let a = start .args in
-    let e = if3 .if3 .taken ∙ if2 .before .mirror-rank .ensures in
-    let can = start .pre .1 in
-    let value = value-equal (a .s) (a .m) (a .w .now) can (if1 .if1 .left) (if2 .if2 .left) e _ (c .digits-value .ensures) in
-    omega (arith, value, value-small (a .s) (a .m) (a .w .now) can (if1 .if1 .left) (if2 .if2 .left))
-
 digits-value-add-result : (t : ℕ) → digits-value-lts.Need-add-result (claims t) (digits-value-at t) digits-value.Post
 digits-value-add-result t c =
     let if3 = c .before .before in
@@ -116,6 +104,9 @@ digits-value-add-result t c =
     let value = value-equal (a .s) (a .m) (a .w .now) can (if1 .if1 .left) (if2 .if2 .left) e _ (c .digits-value .ensures) in
     let small = value-small (a .s) (a .m) (a .w .now) can (if1 .if1 .left) (if2 .if2 .left) in
     omega (arith, if2 .before .mirror-rank .ensures, value, small)
+
+digits-value-mul-result : (t : ℕ) → digits-value-lts.Need-mul-result (claims t) (digits-value-at t) digits-value.Post
+digits-value-mul-result t c = omega (arith, digits-value-add-result t c)
 
 digits-value-returns-3 : (t : ℕ) → digits-value-lts.Need-returns-3 (claims t) (digits-value-at t) digits-value.Post
 digits-value-returns-3 t c =

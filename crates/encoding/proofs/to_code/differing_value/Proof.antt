@@ -30,14 +30,6 @@ add-high c =
     let lt = rank-lt (a .s) (a .l) (a .r) R (pre .less) (pre .rank) (c .pair-rank .ensures) in
     omega (arith, first-small (a .s) R (pre .word .two) (pre .few) lt, high-small (a .s) R (pre .word .two) (pre .few) lt)
 
-mul-high : tie.Need-mul-high
-mul-high c =
-    let a = c .before .before .args in
-    let pre = c .before .before .pre in
-    let R = c .pair-rank .result in
-    let lt = rank-lt (a .s) (a .l) (a .r) R (pre .less) (pre .rank) (c .pair-rank .ensures) in
-    omega (arith, high-is (a .s) R (pre .word .two) (pre .few) lt, high-small (a .s) R (pre .word .two) (pre .few) lt)
-
 rem-high : tie.Need-rem-high
 rem-high c = search needs
 
@@ -48,6 +40,9 @@ add-high-2 c =
     let R = c .pair-rank .result in
     let lt = rank-lt (a .s) (a .l) (a .r) R (pre .less) (pre .rank) (c .pair-rank .ensures) in
     omega (arith, high-is (a .s) R (pre .word .two) (pre .few) lt, high-small (a .s) R (pre .word .two) (pre .few) lt)
+
+mul-high : tie.Need-mul-high
+mul-high c = omega (arith, add-high-2 c)
 
 sub-plain-rank : tie.Need-sub-plain-rank
 sub-plain-rank c = search needs

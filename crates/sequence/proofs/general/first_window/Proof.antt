@@ -25,16 +25,6 @@ add-rank-at c = omega arith
 rank-at-requires : tie.Need-rank-at-requires Inv-loop μ-loop
 rank-at-requires c κs = omega (arith, c .before .before .inner-length .ensures, c .before .before .before .before .pre .1 .0)
 
-mul-u : tie.Need-mul-u Inv-loop μ-loop
-mul-u c =
-    let start = c .before .before .before .before .before in
-    let p = start .pre in
-    omega (
-      arith,
-      open-ahead (p .0) (p .1 .0) (c .before .before .before .inner-length .ensures) (c .before .before .loop .inv)
-          (c .before .loop-test .taken) (c .rank-at .ensures),
-    )
-
 add-u : tie.Need-add-u Inv-loop μ-loop
 add-u c =
     let start = c .before .before .before .before .before in
@@ -44,6 +34,9 @@ add-u c =
       open-ahead (p .0) (p .1 .0) (c .before .before .before .inner-length .ensures) (c .before .before .loop .inv)
           (c .before .loop-test .taken) (c .rank-at .ensures),
     )
+
+mul-u : tie.Need-mul-u Inv-loop μ-loop
+mul-u c = omega (arith, add-u c)
 
 mirror-rank-requires : tie.Need-mirror-rank-requires Inv-loop μ-loop
 mirror-rank-requires c κs =
@@ -58,17 +51,6 @@ power-at-requires c κs =
     let I = start .pre .0 in
     (I .table, (omega (arith, c .before .before .before .before .inner-length .ensures), k-lt I))
 
-mul-v : tie.Need-mul-v Inv-loop μ-loop
-mul-v c =
-    let start = c .before .before .before .before .before .before .before in
-    let p = start .pre in
-    omega (
-      arith,
-      open-behind (p .0) (p .1 .0) (c .before .before .before .before .before .inner-length .ensures)
-          (c .before .before .before .before .loop .inv) (c .before .before .before .loop-test .taken) (c .before .before .rank-at .ensures)
-          (c .before .mirror-rank .ensures) (c .power-at .ensures),
-    )
-
 add-v : tie.Need-add-v Inv-loop μ-loop
 add-v c =
     let start = c .before .before .before .before .before .before .before in
@@ -79,6 +61,9 @@ add-v c =
           (c .before .before .before .before .loop .inv) (c .before .before .before .loop-test .taken) (c .before .before .rank-at .ensures)
           (c .before .mirror-rank .ensures) (c .power-at .ensures),
     )
+
+mul-v : tie.Need-mul-v Inv-loop μ-loop
+mul-v c = omega (arith, add-v c)
 
 add-i : tie.Need-add-i Inv-loop μ-loop
 add-i c = omega (arith, c .before .before .before .before .before .inner-length .ok)

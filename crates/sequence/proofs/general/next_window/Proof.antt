@@ -34,17 +34,6 @@ mirror-rank-requires c κs =
     let p = start .pre in
     entering-lt (p .0) (p .1 .1) (c .before .before .before .inner-length .ensures) (c .rank-at2 .ensures) (p .1 .0)
 
-mul-u : tie.Need-mul-u
-mul-u c =
-    let start = c .before .before .before .before .before .before .before in
-    let p = start .pre in
-    omega (
-      arith,
-      ahead-fits (p .0) (p .1 .0) (p .1 .1) (c .before .before .before .before .before .inner-length .ensures)
-          (c .before .before .before .before .power-at .ensures) (c .before .before .before .rank-at .ensures) (c .before .before .rank-at2 .ensures)
-          (c .before .mirror-rank .ensures) .0,
-    )
-
 add-u : tie.Need-add-u
 add-u c =
     let start = c .before .before .before .before .before .before .before in
@@ -56,14 +45,8 @@ add-u c =
           (c .before .mirror-rank .ensures) .0,
     )
 
-mul-u-2 : tie.Need-mul-u-2
-mul-u-2 c =
-    let start = c .before .before .before .before .before .before .before in
-    let p = start .pre in
-    let fits = ahead-fits (p .0) (p .1 .0) (p .1 .1) (c .before .before .before .before .before .inner-length .ensures)
-    (c .before .before .before .before .power-at .ensures) (c .before .before .before .rank-at .ensures) (c .before .before .rank-at2 .ensures)
-    (c .before .mirror-rank .ensures) in
-    omega (arith, fits .0, fits .1)
+mul-u : tie.Need-mul-u
+mul-u c = omega (arith, add-u c)
 
 sub-u : tie.Need-sub-u
 sub-u c =
@@ -72,6 +55,9 @@ sub-u c =
     ahead-fits (p .0) (p .1 .0) (p .1 .1) (c .before .before .before .before .before .inner-length .ensures)
     (c .before .before .before .before .power-at .ensures) (c .before .before .before .rank-at .ensures) (c .before .before .rank-at2 .ensures)
     (c .before .mirror-rank .ensures) .1
+
+mul-u-2 : tie.Need-mul-u-2
+mul-u-2 c = omega (arith, add-u c, sub-u c)
 
 mul-divided : tie.Need-mul-divided
 mul-divided c =

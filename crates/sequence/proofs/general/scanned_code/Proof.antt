@@ -37,25 +37,14 @@ differing-code-requires c κs =
       (record { two = test .loop-test .taken; first = first .rank-at .ensures; last = last .mirror-rank-at .ensures }, c .if1 .taken),
     )
 
-mul-result : tie.Need-mul-result Inv-loop μ-loop
-mul-result c = let S = c .before .before .before .before .before .loop .inv in omega (arith, scan-done S _ (c .differing-code .ensures), S .fits)
-
 add-result : tie.Need-add-result Inv-loop μ-loop
 add-result c = let S = c .before .before .before .before .before .loop .inv in omega (arith, scan-done S _ (c .differing-code .ensures), S .fits)
 
+mul-result : tie.Need-mul-result Inv-loop μ-loop
+mul-result c = omega (arith, add-result c)
+
 returns : tie.Need-returns Inv-loop μ-loop
 returns c = scan-done (c .before .before .before .before .before .loop .inv) _ (c .differing-code .ensures)
-
-mul-closing : tie.Need-mul-closing Inv-loop μ-loop
-mul-closing c =
-    let S = c .before .before .before .before .loop .inv in
-    omega (
-      arith,
-      scan-rest S
-          (record { two = c .before .before .before .loop-test .taken; first = c .before .before .rank-at .ensures; last = c .before .mirror-rank-at .ensures })
-          (c .if1 .left),
-      S .fits,
-    )
 
 add-closing : tie.Need-add-closing Inv-loop μ-loop
 add-closing c =
@@ -67,6 +56,9 @@ add-closing c =
           (c .if1 .left),
       S .fits,
     )
+
+mul-closing : tie.Need-mul-closing Inv-loop μ-loop
+mul-closing c = omega (arith, add-closing c)
 
 inner-window-requires : tie.Need-inner-window-requires Inv-loop μ-loop
 inner-window-requires c κs = (c .before .before .before .before .loop .inv .window, c .before .before .before .loop-test .taken)

@@ -18,17 +18,14 @@ loop-holds c = (open-none _ _, refl)
 rank-at-requires : tie.Need-rank-at-requires Inv-loop μ-loop
 rank-at-requires c κs = omega (arith, c .before .before .before .pre .1)
 
-mul-x : tie.Need-mul-x Inv-loop μ-loop
-mul-x c =
-    let start = c .before .before .before .before in
-    let p = start .pre in
-    omega (arith, open-ahead (p .0) (p .1) (c .before .before .loop .inv .0) (c .before .loop-test .taken) (c .rank-at .ensures))
-
 add-x : tie.Need-add-x Inv-loop μ-loop
 add-x c =
     let start = c .before .before .before .before in
     let p = start .pre in
     omega (arith, open-ahead (p .0) (p .1) (c .before .before .loop .inv .0) (c .before .loop-test .taken) (c .rank-at .ensures))
+
+mul-x : tie.Need-mul-x Inv-loop μ-loop
+mul-x c = omega (arith, add-x c)
 
 sub-y : tie.Need-sub-y Inv-loop μ-loop
 sub-y c =
@@ -39,16 +36,6 @@ sub-y c =
 power-of-four-requires : tie.Need-power-of-four-requires Inv-loop μ-loop
 power-of-four-requires c κs = omega (arith, c .before .before .before .before .pre .0 .small)
 
-mul-y : tie.Need-mul-y Inv-loop μ-loop
-mul-y c =
-    let start = c .before .before .before .before .before in
-    let p = start .pre in
-    omega (
-      arith,
-      open-behind (p .0) (p .1) (c .before .before .before .loop .inv .0) (c .before .before .loop-test .taken) (c .before .rank-at .ensures)
-          (c .power-of-four .ensures),
-    )
-
 add-y : tie.Need-add-y Inv-loop μ-loop
 add-y c =
     let start = c .before .before .before .before .before in
@@ -58,6 +45,9 @@ add-y c =
       open-behind (p .0) (p .1) (c .before .before .before .loop .inv .0) (c .before .before .loop-test .taken) (c .before .rank-at .ensures)
           (c .power-of-four .ensures),
     )
+
+mul-y : tie.Need-mul-y Inv-loop μ-loop
+mul-y c = omega (arith, add-y c)
 
 add-i : tie.Need-add-i Inv-loop μ-loop
 add-i c = omega (arith, c .before .before .before .before .before .pre .0 .small)

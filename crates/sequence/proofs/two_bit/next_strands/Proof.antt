@@ -26,16 +26,6 @@ power-of-four-requires c κs = search needs
 sub-y : tie.Need-sub-y
 sub-y c = let p = c .before .before .before .before .before .pre in omega (arith, next-lt (p .0) (p .1) (c .before .before .before .rank-at .ensures))
 
-mul-y : tie.Need-mul-y
-mul-y c =
-    let start = c .before .before .before .before .before in
-    let p = start .pre in
-    omega (
-      arith,
-      next-behind (p .0) (p .1) (c .before .before .before .rank-at .ensures) (c .before .before .low-letters .ensures)
-          (c .before .power-of-four .ensures),
-    )
-
 add-y : tie.Need-add-y
 add-y c =
     let start = c .before .before .before .before .before in
@@ -46,15 +36,8 @@ add-y c =
           (c .before .power-of-four .ensures),
     )
 
-mul-t12 : tie.Need-mul-t12
-mul-t12 c =
-    let start = c .before .before .before .before .before in
-    let p = start .pre in
-    omega (
-      arith,
-      next-ahead (p .0) (p .1) (c .before .before .before .rank-at .ensures) (c .before .before .low-letters .ensures)
-          (c .before .power-of-four .ensures),
-    )
+mul-y : tie.Need-mul-y
+mul-y c = omega (arith, add-y c)
 
 add-t14 : tie.Need-add-t14
 add-t14 c =
@@ -65,6 +48,9 @@ add-t14 c =
       next-ahead (p .0) (p .1) (c .before .before .before .rank-at .ensures) (c .before .before .low-letters .ensures)
           (c .before .power-of-four .ensures),
     )
+
+mul-t12 : tie.Need-mul-t12
+mul-t12 c = omega (arith, add-t14 c)
 
 returns : tie.Need-returns
 returns c =
