@@ -78,7 +78,6 @@ module _ (s : ℕ) (m : Mirror) (hs : 1 < s) (he : EvenUnder s m) where
   value-step : (n a b : ℕ) (u : List ℕ) → length u ≡ n → Value n u → Value (suc (suc n)) (a ∷ (u ++ (b ∷ [])))
   unfolding plain
   value-step n a b u l ih h g =
-      let r : ℕ = mirrorRank s m b in
       rw (digits-ends s m n a b u l, differingPair-ends s m n a b u l, codeRec-ends s m n a b u l)
       (go (eqb a (mirrorRank s m b)) refl)
     where

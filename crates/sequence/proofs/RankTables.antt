@@ -3,12 +3,12 @@ use mathlib.Core.Path.{_≡_, ap, refl, sym, ap₂}
 use mathlib.Core.Bool.{Bool, cond, true, false, _&&_}
 use mathlib.Core.Option.{none, some, Option}
 use mathlib.Core.List.{List, map, [], _∷_}
-use Prim.Native.Nat.{ℕ, zero, _<_, suc, _+_}
+use Prim.Native.Nat.{ℕ, zero, _<_, suc}
 use native.Mathlib.Omega.{arith}
 use borrow.Author.Tests.{eq-eqb, ne-eqb}
 use lib.Dec.{T, leb}
-use lib.ListN.{length, length-map, getD, take, length-take, drop, length-drop}
-use lib.Seq.{getD-take, getD-drop}
+use lib.ListN.{length, length-map, getD, take, length-take}
+use lib.Seq.{getD-take}
 use Rattle.encoding.specs.Calls.{rankOrZero, ranksOf}
 use Rattle.encoding.specs.Words.{Ranks}
 use Rattle.settings.specs.RankTables.{asRank, RankTable, rankByTable}
@@ -72,12 +72,6 @@ take-bytes n w B =
           let g : i < n = omega arith in
           rw (getD-take n w i 0 g) (B .below i (omega arith));
     }
-
-pub drop-bytes : (n : ℕ) (w : List ℕ) → Bytes w → Bytes (drop n w)
-drop-bytes n w B = record { below = λ i h. rw (getD-drop n w i 0) (B .below (n + i) (omega (arith, length-drop n w))) }
-
-pub part-bytes : (i n : ℕ) (w : List ℕ) → Bytes w → Bytes (take n (drop i w))
-part-bytes i n w B = take-bytes n (drop i w) (drop-bytes i w B)
 
 -- Two functions that agree on words of bytes give the windows of bytes the same numbers.
 same-codes : (f g : List ℕ → ℕ) (k : ℕ) → ((word : List ℕ) → Bytes word → f word ≡ g word) → (bytes : List ℕ) → Bytes bytes

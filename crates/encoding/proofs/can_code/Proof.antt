@@ -1,4 +1,4 @@
--- `encoding::can_code` meets its contract.
+-- `encoding::can_code` meets its contract. `code_of` refuses exactly where a ground applies (PickAnswers).
 use mathlib.Core.Path.{sym, ap, _∙_}
 use borrow.Author.Needs.{needs}
 use Rattle.encoding.specs.Answers.{ofCoding}

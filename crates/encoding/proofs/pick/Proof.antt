@@ -1,4 +1,4 @@
--- `encoding::pick` meets its contract.
+-- `encoding::pick` meets its contract. Refused where coding either word is, and else the one of lower plain rank (PickAnswers).
 use mathlib.Core.Path.{sym, _∙_, refl}
 use borrow.Author.Needs.{needs}
 use borrow.Author.Tests.{not-true, not-false}

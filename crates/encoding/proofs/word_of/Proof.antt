@@ -1,4 +1,4 @@
--- `encoding::word_of` meets its contract.
+-- `encoding::word_of` meets its contract. A ground at each test, with the buffer as it was, and else the word (ReadAnswers).
 use mathlib.Core.Path.{sym, ap, _∙_}
 use borrow.Author.Needs.{needs}
 use Rattle.settings.specs.Settings.{ofChecked}

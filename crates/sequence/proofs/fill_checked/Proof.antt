@@ -1,4 +1,4 @@
--- `sequence::fill_checked` meets its contract.
+-- `sequence::fill_checked` meets its contract. A ground at each test; what the kernels ask holds under good settings (SequenceGrounds).
 use native.Mathlib.Omega.{arith}
 use borrow.Author.Needs.{needs}
 use denote.Ref.{now}

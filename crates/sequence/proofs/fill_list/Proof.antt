@@ -1,4 +1,4 @@
--- `sequence::fill_list` meets its contract.
+-- `sequence::fill_list` meets its contract. Refused by the grounds of the settings, and else as `fill_checked` answers.
 use mathlib.Core.Path.{sym, ap, _∙_}
 use borrow.Author.Needs.{needs}
 use denote.Ref.{now}

@@ -1,4 +1,4 @@
--- `encoding::letters::plain_of` meets its contract.
+-- `encoding::letters::plain_of` meets its contract. The array holds the ranks of the word (TwoWords), and `plain_rank` gives their plain rank.
 use mathlib.Core.Path.{_∙_, ap}
 use native.Mathlib.Omega.{arith}
 use borrow.Author.Needs.{needs}

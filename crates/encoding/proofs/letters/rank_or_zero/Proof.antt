@@ -1,4 +1,4 @@
--- `encoding::letters::rank_or_zero` meets its contract.
+-- `encoding::letters::rank_or_zero` meets its contract. The answer of `settings::rank_of`, read as a number.
 use mathlib.Core.Path.{ap, sym, _∙_}
 use borrow.Author.Needs.{needs}
 use Rattle.settings.specs.Settings.{ofRank}

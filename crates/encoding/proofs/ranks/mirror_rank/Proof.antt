@@ -1,4 +1,4 @@
--- `encoding::ranks::mirror_rank` meets its contract.
+-- `encoding::ranks::mirror_rank` meets its contract. A case for each mirror.
 use borrow.Author.Needs.{needs}
 use Rattle.encoding.specs.Words.{mirrorRank}
 use Rattle.encoding.proofs.ranks.mirror_rank.Statement.{statement}

@@ -1,4 +1,4 @@
--- `encoding::to_code::canonical_code` meets its contract.
+-- `encoding::to_code::canonical_code` meets its contract. The value of the digits is at least what is subtracted, and what is left is the code (Shifts).
 use native.Mathlib.Omega.{arith}
 use borrow.Author.Needs.{needs}
 use Rattle.encoding.proofs.Shifts.{at-le, enough, code-is-this}

@@ -1,4 +1,4 @@
--- `encoding::to_code::differing_value` meets its contract.
+-- `encoding::to_code::differing_value` meets its contract. Its bounds are those of the rank of a pair; the value is shown in DigitValues.
 use mathlib.Core.Path.{_≡_, subst⁻¹}
 use Prim.Native.Nat.{_-_, _<_, ℕ}
 use native.Mathlib.Omega.{arith}

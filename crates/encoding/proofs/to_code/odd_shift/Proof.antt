@@ -1,4 +1,4 @@
--- `encoding::to_code::odd_shift` meets its contract.
+-- `encoding::to_code::odd_shift` meets its contract. A case for each mirror and, under complement, for odd and even k (Shifts).
 use borrow.Author.Needs.{needs}
 use Rattle.encoding.proofs.Shifts.{odd-reversal, odd-complement, even-complement}
 use Rattle.encoding.proofs.to_code.odd_shift.Statement.{statement}

@@ -1,4 +1,4 @@
--- `encoding::to_code::shift_of` meets its contract.
+-- `encoding::to_code::shift_of` meets its contract. Both powers are within 2^62, and the first is not below the second (Shifts).
 use Prim.Native.Nat.{_-_, _/_}
 use native.Mathlib.Omega.{arith}
 use borrow.Author.Needs.{needs}

@@ -1,4 +1,4 @@
--- `encoding::to_code::word_code` meets its contract.
+-- `encoding::to_code::word_code` meets its contract. The arrays hold the word and its mirror (TwoWords), and the one of lower plain rank is coded.
 use native.Mathlib.Omega.{arith}
 use borrow.Author.Needs.{needs}
 use lib.ListN.{length}

@@ -1,4 +1,4 @@
--- `encoding::to_word::fill_differing` meets its contract.
+-- `encoding::to_word::fill_differing` meets its contract. The high part of the code ranks the pair of the ends, the rest the letters within (ReadSteps).
 use Prim.Native.Nat.{_-_}
 use native.Mathlib.Omega.{arith}
 use borrow.Author.Needs.{needs}

@@ -1,4 +1,4 @@
--- `encoding::to_word::middle_of` meets its contract.
+-- `encoding::to_word::middle_of` meets its contract. A case for each mirror; under complement a code is below s / 2 (ReadSteps).
 use mathlib.Core.Path.{subst, ap, sym}
 use Prim.Native.Nat.{_<_}
 use native.Mathlib.Omega.{arith}

@@ -1,4 +1,4 @@
--- `encoding::to_word::set_ends` meets its contract.
+-- `encoding::to_word::set_ends` meets its contract. From `ends-set` (ReadSteps).
 use native.Mathlib.Omega.{arith}
 use borrow.Author.Needs.{needs}
 use lib.ListN.{length-set}

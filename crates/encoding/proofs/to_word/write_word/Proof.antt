@@ -1,4 +1,4 @@
--- `encoding::to_word::write_word` meets its contract.
+-- `encoding::to_word::write_word` meets its contract. The first k places of the array hold the word of the code (ReadSteps), which is written in capitals.
 use mathlib.Core.Path.{sym, subst⁻¹}
 use Prim.Native.Nat.{ℕ, _<_}
 use native.Mathlib.Omega.{arith}

@@ -1,4 +1,4 @@
--- `sequence::bytes::next_run` meets its contract.
+-- `sequence::bytes::next_run` meets its contract. The run is one letter longer, or over (Blanks).
 use native.Mathlib.Omega.{arith}
 use borrow.Author.Needs.{needs}
 use Rattle.sequence.proofs.Blanks.{run-more, run-over}

@@ -1,4 +1,4 @@
--- `sequence::bytes::rank_or_zero` meets its contract.
+-- `sequence::bytes::rank_or_zero` meets its contract. A case for a letter and for no letter.
 use Rattle.sequence.proofs.RankTables.{zero-none, zero-itself}
 use Rattle.sequence.proofs.bytes.rank_or_zero.Statement.{statement}
 use Rattle.sequence.proofs.bytes.rank_or_zero.Tie as tie

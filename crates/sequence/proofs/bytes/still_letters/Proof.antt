@@ -1,4 +1,4 @@
--- `sequence::bytes::still_letters` meets its contract.
+-- `sequence::bytes::still_letters` meets its contract. A case for a letter and for no letter.
 use mathlib.Core.Path.{sym, ap, _∙_}
 use mathlib.Core.Bool.{Bool, _&&_}
 use Rattle.sequence.specs.Sequences.{isRank}

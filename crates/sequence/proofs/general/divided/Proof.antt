@@ -1,4 +1,4 @@
--- `sequence::general::divided` meets its contract.
+-- `sequence::general::divided` meets its contract. A case for each number of letters.
 use mathlib.Core.Path.{_≡_}
 use native.Mathlib.Omega.{arith}
 use Rattle.sequence.proofs.general.divided.Statement.{statement}

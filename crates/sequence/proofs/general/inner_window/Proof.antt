@@ -1,4 +1,4 @@
--- `sequence::general::inner_window` meets its contract.
+-- `sequence::general::inner_window` meets its contract. The outer letters are taken off both plain ranks (AnyAlphabet).
 use native.Mathlib.Omega.{arith}
 use borrow.Author.Needs.{needs}
 use Rattle.sequence.proofs.AnyAlphabet.{k-lt, within-short, digit-fits, first-le, last-le, within-long}

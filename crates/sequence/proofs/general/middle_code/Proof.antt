@@ -1,4 +1,4 @@
--- `sequence::general::middle_code` meets its contract.
+-- `sequence::general::middle_code` meets its contract. A case for each mirror and, under complement, for each half of the ranks (ByMirror).
 use native.Mathlib.Omega.{arith}
 use borrow.Author.Needs.{needs}
 use Rattle.sequence.proofs.ByMirror.{one-reversed, even-number, one-complemented, low-half, high-half}

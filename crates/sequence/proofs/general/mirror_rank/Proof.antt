@@ -1,4 +1,4 @@
--- `sequence::general::mirror_rank` meets its contract.
+-- `sequence::general::mirror_rank` meets its contract. A case for each mirror (ByMirror).
 use borrow.Author.Needs.{needs}
 use Rattle.sequence.proofs.ByMirror.{rank-reversed, rank-complemented}
 use Rattle.sequence.proofs.general.mirror_rank.Statement.{statement}

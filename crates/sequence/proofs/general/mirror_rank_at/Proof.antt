@@ -1,4 +1,4 @@
--- `sequence::general::mirror_rank_at` meets its contract.
+-- `sequence::general::mirror_rank_at` meets its contract. From `rank_at` and `mirror_rank`; each number of the list is a rank (Parts).
 use mathlib.Core.Path.{_∙_}
 use borrow.Author.Needs.{needs}
 use denote.Ref.{now}

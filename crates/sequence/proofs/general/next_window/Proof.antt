@@ -1,8 +1,7 @@
--- `sequence::general::next_window` meets its contract.
+-- `sequence::general::next_window` meets its contract. A letter enters both plain ranks and one leaves; neither sum wraps (AnyAlphabet).
 use mathlib.Core.Path.{refl}
 use native.Mathlib.Omega.{arith}
 use borrow.Author.Needs.{needs}
-use Rattle.settings.proofs.Powers.{fits}
 use Rattle.sequence.proofs.AnyAlphabet.{k-lt, entering-lt, ahead-fits, behind-fits, next-is}
 use Rattle.sequence.proofs.general.next_window.Statement.{statement}
 use Rattle.sequence.proofs.general.next_window.Tie as tie

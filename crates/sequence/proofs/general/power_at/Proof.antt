@@ -1,4 +1,4 @@
--- `sequence::general::power_at` meets its contract.
+-- `sequence::general::power_at` meets its contract. The table has the powers up to s^k, and k is below its length.
 use borrow.Author.Needs.{needs}
 use Rattle.sequence.proofs.general.power_at.Statement.{statement}
 use Rattle.sequence.proofs.general.power_at.Tie as tie

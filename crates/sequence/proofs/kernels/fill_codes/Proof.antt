@@ -1,4 +1,4 @@
--- `sequence::kernels::fill_codes` meets its contract.
+-- `sequence::kernels::fill_codes` meets its contract. By the contract of either kernel; the two-bit one takes four letters under complement (Coders).
 use borrow.Author.Needs.{needs}
 use denote.Ref.{now}
 use Rattle.sequence.proofs.Coders.{two-bit-input, two-bit-codes}

@@ -1,4 +1,4 @@
--- `sequence::pairs::rank_at` meets its contract.
+-- `sequence::pairs::rank_at` meets its contract. A byte fits 64 bits.
 use native.Mathlib.Omega.{arith}
 use borrow.Author.Needs.{needs}
 use Rattle.sequence.proofs.pairs.rank_at.Statement.{statement}

@@ -1,4 +1,4 @@
--- `sequence::two_bit::differing_letters` meets its contract.
+-- `sequence::two_bit::differing_letters` meets its contract. The highest bit in which two numbers differ tells the highest letter (TwoBit).
 use mathlib.Core.Path.{refl}
 use native.Mathlib.Omega.{arith}
 use lib.Bits.{bitXor, xor-lt}

@@ -1,4 +1,4 @@
--- `sequence::two_bit::letters_between` meets its contract.
+-- `sequence::two_bit::letters_between` meets its contract. The mask is a difference of two powers of 4 (TwoBit).
 use native.Mathlib.Omega.{arith}
 use borrow.Author.Needs.{needs}
 use Rattle.sequence.proofs.TwoBit.{four-le, between-is}

@@ -1,4 +1,4 @@
--- `sequence::two_bit::low_letters` meets its contract.
+-- `sequence::two_bit::low_letters` meets its contract. A mask of 2i ones is a remainder by 4^i (TwoBit).
 use native.Mathlib.Omega.{arith}
 use borrow.Author.Needs.{needs}
 use Rattle.sequence.proofs.TwoBit.{four-pos, low-is}

@@ -1,4 +1,4 @@
--- `sequence::two_bit::middle_digit` meets its contract.
+-- `sequence::two_bit::middle_digit` meets its contract. A case for l = 0 and for the others.
 use native.Mathlib.Omega.{arith}
 use Rattle.sequence.proofs.two_bit.middle_digit.Statement.{statement}
 use Rattle.sequence.proofs.two_bit.middle_digit.Tie as tie

@@ -1,4 +1,4 @@
--- `sequence::two_bit::next_strands` meets its contract.
+-- `sequence::two_bit::next_strands` meets its contract. A letter enters both plain ranks and one leaves; neither sum wraps (TwoBitRolls).
 use native.Mathlib.Omega.{arith}
 use borrow.Author.Needs.{needs}
 use Rattle.sequence.proofs.TwoBitRolls.{next-lt, next-ahead, next-behind, next-is}

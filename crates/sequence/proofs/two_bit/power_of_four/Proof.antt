@@ -1,4 +1,4 @@
--- `sequence::two_bit::power_of_four` meets its contract.
+-- `sequence::two_bit::power_of_four` meets its contract. A shift by 2i bits is a product by 4^i (TwoBit).
 use borrow.Author.Needs.{needs}
 use Rattle.sequence.proofs.TwoBit.{four-shifted}
 use Rattle.sequence.proofs.two_bit.power_of_four.Statement.{statement}

@@ -1,4 +1,4 @@
--- `sequence::two_bit::without_low` meets its contract.
+-- `sequence::two_bit::without_low` meets its contract. A shift by 2i bits is a quotient by 4^i (TwoBit).
 use borrow.Author.Needs.{needs}
 use Rattle.sequence.proofs.TwoBit.{four-div}
 use Rattle.sequence.proofs.two_bit.without_low.Statement.{statement}
