@@ -9,8 +9,8 @@ use native.Mathlib.Omega.{arith}
 use Rattle.settings.specs.Settings.{halfUp, isOdd, classes}
 use Rattle.settings.specs.Limits.{Limits}
 use Rattle.encoding.specs.Words.{Mirror, Reversal, Complement, IsWord, mirror, canonical, Palindrome}
-use Rattle.encoding.specs.Codes.{code}
-use Rattle.encoding.specs.WordsOfCodes.{WordOfCode, wordOf}
+use Rattle.encoding.specs.Codes.{code, WordOfCode}
+use Rattle.encoding.specs.WordsOfCodes.{wordOf}
 use Rattle.encoding.specs.Needs.{palindromes}
 use Rattle.encoding.proofs.Ends.{length-mirror}
 use Rattle.encoding.proofs.ClassNumbers.{classes-palindromes, even-palindromes, odd-palindromes-none}

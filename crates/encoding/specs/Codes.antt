@@ -1,11 +1,12 @@
--- Document 01, "Code of a word": the digits from the outside inwards, the shift, the code.
+-- Document 01, "Code of a word": the digits from the outside inwards, the shift, the code; and the word that a code gives.
+use mathlib.Core.Path.{_≡_}
 use mathlib.Core.Bool.{cond}
 use mathlib.Core.List.{List, [], _∷_, _++_}
 use Prim.Native.Nat.{ℕ, zero, suc, _+_, _-_, _*_, _/_, _%_, _^_}
 use lib.ListN.{getD, take, drop}
 use lib.Dec.{eqb}
 use Rattle.settings.specs.Settings.{halfUp, isOdd}
-use Rattle.encoding.specs.Words.{Mirror, Reversal, Complement, mirrorRank, plain, canonical}
+use Rattle.encoding.specs.Words.{Mirror, Reversal, Complement, IsWord, mirrorRank, plain, canonical}
 
 -- "let R = l(2s − 3 − l)/2 + r − 1", for a pair l < r.
 unfoldable pub pairRank : ℕ → ℕ → ℕ → ℕ
@@ -51,3 +52,10 @@ codeOfCanonical s m k w = plain s (digits s m k w) - shift s k (differingPair s 
 -- "The code of a word is worked out from the outside inwards, on its canonical word."
 unfoldable pub code : ℕ → Mirror → ℕ → List ℕ → ℕ
 code s m k w = codeOfCanonical s m k (canonical s m w)
+
+-- Document 01, "Word of a code": "A code below the number of classes gives its canonical word".
+-- w is the canonical word of k letters whose class has the code q.
+pub record WordOfCode (s : ℕ) (m : Mirror) (k q : ℕ) (w : List ℕ) : Type 0 where
+  pub word : IsWord s k w
+  pub own-canonical : canonical s m w ≡ w
+  pub own-code : code s m k w ≡ q

@@ -1,19 +1,11 @@
--- Document 01, "Word of a code": "A code below the number of classes gives its canonical word". First what that word is, then a way to it by
--- computing, `wordOf`. That the way leads to that word, and that there is no other, is shown in proofs/Theorems.antt.
-use mathlib.Core.Path.{_≡_}
+-- A way by computing to the word that a code gives, `wordOf`. That it leads to that word (`WordOfCode` in Codes.antt), and that there is no other, is
+-- shown in proofs/Theorems.antt: `word-of-code`, `word-of-code-unique`. So nothing here need be believed.
 use mathlib.Core.Bool.{cond}
 use mathlib.Core.List.{List, [], _∷_, _++_}
 use Prim.Native.Nat.{ℕ, zero, suc, _-_, _*_, _/_, _%_, _^_}
 use lib.Dec.{ltb}
 use Rattle.settings.specs.Settings.{classes}
-use Rattle.encoding.specs.Words.{Mirror, Reversal, Complement, IsWord, mirrorRank, canonical}
-use Rattle.encoding.specs.Codes.{code}
-
--- w is the canonical word of k letters whose class has the code q.
-pub record WordOfCode (s : ℕ) (m : Mirror) (k q : ℕ) (w : List ℕ) : Type 0 where
-  pub word : IsWord s k w
-  pub own-canonical : canonical s m w ≡ w
-  pub own-code : code s m k w ≡ q
+use Rattle.encoding.specs.Words.{Mirror, Reversal, Complement, mirrorRank}
 
 -- The word of n letters with plain rank q.
 unfoldable pub wordOfPlain : ℕ → ℕ → ℕ → List ℕ

@@ -1,3 +1,4 @@
 -- Definitions that several parts of document 01 share.
 pub mod Text
 pub mod Windows
+pub mod Each

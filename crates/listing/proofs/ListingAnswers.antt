@@ -11,7 +11,7 @@ use borrow.Author.Tests.{lt-ltb, le-ltb, ltb-false}
 use Rattle.settings.specs.declared.Settings.{Settings}
 use Rattle.settings.specs.Grounds.{Ground, Outcome, given, refused, ground, outcome}
 use Rattle.settings.specs.Settings.{settingsGround, settingsOf}
-use Rattle.settings.proofs.Outcomes.{kept-by, set-by, first-none, later-none, test-fails, nowhere-met, room-enough}
+use Rattle.settings.proofs.Outcomes.{refused-is, kept-by, set-by, first-none, later-none, test-fails, nowhere-met, room-enough}
 use Rattle.settings.proofs.SettingsGrounds.{Known, known}
 use Rattle.table.specs.Table.{classCount, tooMany, clearGround}
 use Rattle.texts.specs.Needs.{Puts}
@@ -33,10 +33,6 @@ module _ {text old : List ℕ} {needed : ℕ} (needed-is : needed ≡ length tex
 
 -- ---- the call
 
-refusing : {A : Type 0} (f : Ground) (a : A) (g : Option Ground) → refused f ≡ outcome g a → g ≡ some f
-refusing f a none e = absurd (let z : _≡_ {A = ℕ} 0 1 = cc in omega arith)
-refusing f a (some g) e = let same : f ≡ g = cc in ap some (sym same)
-
 -- The first places of a long enough table are the counts of all classes.
 pub table-counts : (letters : List ℕ) (k m : ℕ) (table : List ℕ) (st : Settings) → given st ≡ outcome (settingsGround letters k m) (settingsOf letters k m)
     → st .classes ≤ 16777216
@@ -53,7 +49,7 @@ module _ (letters : List ℕ) (k m : ℕ) (table old : List ℕ) where
 
   pub settings-refused : (f : Ground) → refused f ≡ outcome (settingsGround letters k m) (settingsOf letters k m) → Lists letters k m table old (refused f) old
   unfolding listingGround clearGround
-  settings-refused f e = refused-by f (rw (refusing f (settingsOf letters k m) (settingsGround letters k m) e))
+  settings-refused f e = refused-by f (rw (refused-is f (settingsOf letters k m) (settingsGround letters k m) e))
 
   module _ (st : Settings) (e : given st ≡ outcome (settingsGround letters k m) (settingsOf letters k m)) where
     good : Known letters k m st

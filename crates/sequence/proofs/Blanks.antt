@@ -1,6 +1,6 @@
 -- Runs of letters, and the windows that have another byte: a window has only letters where the run that ends with it is as long as it is.
 use mathlib.Core.Path.{_≡_, refl, sym, ap, _∙_}
-use mathlib.Core.Bool.{Bool, true, false, cond, _&&_}
+use mathlib.Core.Bool.{Bool, true, false, cond, _&&_, and-true}
 use mathlib.Core.List.{List, [], _∷_, _++_, map}
 use mathlib.Core.Option.{Option, some}
 use Prim.Native.Nat.{ℕ, zero, suc, _+_, _-_, _<_, _≤_}
@@ -42,14 +42,6 @@ and-split : (a b : Bool) → (a && b) ≡ true → (a ≡ true) × (b ≡ true)
 and-split true b e = (refl, e)
 and-split false b e = absurd (let z : _≡_ {A = ℕ} 0 1 = cc in omega arith)
 
-pub and-false : (t : Bool) → false ≡ (t && false)
-and-false true = refl
-and-false false = refl
-
-pub and-true : (t : Bool) → t ≡ (t && true)
-and-true true = refl
-and-true false = refl
-
 and-assoc : (a b c : Bool) → (a && (b && c)) ≡ ((a && b) && c)
 and-assoc true b c = refl
 and-assoc false b c = refl
@@ -63,7 +55,7 @@ module _ (rank : ℕ → Option ℕ) (bytes : List ℕ) where
 
   pub ranked-done : (i : ℕ) (all : Bool) → length bytes ≤ i → allRanked rank bytes ≡ (all && allRanked rank (drop i bytes)) → all ≡ allRanked rank bytes
   unfolding allRanked
-  ranked-done i all h e = and-true all ∙ sym (e ∙ rw (drop-of-length-le bytes {i = i} h))
+  ranked-done i all h e = sym (and-true all) ∙ sym (e ∙ rw (drop-of-length-le bytes {i = i} h))
 
 ranked-at : (rank : ℕ → Option ℕ) (w : List ℕ) → allRanked rank w ≡ true → (p : ℕ) → p < length w → isRank (rank (getD w p 0)) ≡ true
 unfolding allRanked

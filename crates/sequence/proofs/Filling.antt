@@ -9,7 +9,8 @@ use Rattle.encoding.specs.Words.{Mirror}
 use Rattle.encoding.specs.Codes.{code}
 use Rattle.sequence.specs.Windows.{windowCodes}
 use Rattle.sequence.specs.Needs.{part, Fills}
-use Rattle.sequence.proofs.Windows.{windows-none, length-codes, window-at}
+use Rattle.laws.proofs.Windows.{windows-none}
+use Rattle.sequence.proofs.Windows.{length-codes, window-at}
 
 -- The codes of the windows up to the one at i are written.
 pub record Filling (s : ℕ) (m : Mirror) (k : ℕ) (d o out : List ℕ) (i : ℕ) : Type 0 where

@@ -8,17 +8,12 @@ use native.Mathlib.Omega.{arith}
 use borrow.Author.Tests.{le-leb, lt-leb}
 use lib.ListN.{length, getD, take, drop, length-drop, length-map, take-append-drop}
 use lib.Seq.{take-take, length-take-le}
+use Rattle.laws.proofs.Windows.{windows-none}
 use Rattle.sequence.specs.Windows.{windows}
 
 windows-first : (k x : ℕ) (xs : List ℕ) → k ≤ suc (length xs) → windows k (x ∷ xs) ≡ take k (x ∷ xs) ∷ windows k xs
 unfolding windows
 windows-first k x xs h = rw (le-leb k (suc (length xs)) h)
-
--- Fewer than k letters have no window.
-pub windows-none : (k : ℕ) (w : List ℕ) → length w < k → windows k w ≡ []
-unfolding windows
-windows-none k [] h = refl
-windows-none k (x ∷ xs) h = rw (lt-leb k (suc (length xs)) h) (windows-none k xs (omega arith))
 
 module _ (k : ℕ) (some : 1 ≤ k) where
   pub length-windows : (w : List ℕ) → length (windows k w) ≡ length w + 1 - k

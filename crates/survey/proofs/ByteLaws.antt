@@ -13,7 +13,8 @@ use Rattle.laws.specs.Text.{bytes}
 use Rattle.survey.specs.declared.Name.{Name}
 use Rattle.survey.specs.declared.Name.the-variants.{Letters, K, Mirror}
 use Rattle.settings.specs.Settings.{isIn}
-use Rattle.survey.specs.Grammar.{Each, LetterByte, Digit, SmallLetter}
+use Rattle.laws.specs.Each.{Each}
+use Rattle.survey.specs.Grammar.{LetterByte, Digit, SmallLetter}
 use Rattle.survey.specs.Reading.{stretch, valueByte}
 use Rattle.survey.proofs.TextLaws.{by-test, both, not-so, never}
 

@@ -9,7 +9,8 @@ use lib.Dec.{eqb}
 use borrow.Author.Tests.{eqb-true}
 use Rattle.laws.specs.Text.{bytes}
 use Rattle.survey.specs.declared.Name.the-variants.{Mirror}
-use Rattle.survey.specs.Grammar.{Each, SmallLetter, MirrorNumber, reversal, complement, another}
+use Rattle.laws.specs.Each.{Each}
+use Rattle.survey.specs.Grammar.{SmallLetter, MirrorNumber, reversal, complement, another}
 use Rattle.survey.specs.Reading.{startsWith, stretch, valueByte, mirrorNumber}
 use Rattle.survey.proofs.TextLaws.{by-test, both, not-so, never}
 use Rattle.survey.proofs.ByteLaws.{each-of}

@@ -15,7 +15,8 @@ use Rattle.laws.specs.Text.{bytes}
 use Rattle.survey.specs.declared.Name.{Name}
 use Rattle.survey.specs.declared.Name.the-variants.{Letters, K, Mirror}
 use Rattle.survey.specs.declared.Form.the-variants.{Of}
-use Rattle.survey.specs.Grammar.{Each, LettersText, KText, SmallLetter, MirrorText, spelt}
+use Rattle.laws.specs.Each.{Each}
+use Rattle.survey.specs.Grammar.{LettersText, KText, SmallLetter, MirrorText, spelt}
 use Rattle.survey.specs.Reading.{startsWith, stretch, valueByte, sized, numberOf, formOf}
 use Rattle.survey.proofs.TextLaws.{both, never}
 use Rattle.survey.proofs.ByteLaws.{ByteOf, stretch-le, stretch-each, stretch-all}

@@ -6,11 +6,7 @@ use mathlib.Core.List.{List, [], _∷_, _++_}
 use Prim.Native.Nat.{ℕ, _+_, _-_, _*_, _≤_}
 use lib.ListN.{length, getD}
 use Rattle.laws.specs.Text.{bytes}
-
--- Each byte of a text is such a byte.
-abbrev pub Each : (ℕ → Type 0) → List ℕ → Type 0
-Each P [] = Unit
-Each P (b ∷ text) = P b × Each P text
+use Rattle.laws.specs.Each.{Each}
 
 -- "letters are one or more bytes other than brackets, spaces, CR and LF"
 abbrev pub LetterByte : ℕ → Type 0

@@ -25,7 +25,8 @@ use Rattle.laws.proofs.Windows.{windows-none}
 use Rattle.sequence.proofs.Windows.{length-codes}
 use Rattle.table.specs.declared.batches.Gathered.{Gathered}
 use Rattle.table.specs.Table.{bumps}
-use Rattle.table.specs.Needs.{Each, Below, Room, RanksUnder, codesBy, cut, cutFrom, cutAfter, Gathers, Carries}
+use Rattle.laws.specs.Each.{Each}
+use Rattle.table.specs.Needs.{Below, Room, RanksUnder, codesBy, cut, cutFrom, cutAfter, Gathers, Carries}
 use Rattle.table.proofs.Each.{each-map}
 use Rattle.table.proofs.Bumps.{length-bumps, bumps-append, room-after, less-room}
 use Rattle.table.proofs.FileWords.{word-windows}

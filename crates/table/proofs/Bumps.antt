@@ -11,7 +11,8 @@ use lib.Dec.{eqb}
 use borrow.Author.Tests.{eqb-true, eqb-false}
 use Rattle.table.specs.Table.{bump, bumps}
 use Rattle.table.specs.Demand.{sum}
-use Rattle.table.specs.Needs.{Each, Below, Room}
+use Rattle.laws.specs.Each.{Each}
+use Rattle.table.specs.Needs.{Below, Room}
 
 -- How often q is named.
 unfoldable pub occurrences : ℕ → List ℕ → ℕ

@@ -16,7 +16,8 @@ use Rattle.encoding.proofs.Theorems.{code-below-classes, same-code, word-of-cod
 use Rattle.table.specs.Table.{classCount, placeOf, wins, places}
 use Rattle.table.specs.Book.{sameClass, hits, CanonicalWord}
 use Rattle.table.specs.Demand.{OnePlaceAClass}
-use Rattle.table.specs.Needs.{Each, Below}
+use Rattle.laws.specs.Each.{Each}
+use Rattle.table.specs.Needs.{Below}
 use Rattle.table.proofs.Each.{each-map}
 use Rattle.table.proofs.Bumps.{occurrences}
 use Rattle.table.proofs.Full.{bool-ext}

@@ -12,7 +12,8 @@ use lib.Dec.{ltb}
 use borrow.Author.Tests.{lt-ltb, le-ltb}
 use Rattle.laws.proofs.Buffers.{Written, written-none, written-next, written-length, written-all}
 use Rattle.table.specs.Table.{bump, bumps, full}
-use Rattle.table.specs.Needs.{Each, Below, Room, highestOf}
+use Rattle.laws.specs.Each.{Each}
+use Rattle.table.specs.Needs.{Below, Room, highestOf}
 use Rattle.table.proofs.Each.{each-at}
 use Rattle.table.proofs.Bumps.{length-bumps, room-after}
 

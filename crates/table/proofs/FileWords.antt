@@ -18,7 +18,7 @@ use Rattle.fasta.specs.Items.{marks, onFirst, runs, windowsOf}
 use Rattle.fasta.specs.File.{items}
 use Rattle.settings.proofs.Ranks.{rank-below-count}
 use Rattle.table.specs.Table.{wins}
-use Rattle.table.specs.Needs.{Each}
+use Rattle.laws.specs.Each.{Each}
 use Rattle.table.proofs.Each.{each-append}
 
 -- A mark of a rank below s, or of a break.

@@ -14,7 +14,7 @@ use Rattle.fasta.proofs.Runs.{letters-are}
 use Rattle.table.specs.Table.{wins}
 use Rattle.table.specs.Book.{hits, Book, bookGround, bookAfter, bookAnswers, bookAfterAll}
 use Rattle.table.specs.Demand.{takenIn, allWins, addedUp, lettersOf, foreignOf, edgeOf}
-use Rattle.table.specs.Needs.{Each}
+use Rattle.laws.specs.Each.{Each}
 use Rattle.table.proofs.Each.{each-append}
 use Rattle.table.proofs.FileWords.{windows-are-words}
 use Rattle.table.proofs.Steps.{taken}

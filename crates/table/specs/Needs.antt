@@ -17,17 +17,13 @@ use Rattle.fasta.specs.declared.Numbers.{Numbers}
 use Rattle.fasta.specs.File.{itemsFrom, fileFault, fileNumbers}
 use Rattle.settings.specs.RankTables.{rankByTable}
 use Rattle.sequence.specs.declared.kernels.Coder.{Coder}
+use Rattle.laws.specs.Each.{Each}
 use Rattle.laws.specs.Windows.{windows}
 use Rattle.table.specs.Table.{bumps, places, full, tooMany, unlessRefused, lateTable}
 use Rattle.table.specs.declared.batches.Mark.{Mark}
 use Rattle.table.specs.declared.batches.Gathered.{Gathered}
 
 -- ---- counts
-
--- A property of each element of a list.
-abbrev pub Each : {A : Type 0} → (A → Type 0) → List A → Type 0
-Each P [] = Unit {0}
-Each P (x ∷ xs) = P x × Each P xs
 
 abbrev pub Below : ℕ → ℕ → Type 0
 Below n q = q < n

@@ -5,7 +5,8 @@ ghost use mathlib.Core.List.{_++_};
 ghost use Prim.Native.Nat.{_<_, _≤_, max};
 ghost use lib.ListN.{length, getD, drop, replicate};
 ghost use Rattle.table.specs.Table.{bump, bumps, full};
-ghost use Rattle.table.specs.Needs.{Each, Below, Room, highestOf};
+ghost use Rattle.laws.specs.Each.{Each};
+ghost use Rattle.table.specs.Needs.{Below, Room, highestOf};
 
 // Sets the first n places to 0.
 pub fn set_zero(table: &mut [u32], n: usize)
