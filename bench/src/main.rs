@@ -1,16 +1,20 @@
 //! Prints nanoseconds a letter, the median of several runs, of both paths of libkmer.a along random sequences and of adding a file to a
-//! table, beside plain Rust versions of the same algorithms in the same run, and the ratios that the repository promises.
+//! table, beside plain Rust versions of the same algorithms in the same run, and the ratios that the repository promises; before that,
+//! the whole command `wontirje count` beside other counters.
 
 mod adding;
 mod baseline;
-// Two files of the tests by their path: the declarations of the C calls and the random numbers. Each has more than is
-// used here.
+mod command;
+// Three files of the tests by their path: the declarations of the C calls, the random numbers and what a process took. Each has
+// more than is used here.
 #[allow(dead_code)]
 #[path = "../../tests/src/c_calls.rs"]
 mod c_calls;
 #[allow(dead_code)]
 #[path = "../../tests/src/draw.rs"]
 mod draw;
+#[path = "../../host/tests/run/usage.rs"]
+mod usage;
 
 use c_calls::{kmer_codes, kmer_codes_two_bit};
 use draw::Random;
@@ -85,9 +89,14 @@ fn print_alphabets() {
 }
 
 fn main() {
-    // The word `adding` as an argument leaves out the codes along a sequence, which take longer.
+    // The words `adding` and `command` as an argument leave out the rest, which takes longer. The command comes first, while this
+    // process is small.
     if std::env::args().any(|argument| argument == "adding") {
         return adding::print();
+    }
+    command::print();
+    if std::env::args().any(|argument| argument == "command") {
+        return;
     }
     println!("ns a letter, median of {RUNS} runs, {LETTERS} random letters");
     let dna = drawn(b"ACGT", LETTERS);

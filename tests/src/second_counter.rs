@@ -44,7 +44,7 @@ fn counted(input: &[u8]) -> Result<Vec<u8>, Refusal> {
 }
 
 /// The first line without its end, which is LF, CR LF or the input's end; and what comes after it.
-fn first_line(input: &[u8]) -> (&[u8], &[u8]) {
+pub fn first_line(input: &[u8]) -> (&[u8], &[u8]) {
     match input.iter().position(|&byte| byte == b'\n') {
         None => (input, b""),
         Some(end) => {
@@ -56,7 +56,7 @@ fn first_line(input: &[u8]) -> (&[u8], &[u8]) {
 
 /// The settings of a survey line, good or bad; none where the line is no survey line. No value holds a space,
 /// so cutting at every space gives the name and the value of the three forms, and nothing else.
-fn survey(line: &[u8]) -> Option<Settings> {
+pub fn survey(line: &[u8]) -> Option<Settings> {
     let inner = line.strip_prefix(b"(survey ")?.strip_suffix(b")")?;
     let parts: Vec<&[u8]> = inner.split(|&byte| byte == b' ').collect();
     let [name_1, value_1, name_2, value_2, name_3, value_3] = parts[..] else { return None };

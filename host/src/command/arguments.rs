@@ -1,0 +1,87 @@
+//! The arguments of a command: options, which may stand anywhere before `--`, and operands.
+
+use crate::report::shown;
+use std::ffi::{OsStr, OsString};
+use std::os::unix::ffi::{OsStrExt, OsStringExt};
+
+/// What was given on the command line.
+#[derive(Default)]
+pub struct Arguments {
+    options: Vec<(&'static str, OsString)>,
+    pub operands: Vec<OsString>,
+}
+
+/// Whether help is asked for before `--`.
+pub fn ask_for_help(given: &[OsString]) -> bool {
+    given
+        .iter()
+        .take_while(|&argument| argument != "--")
+        .any(|argument| argument == "--help" || argument == "-h")
+}
+
+/// An option's name without `--`, and its value where it is given as `--name=value`. `-k` is `--k`.
+fn taken_apart(argument: &OsStr) -> Option<(&[u8], Option<&[u8]>)> {
+    let bytes = argument.as_bytes();
+    let bare = match bytes.strip_prefix(b"--") {
+        Some(bare) => bare,
+        // A lone - is standard input.
+        None => bytes.strip_prefix(b"-").filter(|bare| !bare.is_empty())?,
+    };
+    match bare.iter().position(|&byte| byte == b'=') {
+        Some(at) => Some((&bare[..at], Some(&bare[at + 1..]))),
+        None => Some((bare, None)),
+    }
+}
+
+impl Arguments {
+    /// Options are given by name, with whether they take a value.
+    pub fn parse(given: &[OsString], known: &[(&'static str, bool)]) -> Result<Arguments, String> {
+        let mut found = Arguments::default();
+        let mut rest = given.iter();
+        while let Some(argument) = rest.next() {
+            if argument == "--" {
+                found.operands.extend(rest.cloned());
+                break;
+            }
+            let Some((name, value)) = taken_apart(argument) else {
+                found.operands.push(argument.clone());
+                continue;
+            };
+            let option = known.iter().find(|(option, _)| option.as_bytes() == name);
+            let &(option, takes_value) = option.ok_or_else(|| format!("{} is no option", shown(argument)))?;
+            let value = match (takes_value, value) {
+                (true, Some(value)) => OsString::from_vec(value.to_vec()),
+                (true, None) => rest.next().ok_or_else(|| format!("--{option} lacks its value"))?.clone(),
+                (false, None) => OsString::new(),
+                (false, Some(_)) => return Err(format!("--{option} takes no value")),
+            };
+            if found.value(option).is_some() {
+                return Err(format!("--{option} is given twice"));
+            }
+            found.options.push((option, value));
+        }
+        Ok(found)
+    }
+
+    pub fn value(&self, option: &str) -> Option<&OsStr> {
+        self.options.iter().find(|(name, _)| *name == option).map(|(_, value)| value.as_os_str())
+    }
+
+    pub fn has(&self, option: &str) -> bool {
+        self.value(option).is_some()
+    }
+
+    /// The number given with an option, or this one where it is not given.
+    pub fn number(&self, option: &str, otherwise: usize) -> Result<usize, String> {
+        match self.value(option) {
+            None => Ok(otherwise),
+            Some(value) => number(value).ok_or_else(|| format!("--{option} {} is no number", shown(value))),
+        }
+    }
+}
+
+/// A number in decimal digits.
+pub fn number<T: std::str::FromStr>(text: &OsStr) -> Option<T> {
+    let digits = text.to_str().filter(|digits| digits.bytes().all(|byte| byte.is_ascii_digit()))?;
+    digits.parse().ok()
+}

@@ -1,0 +1,91 @@
+//! What `--help` prints.
+
+pub const ALL: &str = "\
+wontirje counts canonical k-mers: a word of k letters and its reverse complement are one class.
+
+  wontirje count FILE...       count the words of FASTA files and print a listing
+  wontirje code WORD...        print the code of each word's class
+  wontirje word CODE...        print the canonical word of each code
+  wontirje classes [K...]      print the number of classes and the size of their table
+  wontirje histogram LISTING   print how many classes have each count, and draw a chart
+
+Settings of all but histogram, and what they are when not given:
+  --letters ACGT        2 to 16 different capitals, in the order of their ranks
+  --k 11                letters in a word (-k 11 will do too)
+  --mirror complement   or reversal: what a word is one class with
+
+Example:
+  wontirje count reads.fa > counts.txt && wontirje histogram counts.txt
+
+Exit status: 0 all was taken in, 1 something was refused, 2 the command could not do its work.
+See wontirje COMMAND --help. Codes and counts are the library's, which is proved; the command is tested.
+";
+
+pub const COUNT: &str = "\
+wontirje count [--letters ACGT] [--k 11] [--mirror complement] [--output FILE] [--strict] [--no-listing]
+               FILE...
+
+Clears a table, adds each FASTA file in order, and prints the listing: the survey line, a line for each
+class with its count, and the total. - is standard input. On standard error is a line for each file: its
+records, letters, foreign letters (not in --letters), edge letters (too near a run's end to begin a word)
+and windows (words counted); or why it was refused, where, and what to do. A refused file changes no count
+and does not stop the others.
+
+  --output FILE   write the listing to a new file, which appears only when it is whole; a file that is there
+                  already is not overwritten
+  --strict        stop at the first file that is refused, and print no listing
+  --no-listing    print no listing, only the line for each file
+
+A file has at most 16,777,216 bytes; split larger ones between records. For ACGT under complement k is at
+most 12.
+
+Examples:
+  wontirje count --k 12 --output counts.txt lake-1.fa lake-2.fa
+  gzip -dc reads.fa.gz | wontirje count -           (in jellyfish: count -C -m 11, then dump)
+";
+
+pub const CODE: &str = "\
+wontirje code [--letters ACGT] [--k 11] [--mirror complement] [WORD...]
+
+Prints the code of each word's class, one a line; the words are read from standard input, one a line, where
+none is given or - is. A word and its mirror have the same code. A refused word is named on standard error
+instead.
+
+Example:
+  wontirje code --k 8 TACGGCTA TAGCCGTA             prints 1571 twice
+";
+
+pub const WORD: &str = "\
+wontirje word [--letters ACGT] [--k 11] [--mirror complement] [CODE...]
+
+Prints the canonical word of each code, one a line; the codes are read from standard input, one a line,
+where none is given or - is. A refused code is named on standard error instead.
+
+Example:
+  wontirje word --k 8 1571                          prints TACGGCTA
+";
+
+pub const CLASSES: &str = "\
+wontirje classes [--letters ACGT] [--k 11] [--mirror complement] [K...]
+
+Prints the number of classes and the bytes of their table, for the k of the settings or for each K given,
+one a line; with - each K is read from standard input. A table has at most 16,777,216 classes.
+
+Example:
+  wontirje classes 11 12                            prints 2097152 and 8390656 classes
+";
+
+pub const HISTOGRAM: &str = "\
+wontirje histogram [--bars 40] [--each] [--svg FILE] LISTING
+
+Prints how many classes of a listing have each count, with bars; - is standard input. Classes without a
+count are in no bar. Where there are more counts than --bars, each bar stands for several, and the last one
+for all above.
+
+  --bars N     at most N bars, 2 to 200
+  --each       print a line for each count that some class has, however many
+  --svg FILE   draw the bars as a chart too, in a new file; a file that is there already is not overwritten
+
+Example:
+  wontirje count reads.fa | wontirje histogram --svg counts.svg -
+";

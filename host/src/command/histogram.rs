@@ -1,0 +1,67 @@
+//! `wontirje histogram`: how many classes of a listing have each count, as text bars and as a chart.
+
+use crate::arguments::Arguments;
+use crate::bars::{self, Bar};
+use crate::failure::{reason, Failure, Outcome};
+use crate::listing::{self, Listing};
+use crate::output::{check_new, print, to_new_file};
+use crate::report::name;
+use crate::svg;
+use std::ffi::OsStr;
+use std::fs::File;
+use std::io::{self, BufReader, Write};
+use std::path::Path;
+
+pub const OPTIONS: &[(&str, bool)] = &[("bars", true), ("each", false), ("svg", true)];
+
+/// How many bars there may be; more do not fit the chart.
+const MOST_BARS: usize = 200;
+
+fn read(operand: &OsStr) -> Result<Listing, String> {
+    if operand == "-" {
+        return listing::read(io::stdin().lock());
+    }
+    let file = File::open(Path::new(operand)).map_err(|error| format!("not read: {}", reason(&error)))?;
+    listing::read(BufReader::with_capacity(1 << 16, file))
+}
+
+/// What the listing is of, in one line.
+fn headline(listing: &Listing) -> Result<String, String> {
+    let settings = listing.settings();
+    let classes = settings.classes().map_err(|refusal| format!("line 1: {refusal}"))?;
+    let letters = String::from_utf8_lossy(settings.letters).into_owned();
+    let (k, mirror) = (settings.k, settings.mirror.name());
+    let listed = listing.listed();
+    Ok(format!(
+        "{letters}, k {k}, {mirror}: {listed} of {classes} classes have a count, total {}",
+        listing.total
+    ))
+}
+
+fn most_bars(arguments: &Arguments) -> Result<usize, Failure> {
+    match arguments.number("bars", 40).map_err(Failure::Said)? {
+        most @ 2..=MOST_BARS => Ok(most),
+        most => Err(Failure::said(format!("--bars {most} is not from 2 to {MOST_BARS}"))),
+    }
+}
+
+pub fn run(arguments: &Arguments) -> Outcome {
+    let [operand] = &arguments.operands[..] else {
+        return Err(Failure::said(
+            "give one listing, or - for standard input; see wontirje histogram --help",
+        ));
+    };
+    let most = most_bars(arguments)?;
+    let svg = arguments.value("svg").map(Path::new);
+    svg.map_or(Ok(()), check_new)?;
+    let named = |reason: String| Failure::said(format!("{}: {reason}", name(operand)));
+    let listing = read(operand).map_err(named)?;
+    let headline = headline(&listing).map_err(named)?;
+    let grouped = bars::grouped(&listing.spectrum, most);
+    if let Some(path) = svg {
+        let chart = svg::chart(&name(operand), &headline, &grouped);
+        to_new_file(path, &mut |to| to.write_all(chart.as_bytes()))?;
+    }
+    let shown: Vec<Bar> = if arguments.has("each") { bars::each(&listing.spectrum) } else { grouped };
+    print(&format!("{headline}\n{}", bars::text(&shown)))
+}

@@ -1,0 +1,70 @@
+//! The command `wontirje`: counts k-mers of sequence files and tells codes, words, classes and spectra. It
+//! reads, lends buffers to the library, calls and prints; it decides nothing about counts.
+
+mod arguments;
+mod bars;
+mod classes;
+mod count;
+mod failure;
+mod help;
+mod histogram;
+mod input;
+mod listing;
+mod output;
+mod progress;
+mod report;
+mod survey;
+mod svg;
+mod translate;
+
+use arguments::Arguments;
+use failure::{Failure, Outcome};
+use std::env;
+use std::ffi::OsString;
+use std::process::ExitCode;
+
+/// The commands: name, help, options (with whether each takes a value), and what runs it.
+type Command = (&'static str, &'static str, &'static [(&'static str, bool)], fn(&Arguments) -> Outcome);
+
+const COMMANDS: [Command; 5] = [
+    ("count", help::COUNT, count::OPTIONS, count::run),
+    ("code", help::CODE, survey::OPTIONS, translate::codes),
+    ("word", help::WORD, survey::OPTIONS, translate::words),
+    ("classes", help::CLASSES, survey::OPTIONS, classes::run),
+    ("histogram", help::HISTOGRAM, histogram::OPTIONS, histogram::run),
+];
+
+/// Runs the command that the first argument names.
+fn run(arguments: &[OsString]) -> Outcome {
+    let Some((name, rest)) = arguments.split_first() else {
+        return Err(Failure::said("no command given; see wontirje --help"));
+    };
+    match name.to_str() {
+        Some("--help" | "-h" | "help") => return output::print(help::ALL),
+        Some("--version") => return output::print(concat!("wontirje ", env!("CARGO_PKG_VERSION"), "\n")),
+        _ => (),
+    }
+    let Some((name, help, options, run)) = COMMANDS.iter().find(|(command, ..)| name == command) else {
+        let name = report::shown(name);
+        return Err(Failure::said(format!("{name} is no command of wontirje; see wontirje --help")));
+    };
+    if arguments::ask_for_help(rest) {
+        return output::print(help);
+    }
+    let parsed = Arguments::parse(rest, options);
+    run(&parsed.map_err(|error| Failure::said(format!("{error}; see wontirje {name} --help")))?)
+}
+
+/// The exit status: 0 when all was taken in, 1 when something was refused, 2 when the command could not do
+/// its work. A reader who closed the pipe has what he wanted: no word about it.
+fn main() -> ExitCode {
+    let arguments: Vec<OsString> = env::args_os().skip(1).collect();
+    match run(&arguments) {
+        Ok(status) => status,
+        Err(Failure::PipeClosed(status)) => status,
+        Err(Failure::Said(reason)) => {
+            report::line(format_args!("wontirje: {reason}"));
+            ExitCode::from(2)
+        }
+    }
+}

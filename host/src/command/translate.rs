@@ -1,0 +1,82 @@
+//! `wontirje code` and `wontirje word`: the codes of words and the words of codes, one a line.
+
+use crate::arguments::{number, Arguments};
+use crate::failure::{reason, status, Failure, Outcome};
+use crate::report::{line, shown};
+use crate::survey;
+use std::ffi::OsStr;
+use std::io::{self, BufRead, Write};
+use std::os::unix::ffi::OsStrExt;
+use wontirje::{Code, Refusal, Settings};
+
+/// A line of standard input without its end, LF or CR LF.
+fn bare(line: &[u8]) -> &[u8] {
+    line.strip_suffix(b"\r\n").or(line.strip_suffix(b"\n")).unwrap_or(line)
+}
+
+/// Hands each operand, or each line of standard input where there is none or it is -, to some work.
+fn each_item(
+    arguments: &Arguments,
+    mut work: impl FnMut(&OsStr) -> Result<(), Failure>,
+) -> Result<(), Failure> {
+    match &arguments.operands[..] {
+        [] => (),
+        [only] if only == "-" => (),
+        operands => return operands.iter().try_for_each(|operand| work(operand)),
+    }
+    let unread = |error: io::Error| Failure::said(format!("standard input: not read: {}", reason(&error)));
+    let mut input = io::stdin().lock();
+    let mut line = Vec::new();
+    while input.read_until(b'\n', &mut line).map_err(unread)? > 0 {
+        work(OsStr::from_bytes(bare(&line)))?;
+        line.clear();
+    }
+    Ok(())
+}
+
+/// Prints what each item is translated to, line by line, and says which ones are refused; the others go on.
+pub fn translate(arguments: &Arguments, translated: impl Fn(&OsStr) -> Result<String, String>) -> Outcome {
+    let mut refused = false;
+    let mut to = io::stdout().lock();
+    each_item(arguments, |item| match translated(item) {
+        Ok(text) => writeln!(to, "{text}").map_err(|error| Failure::of_printing(error, status(refused))),
+        Err(reason) => {
+            refused = true;
+            let name = if item.is_empty() { String::from("an empty line") } else { shown(item) };
+            line(format_args!("{name}: {reason}"));
+            Ok(())
+        }
+    })?;
+    Ok(status(refused))
+}
+
+/// Why a word has no code. kmer_code tells no place; kmer_mirror refuses a word for the same reasons, with
+/// it.
+fn word_refused(settings: &Settings, word: &[u8], refusal: Refusal) -> String {
+    match settings.mirror_of(word, &mut vec![0; settings.k]) {
+        Err(Refusal { number: 9, place }) => format!("{refusal}: letter {} of the word", place + 1),
+        _ => format!("{refusal}: {} letters, k is {}", word.len(), settings.k),
+    }
+}
+
+pub fn codes(arguments: &Arguments) -> Outcome {
+    let settings = survey::settings(arguments)?;
+    settings.classes().map_err(|refusal| survey::refused(&settings, refusal))?;
+    translate(arguments, |item| match settings.code(item.as_bytes()) {
+        Ok(Code(code)) => Ok(code.to_string()),
+        Err(refusal) => Err(word_refused(&settings, item.as_bytes(), refusal)),
+    })
+}
+
+pub fn words(arguments: &Arguments) -> Outcome {
+    let settings = survey::settings(arguments)?;
+    let classes = settings.classes().map_err(|refusal| survey::refused(&settings, refusal))?;
+    translate(arguments, |item| {
+        let code = number(item).ok_or("not a code: a number below 2^64 in decimal digits")?;
+        let mut word = vec![0; settings.k];
+        match settings.word(Code(code), &mut word) {
+            Ok(_) => Ok(String::from_utf8_lossy(&word).into_owned()),
+            Err(refusal) => Err(format!("{refusal}: there are {classes} classes")),
+        }
+    })
+}

@@ -1,0 +1,43 @@
+//! Canonical k-mers in Rust, over `libkmer.a`: a method for each of its C calls.
+//!
+//! A word of k letters and its mirror are one class; each class has one code, from 0 to the number of classes
+//! less 1; a table holds one count for each class, at the place of its code. The settings (letters, k,
+//! mirror) are the same for a whole survey, and every call is a method of [`Settings`].
+//!
+//! What is proved: the library. It is written in Rattle, and every function of it is proved to meet its
+//! contract for all inputs. What is tested: this crate. It lends the slices that it is given, as they are,
+//! and hands on the answer; it decides nothing about codes and counts. The one exception is
+//! [`Settings::write_listing`], which writes the lines of [`Settings::listing`] one by one and is tested to
+//! write the same bytes.
+//!
+//! A call that cannot do what it is asked gives a [`Refusal`] and changes no byte of any slice lent to it.
+//!
+//! ```
+//! use wontirje::Settings;
+//!
+//! let settings = Settings::dna(2);
+//! let mut table = vec![0; settings.table_places()?];
+//! settings.clear(&mut table)?;
+//! let numbers = settings.add(&mut table, b">a\nACGTN\n>b\nAG\nCT\n")?;
+//! assert_eq!(numbers.windows, 6);
+//! // AC and its reverse complement GT are one class.
+//! let code = settings.code(b"GT")?;
+//! assert_eq!(table[code.0 as usize], 2);
+//! # Ok::<(), wontirje::Refusal>(())
+//! ```
+
+// The declarations of the C calls, by their path from the tests, so that they are written once.
+#[path = "../../tests/src/c_calls.rs"]
+mod c_calls;
+mod lines;
+mod refusal;
+mod sequences;
+mod settings;
+mod tables;
+mod words;
+
+pub use refusal::Refusal;
+pub use sequences::{codes_two_bit, MOST_BYTES, NO_CODE};
+pub use settings::{Mirror, Settings};
+pub use tables::Numbers;
+pub use words::Code;

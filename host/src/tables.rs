@@ -1,0 +1,124 @@
+//! Tables of counts: kmer_clear, kmer_add and kmer_listing, and the number of places that kmer_clear tells.
+
+use crate::c_calls::{kmer_add, kmer_clear, kmer_listing};
+use crate::refusal::{judged, Refusal};
+use crate::settings::Settings;
+
+/// The five numbers of a file. Its letters are windows + foreign + edge.
+///
+/// ```
+/// let mut table = vec![0; 10];
+/// let numbers = wontirje::Settings::dna(2).add(&mut table, b">a\nACGTN\n")?;
+/// assert_eq!(numbers.letters, numbers.windows + numbers.foreign + numbers.edge);
+/// # Ok::<(), wontirje::Refusal>(())
+/// ```
+#[derive(Clone, Copy, Debug, Default, PartialEq, Eq)]
+pub struct Numbers {
+    /// Header lines.
+    pub records: u64,
+    /// Letters, foreign ones too.
+    pub letters: u64,
+    /// Letters that are not in the settings.
+    pub foreign: u64,
+    /// Letters at the end of a run that begin no window.
+    pub edge: u64,
+    /// Windows of k letters: what the counts grew by.
+    pub windows: u64,
+}
+
+impl Settings<'_> {
+    /// How many places a table needs: the number of classes, as clearing an empty table tells it. Refused on
+    /// the grounds 1, 3, 4 and 6 (more than 16,777,216 classes).
+    ///
+    /// ```
+    /// use wontirje::Settings;
+    /// assert_eq!(Settings::dna(12).table_places(), Ok(8_390_656));
+    /// assert_eq!(Settings::dna(13).table_places().unwrap_err().number, 6);
+    /// ```
+    pub fn table_places(&self) -> Result<usize, Refusal> {
+        match self.clear(&mut []) {
+            Err(Refusal { number: 7, place }) => Ok(place as usize),
+            answer => answer,
+        }
+    }
+
+    /// Sets the first places of a table, one for each class, to 0 and answers how many these are; later
+    /// places keep what they held. Refused on the grounds 1, 3, 4, 6 and 7 (the place is the length needed).
+    ///
+    /// ```
+    /// use wontirje::{Refusal, Settings};
+    /// let mut table = [7; 11];
+    /// assert_eq!(Settings::dna(2).clear(&mut table), Ok(10));
+    /// assert_eq!(table, [0, 0, 0, 0, 0, 0, 0, 0, 0, 0, 7]);
+    /// assert_eq!(Settings::dna(2).clear(&mut table[..9]), Err(Refusal { number: 7, place: 10 }));
+    /// ```
+    pub fn clear(&self, table: &mut [u32]) -> Result<usize, Refusal> {
+        let (letters, k, mirror) = (self.letters, self.k, self.mirror as u64);
+        // SAFETY: each pointer comes with the length of its slice; `table` is borrowed for writing, so that
+        // it overlaps no other.
+        let answer = unsafe {
+            kmer_clear(letters.as_ptr(), letters.len(), k, mirror, table.as_mut_ptr(), table.len())
+        };
+        judged(answer).map(|places| places as usize)
+    }
+
+    /// Adds a sequence file to a table that was cleared with the same settings: 1 for each window at the
+    /// place of its class. Refused on the grounds 1, 3, 4, 6, 7 (the place is the length needed), 10 and 11
+    /// (the offset of the byte), and 12; a refused file changes no count.
+    ///
+    /// ```
+    /// use wontirje::{Refusal, Settings};
+    /// let settings = Settings::dna(2);
+    /// let mut table = vec![0; 10];
+    /// assert_eq!(settings.add(&mut table, b">a\nAC\nGT")?.windows, 3);
+    /// assert_eq!(settings.add(&mut table, b"AC\n>a\n"), Err(Refusal { number: 11, place: 0 }));
+    /// assert_eq!(table.iter().sum::<u32>(), 3);
+    /// # Ok::<(), Refusal>(())
+    /// ```
+    pub fn add(&self, table: &mut [u32], file: &[u8]) -> Result<Numbers, Refusal> {
+        let (letters, k, mirror) = (self.letters, self.k, self.mirror as u64);
+        let mut list = [0; 5];
+        // SAFETY: each pointer comes with the length of its slice; `table` and `list` are borrowed for
+        // writing, so that they overlap no other.
+        let answer = unsafe {
+            let (to, from, numbers) = (table.as_mut_ptr(), file.as_ptr(), list.as_mut_ptr());
+            kmer_add(
+                letters.as_ptr(),
+                letters.len(),
+                k,
+                mirror,
+                to,
+                table.len(),
+                from,
+                file.len(),
+                numbers,
+                5,
+            )
+        };
+        let [records, letters, foreign, edge, windows] = list;
+        judged(answer).map(|_| Numbers { records, letters, foreign, edge, windows })
+    }
+
+    /// Writes the listing of a table to the first bytes of `text` and answers how many these are; later bytes
+    /// keep what they held. Refused on the grounds 1, 3, 4, 6 and 7 (of the table, then of the text; the
+    /// place is the length needed). [`Settings::write_listing`] needs no buffer for the whole of it.
+    ///
+    /// ```
+    /// let settings = wontirje::Settings::dna(2);
+    /// let mut text = [0; 100];
+    /// let length = settings.listing(&[0, 1, 0, 0, 0, 0, 0, 0, 0, 0], &mut text)?;
+    /// let listing = b"(survey (letters ACGT) (k 2) (mirror complement))\n(count CG 1)\n(total 1)\n";
+    /// assert_eq!(&text[..length], listing);
+    /// # Ok::<(), wontirje::Refusal>(())
+    /// ```
+    pub fn listing(&self, table: &[u32], text: &mut [u8]) -> Result<usize, Refusal> {
+        let (letters, k, mirror) = (self.letters, self.k, self.mirror as u64);
+        // SAFETY: each pointer comes with the length of its slice; `text` is borrowed for writing, so that it
+        // overlaps no other.
+        let answer = unsafe {
+            let (from, to) = (table.as_ptr(), text.as_mut_ptr());
+            kmer_listing(letters.as_ptr(), letters.len(), k, mirror, from, table.len(), to, text.len())
+        };
+        judged(answer).map(|length| length as usize)
+    }
+}

@@ -1,0 +1,169 @@
+//! The safe wrappers beside the references of tests/: what each call answers and leaves in the lent slices,
+//! and every refusal with its number and place.
+
+mod run;
+
+use kmer_tests::book::{class_count, table_ground, Book};
+use kmer_tests::draw::*;
+use kmer_tests::draw_files::{damaged, drawn_file, drawn_sequence};
+use kmer_tests::expected::{self, coding, mirroring, reading, settings_ground};
+use kmer_tests::lent::filled;
+use kmer_tests::sequences::along;
+use kmer_tests::settings::*;
+use kmer_tests::tables::sizes_up_to;
+use run::{lent, whole_listing};
+use wontirje::{codes_two_bit, Code, Numbers, Refusal};
+
+fn refusal(expected: expected::Refusal) -> Refusal {
+    Refusal { number: expected.number, place: expected.p }
+}
+
+/// For the two calls that tell no place.
+fn without_place(expected: expected::Refusal) -> Refusal {
+    Refusal { number: expected.number, place: 0 }
+}
+
+/// Settings of every size with drawn letters, and bad ones: those that the types of this crate can hold.
+fn all_settings(random: &mut Random) -> Vec<Settings> {
+    let mut all: Vec<Settings> = good_sizes()
+        .into_iter()
+        .map(|(s, mirror, k)| Settings::new(&drawn_capitals(random, s), k, mirror))
+        .collect();
+    for letters in [&b"ACGT"[..], b"ACG", b"ACgT", b"AA", b"A", b"", b"ABCDEFGHIJKLMNOPQ"] {
+        for k in [0, 1, 2, 31, 32, 62, 63, 1 << 32, usize::MAX] {
+            all.extend([REVERSAL, COMPLEMENT].map(|mirror| Settings::new(letters, k, mirror)));
+        }
+    }
+    all
+}
+
+/// The bytes of a word that may be one letter too short or too long, or have a byte that is no letter.
+fn drawn_bytes(random: &mut Random, settings: &Settings) -> Vec<u8> {
+    let s = settings.letters.len();
+    let length = settings.k.min(70) + [0, 0, 0, 1][random.below(4) as usize];
+    let word = drawn_word(random, s.max(1), length);
+    let mut bytes = if s == 0 { word } else { spelled_mixed(random, &settings.letters, &word) };
+    if random.below(3) == 0 && !bytes.is_empty() {
+        let place = random.below(bytes.len() as u64) as usize;
+        bytes[place] = random.below(256) as u8;
+    }
+    bytes
+}
+
+/// A result that fills a buffer from its start, beside the expected bytes: later bytes, and all where the
+/// call is refused, are as they were.
+fn check_bytes(what: &str, answer: Result<usize, Refusal>, left: &[u8], right: Result<Vec<u8>, Refusal>) {
+    let mut buffer = filled(left.len());
+    if let Ok(bytes) = &right {
+        buffer[..bytes.len()].copy_from_slice(bytes);
+    }
+    assert_eq!((answer, left), (right.map(|bytes| bytes.len()), &buffer[..]), "{what}");
+}
+
+#[test]
+fn words_codes_and_mirrors() {
+    let mut random = Random::new(101);
+    let mut taken = 0;
+    for settings in all_settings(&mut random) {
+        for _ in 0..12 {
+            let bytes = drawn_bytes(&mut random, &settings);
+            let code = lent(&settings).code(&bytes);
+            assert_eq!(code, coding(&settings, &bytes).map(Code).map_err(without_place), "{settings}");
+            taken += code.is_ok() as usize;
+            let room = settings.k.min(70) + 2 - random.below(4).min(settings.k.min(3) as u64) as usize;
+            let mut out: Vec<u8> = filled(room);
+            let answer = lent(&settings).mirror_of(&bytes, &mut out);
+            let right = mirroring(&settings, &bytes, room).map_err(refusal);
+            check_bytes(&format!("{settings}: mirror"), answer, &out, right);
+            let number = drawn_code(&mut random, u64::MAX);
+            let mut out: Vec<u8> = filled(room);
+            let answer = lent(&settings).word(Code(number), &mut out);
+            let right = reading(&settings, number, room).map_err(without_place);
+            check_bytes(&format!("{settings}: word of {number}"), answer, &out, right);
+        }
+    }
+    assert!(taken > 2000, "{taken} words coded");
+}
+
+#[test]
+fn the_number_of_classes_and_of_places() {
+    for settings in all_settings(&mut Random::new(102)) {
+        let right = settings_ground(&settings).map(|()| class_count(&settings) as u64);
+        assert_eq!(lent(&settings).classes(), right.map_err(refusal), "{settings}");
+        let right = table_ground(&settings, false, usize::MAX);
+        assert_eq!(lent(&settings).table_places(), right.map_err(refusal), "{settings}");
+    }
+}
+
+#[test]
+fn codes_along_sequences() {
+    let mut random = Random::new(103);
+    let mut settings = all_settings(&mut random);
+    settings.extend((0..40).map(|k| Settings::new(b"ACGT", k, COMPLEMENT)));
+    for settings in settings {
+        let good = settings_ground(&settings).is_ok();
+        let length = random.below(150) as usize;
+        let sequence = match good {
+            true => drawn_sequence(&mut random, &settings, length, 30),
+            false => vec![b'A'; length],
+        };
+        let room = (sequence.len() + 3).saturating_sub(random.below(12) as usize);
+        let right = along(&settings, &sequence, room).map_err(refusal);
+        let mut list = filled(room);
+        if let Ok(codes) = &right {
+            list[..codes.len()].copy_from_slice(codes);
+        }
+        let mut codes: Vec<u64> = filled(room);
+        let answer = lent(&settings).codes(&sequence, &mut codes);
+        let count = right.map(|codes| codes.len());
+        assert_eq!((answer, &codes), (count, &list), "{settings}");
+        if settings.letters == b"ACGT" && settings.mirror == COMPLEMENT {
+            let mut codes: Vec<u64> = filled(room);
+            let answer = codes_two_bit(settings.k, &sequence, &mut codes);
+            assert_eq!((answer, &codes), (count, &list), "{settings}: two-bit");
+        }
+    }
+}
+
+/// Lists of adds, damaged files among them, beside the tally book; the listing beside the second counter's.
+#[test]
+fn tables_beside_the_tally_book() {
+    let mut random = Random::new(104);
+    let mut refused = 0;
+    for (s, mirror, k) in sizes_up_to(5000) {
+        let settings = Settings::new(&drawn_capitals(&mut random, s), k, mirror);
+        let (mut book, places) = (Book::new(&settings), class_count(&settings) as usize);
+        let mut table: Vec<u32> = filled(places + 2);
+        let mut right = table.clone();
+        assert_eq!(lent(&settings).clear(&mut table), Ok(places), "{settings}");
+        for _ in 0..8 {
+            let mut file = drawn_file(&mut random, &settings, 300);
+            if random.below(3) == 0 {
+                file = damaged(&mut random, &settings, file);
+            }
+            let due = book.add(table.len(), &file, 5).map(|[records, letters, foreign, edge, windows]| {
+                Numbers { records, letters, foreign, edge, windows }
+            });
+            refused += due.is_err() as usize;
+            assert_eq!(lent(&settings).add(&mut table, &file), due.map_err(refusal), "{settings}");
+            book.write_counts(&mut right);
+            assert!(table == right, "{settings}: a count differs");
+        }
+        let short = Err(Refusal { number: 7, place: places as u64 });
+        assert_eq!(lent(&settings).clear(&mut table[..places - 1]), short, "{settings}");
+        assert_eq!(lent(&settings).add(&mut table[..places - 1], b"").map(|_| 0), short, "{settings}");
+        assert!(table == right, "{settings}: a refused call changed a count");
+    }
+    assert!(refused > 100, "{refused} files refused");
+}
+
+#[test]
+fn a_full_table_is_refused_12() {
+    let settings = wontirje::Settings::dna(1);
+    let mut table = [u32::MAX - 2, 0];
+    assert_eq!(settings.add(&mut table, b">\nACG"), Err(Refusal { number: 12, place: 0 }));
+    assert_eq!(settings.add(&mut table, b">\nAC").map(|numbers| numbers.windows), Ok(2));
+    assert_eq!(table, [u32::MAX - 1, 1]);
+    let text = whole_listing(&settings, &table);
+    assert!(text.ends_with(b"(count C 4294967294)\n(count A 1)\n(total 4294967295)\n"));
+}

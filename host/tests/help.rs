@@ -1,0 +1,163 @@
+//! Help, errors in the command line, and progress on a terminal.
+
+mod run;
+
+use run::{run, Folder, WONTIRJE};
+use std::ffi::{c_char, c_int, CStr};
+use std::fs::File;
+use std::io::Read;
+use std::os::fd::{FromRawFd, OwnedFd};
+use std::process::{Command, Stdio};
+
+const COMMANDS: [&str; 5] = ["count", "code", "word", "classes", "histogram"];
+
+#[test]
+fn each_command_has_help_with_an_example() {
+    let all = run(&["--help"]);
+    assert_eq!((all.status, &all.err[..]), (0, ""));
+    assert!(all.text().contains("\nExample:\n  wontirje count reads.fa > counts.txt"));
+    assert_eq!(run(&["-h"]).out, all.out);
+    assert_eq!(run(&["help"]).out, all.out);
+    assert!(run(&["--version"]).text().starts_with("wontirje "));
+    for command in COMMANDS {
+        assert!(all.text().contains(&format!("\n  wontirje {command} ")), "{command}");
+        let help = run(&[command, "--bad", "--help"]);
+        assert_eq!((help.status, &help.err[..]), (0, ""), "{command}");
+        assert!(help.text().starts_with(&format!("wontirje {command} [")), "{command}");
+        let (_, examples) = help.text().split_once("\nExample").expect("an example");
+        assert!(examples.contains(&format!("wontirje {command} ")), "{command}");
+        assert!(help.text().lines().all(|line| line.chars().count() <= 110), "{command}");
+    }
+}
+
+/// What the help says of an example's output.
+#[test]
+fn the_examples_print_what_the_help_says() {
+    let mut tried = 0;
+    for command in COMMANDS {
+        let help = run(&[command, "--help"]).text().to_string();
+        for (example, prints) in help.lines().filter_map(|line| line.split_once(" prints ")) {
+            let Some(arguments) = example.trim().strip_prefix("wontirje ") else { continue };
+            let arguments: Vec<&str> = arguments.split_whitespace().collect();
+            let printed = run(&arguments).text().to_string();
+            let right = match prints {
+                "1571 twice" => "1571\n1571\n",
+                "TACGGCTA" => "TACGGCTA\n",
+                "2097152 and 8390656 classes" => {
+                    "k 11: 2097152 classes, table 8388608 bytes\nk 12: 8390656 classes, table 33562624 bytes\n"
+                }
+                other => panic!("{other}"),
+            };
+            assert_eq!(printed, right);
+            tried += 1;
+        }
+    }
+    assert_eq!(tried, 3);
+}
+
+/// One line on standard error, nothing printed, status 2.
+#[test]
+fn errors_in_the_command_line() {
+    let see = |command: &str| format!("; see wontirje {command}--help");
+    let given = "(letters ACGT, k 13, mirror complement)";
+    let cases: [(&[&str], String); 17] = [
+        (&[], format!("no command given{}", see(""))),
+        (&["conut"], format!("conut is no command of wontirje{}", see(""))),
+        (&["a\nb"], format!("a\\nb is no command of wontirje{}", see(""))),
+        (&["count"], format!("no file given; name files, or - for standard input{}", see("count "))),
+        (&["count", "-m", "12", "a.fa"], format!("-m is no option{}", see("count "))),
+        (&["count", "--svg", "a", "a.fa"], format!("--svg is no option{}", see("count "))),
+        (&["count", "a.fa", "--k"], format!("--k lacks its value{}", see("count "))),
+        (&["count", "--strict=1", "-"], format!("--strict takes no value{}", see("count "))),
+        (&["count", "--k", "2", "--k=3", "-"], format!("--k is given twice{}", see("count "))),
+        (&["count", "--k", "-2", "-"], String::from("--k -2 is no number")),
+        (&["count", "--k", "", "-"], String::from("--k  is no number")),
+        (
+            &["count", "--mirror", "both", "-"],
+            String::from("refused 2: the mirror is neither reversal nor complement: --mirror both"),
+        ),
+        (
+            &["count", "--k", "13", "-"],
+            format!(
+                "refused 6: more than 16,777,216 classes, too many for a table {given}; give a smaller --k \
+                 (at most 12 for ACGT under complement); wontirje classes tells the sizes"
+            ),
+        ),
+        (
+            &["code", "--letters", "acgt", "ACGT"],
+            String::from(
+                "refused 1: the letters are not 2 to 16 different capitals (letters acgt, k 11, mirror \
+                 complement); give --letters in capitals, each once, as in --letters ACGT",
+            ),
+        ),
+        (
+            &["word", "--k", "32", "0"],
+            String::from(
+                "refused 4: k is 0, or there are more than 2^62 words of k letters (letters ACGT, k 32, mirror \
+                 complement); give a k from 1 to 31 for 4 letters (62 for 2, 39 for 3, 15 for 16)",
+            ),
+        ),
+        (&["histogram"], format!("give one listing, or - for standard input{}", see("histogram "))),
+        (&["histogram", "--bars", "1", "-"], String::from("--bars 1 is not from 2 to 200")),
+    ];
+    for (arguments, right) in cases {
+        run(arguments).check_failed(&right);
+    }
+}
+
+extern "C" {
+    fn posix_openpt(flags: c_int) -> c_int;
+    fn grantpt(terminal: c_int) -> c_int;
+    fn unlockpt(terminal: c_int) -> c_int;
+    fn ptsname_r(terminal: c_int, name: *mut c_char, length: usize) -> c_int;
+}
+
+/// A new terminal: its far end, which reads what is shown, and its near end for the command.
+fn terminal() -> (File, File) {
+    let mut name = [0; 100];
+    // SAFETY: the number is that of an open terminal from its opening on, and the name is as long as is said.
+    let far = unsafe {
+        // For reading and writing, and not as the controlling terminal of this process.
+        let far = posix_openpt(0o2 | 0o400);
+        assert!(far >= 0 && grantpt(far) == 0 && unlockpt(far) == 0, "no terminal");
+        assert_eq!(ptsname_r(far, name.as_mut_ptr(), name.len()), 0, "no name of the terminal");
+        File::from(OwnedFd::from_raw_fd(far))
+    };
+    // SAFETY: the call above has written a name with its end.
+    let name = unsafe { CStr::from_ptr(name.as_ptr()) }.to_str().expect("a name");
+    (far, File::options().read(true).write(true).open(name).expect("the near end"))
+}
+
+/// What a count shows on a terminal.
+fn shown_on_a_terminal(file: &std::path::Path) -> String {
+    let (mut far, near) = terminal();
+    let mut command = Command::new(WONTIRJE);
+    command.args(["count", "--k", "3"]).arg(file).stdin(Stdio::null()).stdout(Stdio::null()).stderr(near);
+    assert!(command.status().expect("the command runs").success());
+    // The near end is held by the command's builder too; the last reading then ends with an error.
+    drop(command);
+    let (mut shown, mut piece) = (Vec::new(), [0; 4096]);
+    while let Ok(length @ 1..) = far.read(&mut piece) {
+        shown.extend(&piece[..length]);
+    }
+    String::from_utf8(shown).expect("text")
+}
+
+/// Above 1 MB there is progress, which is wiped before the file's line; below there is none, and none where
+/// standard error is no terminal.
+#[test]
+fn progress_on_a_terminal() {
+    let folder = Folder::new();
+    let large = folder.file("large.fa", &[b">a\n", &b"GATTACA\n".repeat(300_000)[..]].concat());
+    let small = folder.file("small.fa", &[b">a\n", &b"GATTACA\n".repeat(120_000)[..]].concat());
+    let shown = shown_on_a_terminal(&large);
+    let name = large.display();
+    let wiped = "\r\x1b[K";
+    let line = format!("{name}: records 1, letters 2100000, foreign 0, edge 2, windows 2099998\r\n");
+    assert!(shown.starts_with(&format!("{wiped}{name}: 1 MB read{wiped}{name}: 2 MB read")), "{shown:?}");
+    assert!(shown.ends_with(&format!("{wiped}{name}: counting 2 MB{wiped}{line}")), "{shown:?}");
+    let shown = shown_on_a_terminal(&small);
+    assert!(shown.starts_with(&format!("{}: records 1,", small.display())), "{shown:?}");
+    let piped = run(&["count".as_ref(), "--no-listing".as_ref(), large.as_os_str()]);
+    assert!(piped.err.starts_with(&format!("{name}: records 1,")), "{}", piped.err);
+}

@@ -1,0 +1,149 @@
+//! `wontirje histogram`: bars by hand for small listings, groups of counts for wide ones, the chart, and
+//! listings that are none.
+
+mod run;
+
+use run::{run, run_with, Folder};
+use std::fs;
+
+const SURVEY: &str = "(survey (letters ACGT) (k 2) (mirror complement))\n";
+const EXAMPLE: &str = "(count CG 1)\n(count GC 1)\n(count AG 2)\n(count AC 4)\n(total 8)\n";
+
+/// A listing of classes of one word each with these counts; the words do not matter to a histogram.
+fn listing(counts: &[u64]) -> String {
+    let lines: String = counts.iter().map(|count| format!("(count AC {count})\n")).collect();
+    format!("{SURVEY}{lines}(total {})\n", counts.iter().sum::<u64>())
+}
+
+#[test]
+fn bars_by_hand() {
+    let right = "ACGT, k 2, complement: 4 of 10 classes have a count, total 8\ncount  classes\n    \
+        1        2  ██████████████████████████████████████████████████\n    \
+        2        1  █████████████████████████\n    3        0\n    \
+        4        1  █████████████████████████\n";
+    let folder = Folder::new();
+    let file = folder.file("counts.txt", format!("{SURVEY}{EXAMPLE}").as_bytes());
+    let run = run(&["histogram", file.to_str().expect("a name")]);
+    assert_eq!((run.status, run.text(), &run.err[..]), (0, right, ""));
+    // What the counter program prints has the file's numbers after the listing.
+    let file_line = "(file (records 2) (letters 9) (foreign 1) (edge 2) (windows 6))\n";
+    let run = run_with(&["histogram", "-"], format!("{SURVEY}{EXAMPLE}{file_line}").as_bytes());
+    assert_eq!((run.status, run.text()), (0, right));
+    // With --each the counts that no class has are left out.
+    let run = run_with(&["histogram", "--each", "-"], format!("{SURVEY}{EXAMPLE}").as_bytes());
+    assert_eq!(run.text(), right.replace("    3        0\n", ""));
+    let run = run_with(&["histogram", "-"], format!("{SURVEY}(total 0)\n").as_bytes());
+    let none = "ACGT, k 2, complement: 0 of 10 classes have a count, total 0\ncount  classes\n";
+    assert_eq!((run.status, run.text()), (0, none));
+}
+
+/// The labels and numbers of the bars.
+fn rows(arguments: &[&str], counts: &[u64]) -> Vec<(String, u64)> {
+    let run = run_with(arguments, listing(counts).as_bytes());
+    assert_eq!(run.status, 0, "{}", run.err);
+    let row = |line: &str| {
+        let mut columns = line.split_whitespace();
+        let label = columns.next().expect("a label").to_string();
+        (label, columns.next().expect("a number").parse().expect("a number"))
+    };
+    run.text().lines().skip(2).map(row).collect()
+}
+
+fn labels(rows: &[(String, u64)]) -> Vec<&str> {
+    rows.iter().map(|(label, _)| &label[..]).collect()
+}
+
+/// Counts from 1 to 100, one class each: every class is in one bar.
+#[test]
+fn counts_in_groups() {
+    let counts: Vec<u64> = (1..=100).collect();
+    let found = rows(&["histogram", "-"], &counts);
+    assert_eq!(
+        (found.len(), found[0].clone(), found[19].clone()),
+        (20, ("1-5".into(), 5), ("96-100".into(), 5))
+    );
+    let found = rows(&["histogram", "--bars", "100", "-"], &counts);
+    assert_eq!((found.len(), found[99].clone()), (100, ("100".into(), 1)));
+    let found = rows(&["histogram", "--bars", "2", "-"], &counts);
+    assert_eq!(labels(&found), ["1-100"]);
+    assert_eq!(rows(&["histogram", "--each", "--bars", "2", "-"], &counts).len(), 100);
+}
+
+/// A repeat with a count far above the rest does not squeeze the rest into one bar: it goes to the last one.
+#[test]
+fn a_few_high_counts() {
+    let mut counts: Vec<u64> = (0..1000).map(|place| 1 + place % 30).collect();
+    counts.push(4_294_967_295);
+    let found = rows(&["histogram", "--bars", "31", "-"], &counts);
+    assert_eq!((found.len(), found[0].clone(), found[30].clone()), (31, ("1".into(), 34), ("31+".into(), 1)));
+    assert_eq!(found.iter().map(|(_, classes)| classes).sum::<u64>(), 1001);
+    let found = rows(&["histogram", "--bars", "4", "-"], &counts);
+    assert_eq!(labels(&found), ["1-10", "11-20", "21-30", "31+"]);
+    let found = rows(&["histogram", "-"], &[4_294_967_295]);
+    assert_eq!(found.iter().filter(|(_, classes)| *classes > 0).count(), 1);
+}
+
+/// The bars of the chart: as many as the text has, as high as their numbers say, inside of the picture.
+#[test]
+fn the_chart() {
+    let folder = Folder::new();
+    let (file, svg) =
+        (folder.file("a & <b>.txt", listing(&[1, 1, 1, 1, 2, 2, 4]).as_bytes()), folder.path("c.svg"));
+    let path = svg.to_str().expect("a name");
+    let run = run(&["histogram", "--svg", path, file.to_str().expect("a name")]);
+    assert_eq!(run.status, 0, "{}", run.err);
+    let chart = fs::read_to_string(&svg).expect("the chart");
+    assert!(chart.starts_with("<svg xmlns=\"http://www.w3.org/2000/svg\" ") && chart.ends_with("</svg>\n"));
+    assert!(chart.contains("a &amp; &lt;b&gt;.txt") && !chart.contains("<b>"), "{chart}");
+    let bars: Vec<&str> = chart.lines().filter(|line| line.contains("<title>count ")).collect();
+    let number = |line: &str, name: &str| -> f64 {
+        let (_, rest) = line.split_once(&format!(" {name}=\"")).expect("an attribute");
+        rest.split('"').next().expect("a value").parse().expect("a number")
+    };
+    let heights: Vec<f64> = bars.iter().map(|bar| number(bar, "height")).collect();
+    assert_eq!(heights.len(), 4);
+    assert!((heights[0] - 2.0 * heights[1]).abs() < 0.1 && (heights[0] - 4.0 * heights[3]).abs() < 0.1);
+    assert!(heights[2] == 0.0 && heights[3] > 50.0);
+    let ends = bars.iter().map(|bar| number(bar, "y") + number(bar, "height"));
+    assert!(ends.clone().all(|end| (end - ends.clone().next().unwrap_or(0.0)).abs() < 0.02), "one base line");
+    assert!(bars.windows(2).all(|two| number(two[0], "x") + number(two[0], "width") < number(two[1], "x")));
+    assert!(bars[0].contains("<title>count 1: 4 classes</title>"));
+    assert_eq!(folder.names(), ["a & <b>.txt", "c.svg"]);
+}
+
+/// Listings that are cut off, changed or none: refused with the line.
+#[test]
+fn what_is_no_listing() {
+    let whole = format!("{SURVEY}{EXAMPLE}");
+    let none = "line 1: no survey line, so this is no listing";
+    let neither = "neither a count nor a total";
+    let cases = [
+        (String::new(), none.to_string()),
+        (String::from(">a\nACGT\n"), none.to_string()),
+        (whole.replace("(k 2)", "(k 02)"), none.to_string()),
+        (whole.replace("complement", "both"), none.to_string()),
+        (SURVEY.to_string(), String::from("line 2: no total line: the listing is cut off")),
+        (whole.replace("(total 8)\n", ""), String::from("line 6: no total line: the listing is cut off")),
+        (whole.replace("(total 8)\n", "(total 8"), format!("line 6: {neither}")),
+        (whole.replace("AG 2", "AG 3"), String::from("line 6: the total is 8, the counts add up to 9")),
+        (whole.replace("AG 2", "AG 0"), format!("line 4: {neither}")),
+        (whole.replace("AG 2", "AN 2"), format!("line 4: {neither}")),
+        (whole.replace("AG 2", "AGG 2"), format!("line 4: {neither}")),
+        (whole.replace("AG 2", "AG 4294967296"), format!("line 4: {neither}")),
+        (whole.replace("AG 2", &"x".repeat(1000)), format!("line 4: {neither}")),
+        (format!("{whole}more\n"), String::from("line 7: nothing may follow the total")),
+        (
+            whole.replace("(letters ACGT)", "(letters ACG)"),
+            String::from("line 1: refused 3: complement needs an even number of letters"),
+        ),
+    ];
+    for (text, right) in cases {
+        run_with(&["histogram", "-"], text.as_bytes()).check_failed(&format!("standard input: {right}"));
+    }
+    // Every cut is found out but the one that loses only the last LF.
+    for length in 0..whole.len() - 1 {
+        assert_eq!(run_with(&["histogram", "-"], &whole.as_bytes()[..length]).status, 2, "cut to {length}");
+    }
+    run(&["histogram", "/"]).check_failed("/: not read: Is a directory");
+    run(&["histogram", "/nowhere"]).check_failed("/nowhere: not read: No such file or directory");
+}

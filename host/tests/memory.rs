@@ -1,0 +1,68 @@
+//! The memory of `wontirje count`: at most the table, one file and 2 MB, as the system measured the peak of
+//! what was resident. In a file of its own, so that the process which starts the command is small.
+
+mod run;
+#[path = "run/usage.rs"]
+#[allow(dead_code)]
+mod usage;
+
+use kmer_tests::draw::Random;
+use run::{Folder, WONTIRJE};
+use std::fs::File;
+use std::io::{BufWriter, Write};
+use std::path::{Path, PathBuf};
+use std::process::{Command, Stdio};
+
+/// The peak of a run in bytes. Its listing goes to /dev/null unless it is written to a file.
+fn peak(arguments: &[&str], files: &[&Path], input: Stdio) -> u64 {
+    let mut command = Command::new(WONTIRJE);
+    command.arg("count").args(arguments).args(files).stdin(input).stdout(Stdio::null()).stderr(Stdio::null());
+    let child = command.spawn().expect("the command starts");
+    usage::ended(child).expect("the command succeeds").peak
+}
+
+/// A file of so many bytes, written piece by piece so that this process stays small.
+fn drawn_file(folder: &Folder, name: &str, length: usize) -> PathBuf {
+    let path = folder.path(name);
+    let mut file = BufWriter::new(File::create(&path).expect("a file"));
+    let mut random = Random::new(151);
+    file.write_all(b">drawn\n").expect("room");
+    for place in 8..=length {
+        let byte = if place % 80 == 0 { b'\n' } else { b"ACGT"[random.below(4) as usize] };
+        file.write_all(&[byte]).expect("room");
+    }
+    file.flush().expect("room");
+    path
+}
+
+fn check(what: &str, peak: u64, k: usize, file: u64) {
+    let table = 4 * wontirje::Settings::dna(k).table_places().expect("a table") as u64;
+    let bound = table + file + 2_000_000;
+    assert!(usage::own_peak() < table + file, "{what}: this process is too large to measure");
+    assert!(peak > table + file, "{what}: {peak} bytes, less than table and file");
+    assert!(
+        peak <= bound,
+        "{what}: {peak} bytes, {} above table and file; is the command linked as .cargo/config.toml says?",
+        peak - table - file
+    );
+}
+
+/// One file of full size, by name and through a pipe; several files; the listing to a new file.
+#[test]
+fn the_table_one_file_and_two_megabytes() {
+    let folder = Folder::new();
+    let length = 16_777_216;
+    let full = drawn_file(&folder, "full.fa", length as usize);
+    let half = drawn_file(&folder, "half.fa", 8_000_000);
+    for k in [8, 11, 12] {
+        check("one file", peak(&["--k", &k.to_string()], &[&full], Stdio::null()), k, length);
+    }
+    check("three files", peak(&["--k", "9"], &[&half, &full, &half], Stdio::null()), 9, length);
+    let output = folder.path("counts.txt");
+    let options = ["--output", output.to_str().expect("a name")];
+    check("a new file", peak(&options, &[&half], Stdio::null()), 11, 8_000_000);
+    let mut cat = Command::new("cat").arg(&full).stdout(Stdio::piped()).spawn().expect("cat starts");
+    let pipe = cat.stdout.take().expect("a pipe");
+    check("a pipe", peak(&["--k", "11"], &["-".as_ref()], pipe.into()), 11, length);
+    assert!(cat.wait().expect("cat ends").success());
+}

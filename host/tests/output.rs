@@ -1,0 +1,193 @@
+//! Where the listing goes: a new file that is whole or not there, a full disk, a reader who leaves early.
+
+mod run;
+
+use run::{run, run_as, run_with, Folder, Run, WONTIRJE};
+use std::fs::{self, File};
+use std::io::{BufRead, BufReader, Read};
+use std::os::unix::fs::symlink;
+use std::path::Path;
+use std::process::{Command, Stdio};
+
+const EXAMPLE: &[u8] = b">a\nACGTN\n>b\nAG\nCT\n";
+
+/// A file whose listing, for k 8, is some hundred kilobytes: more than any pipe or buffer on the way holds.
+fn long_file() -> Vec<u8> {
+    let mut random = kmer_tests::draw::Random::new(141);
+    let letters = (0..100_000).map(|_| b"ACGT"[random.below(4) as usize]);
+    b">drawn\n".iter().copied().chain(letters).collect()
+}
+
+fn count_to(output: &Path, file: &Path) -> Run {
+    run(&[
+        "count".as_ref(),
+        "--k".as_ref(),
+        "8".as_ref(),
+        "--output".as_ref(),
+        output.as_os_str(),
+        file.as_os_str(),
+    ])
+}
+
+#[test]
+fn a_new_file_has_the_printed_bytes() {
+    let folder = Folder::new();
+    let file = folder.file("a.fa", &long_file());
+    let printed = run(&["count".as_ref(), "--k=8".as_ref(), file.as_os_str()]);
+    let written = count_to(&folder.path("counts.txt"), &file);
+    assert_eq!((written.status, written.text(), &written.err), (0, "", &printed.err));
+    assert!(printed.out.len() > 500_000);
+    assert!(fs::read(folder.path("counts.txt")).expect("the listing") == printed.out);
+    assert_eq!(folder.names(), ["a.fa", "counts.txt"]);
+}
+
+/// It is kept as it was, and no file is read in vain.
+#[test]
+fn a_file_that_is_there_is_not_overwritten() {
+    let folder = Folder::new();
+    let file = folder.file("a.fa", EXAMPLE);
+    let there = folder.file("counts.txt", b"kept");
+    symlink("nowhere", folder.path("link")).expect("a link");
+    for path in [&there, &folder.path("link"), &folder.as_ref().to_path_buf()] {
+        let reason = format!("{}: there is such a file already; only a new one is written", path.display());
+        count_to(path, &file).check_failed(&reason);
+        let options = ["histogram", "-", "--svg"].map(AsRef::as_ref);
+        run_with(&[&options[..], &[path.as_os_str()]].concat(), b"").check_failed(&reason);
+    }
+    assert_eq!(fs::read(&there).expect("the file"), b"kept");
+    assert_eq!(folder.names(), ["a.fa", "counts.txt", "link"]);
+}
+
+#[test]
+fn a_folder_that_is_not_there() {
+    let folder = Folder::new();
+    let (file, path) = (folder.file("a.fa", EXAMPLE), folder.path("none/counts.txt"));
+    let run = count_to(&path, &file);
+    assert_eq!((run.status, run.text()), (2, ""));
+    let reason = format!("wontirje: {}: not written: No such file or directory", path.display());
+    assert_eq!(run.complaints()[1..], [reason]);
+}
+
+/// The listing of the others is written where a file is refused, and none with --strict.
+#[test]
+fn refused_files_and_the_new_file() {
+    let folder = Folder::new();
+    let (bad, path) = (folder.file("bad.fa", b"A"), folder.path("counts.txt"));
+    let arguments = |strict| ["count", strict, "--output"].map(AsRef::as_ref);
+    let (path, bad) = (path.as_os_str(), bad.as_os_str());
+    assert_eq!(run(&[&arguments("--strict")[..], &[path, bad]].concat()).status, 1);
+    assert_eq!(folder.names(), ["bad.fa"]);
+    assert_eq!(run(&[&arguments("--k=3")[..], &[path, bad]].concat()).status, 1);
+    let listing = "(survey (letters ACGT) (k 3) (mirror complement))\n(total 0)\n";
+    assert_eq!(fs::read_to_string(path).expect("the listing"), listing);
+    let both = [&["count", "--no-listing", "--output"].map(AsRef::as_ref)[..], &[path, bad]].concat();
+    run(&both).check_failed("--output and --no-listing exclude each other");
+}
+
+/// A new file that has not enough room: neither it nor a part of it is left.
+fn check_no_room(run: &Run, folder: &Path, reason: &str) {
+    assert_eq!((run.status, run.text()), (2, ""), "{}", run.err);
+    let right = format!("wontirje: {}: not written: {reason}", folder.join("counts.txt").display());
+    assert_eq!(run.complaints()[1..], [right]);
+    assert_eq!(fs::read_dir(folder).expect("the folder").count(), 0, "something is left");
+}
+
+/// Files may have 64 KB at most: the listing does not fit.
+#[test]
+fn a_file_may_not_grow() {
+    let folder = Folder::new();
+    let (input, inner) = (folder.file("a.fa", &long_file()), folder.path("inner"));
+    fs::create_dir(&inner).expect("a folder");
+    let mut shell = Command::new("sh");
+    shell.args([
+        "-c",
+        "trap '' XFSZ; ulimit -f 128; exec \"$@\"",
+        "sh",
+        WONTIRJE,
+        "count",
+        "--k",
+        "8",
+        "--output",
+    ]);
+    let run = run_as(shell.arg(inner.join("counts.txt")).arg(&input), b"");
+    check_no_room(&run, &inner, "File too large");
+}
+
+/// A full disk: a small one where one can be mounted, and the device that is always full.
+#[test]
+fn a_full_disk() {
+    let folder = Folder::new();
+    let (input, disk) = (folder.file("a.fa", &long_file()), folder.path("disk"));
+    fs::create_dir(&disk).expect("a folder");
+    let mount = Command::new("mount").args(["-t", "tmpfs", "-o", "size=64k", "none"]).arg(&disk).output();
+    if mount.is_ok_and(|mount| mount.status.success()) {
+        let run = count_to(&disk.join("counts.txt"), &input);
+        let left = fs::read_dir(&disk).expect("the disk").count();
+        let unmounted = Command::new("umount").arg(&disk).status();
+        assert!(unmounted.is_ok_and(|status| status.success()), "{} is still mounted", disk.display());
+        assert_eq!(left, 0, "something is left");
+        check_no_room(&run, &disk, "No space left on device");
+    }
+    let full = File::options().write(true).open("/dev/full").expect("the full device");
+    let run = Command::new(WONTIRJE).args(["count", "--k", "8"]).arg(&input).stdout(full).output();
+    let run = Run::of(run.expect("the command runs"));
+    assert_eq!(run.status, 2);
+    assert_eq!(run.complaints()[1..], ["wontirje: standard output: not written: No space left on device"]);
+}
+
+/// Nobody can be told where standard error is full: the listing comes all the same.
+#[test]
+fn standard_error_is_full() {
+    let full = File::options().write(true).open("/dev/full").expect("the full device");
+    let mut command = Command::new(WONTIRJE);
+    command.args(["count", "--k", "8", "-"]).stdin(Stdio::piped()).stdout(Stdio::piped()).stderr(full);
+    let mut child = command.spawn().expect("the command starts");
+    drop(child.stdin.take());
+    let run = Run::of(child.wait_with_output().expect("the command ends"));
+    assert_eq!((run.status, run.text().lines().count()), (0, 2));
+}
+
+/// The reader takes one line and leaves: the run ends quietly, and its status is that of the files.
+fn check_left_early(arguments: &[&str], status: i32, said: usize) {
+    let mut command = Command::new(WONTIRJE);
+    command.args(arguments).stdin(Stdio::null()).stdout(Stdio::piped()).stderr(Stdio::piped());
+    let mut child = command.spawn().expect("the command starts");
+    let mut reader = BufReader::with_capacity(64, child.stdout.take().expect("a pipe"));
+    let mut line = String::new();
+    reader.read_line(&mut line).expect("a line");
+    drop(reader);
+    let run = Run::of(child.wait_with_output().expect("the command ends"));
+    assert_eq!((run.status, run.complaints().len()), (status, said), "{line}{}", run.err);
+}
+
+#[test]
+fn standard_output_is_closed_early() {
+    let folder = Folder::new();
+    let (good, bad) = (folder.file("a.fa", &long_file()), folder.file("bad.fa", b"A"));
+    let (good, bad) = (good.to_str().expect("a name"), bad.to_str().expect("a name"));
+    check_left_early(&["count", "--k", "8", good], 0, 1);
+    check_left_early(&["count", "--k", "8", good, bad], 1, 2);
+    let codes: Vec<String> = (0..30_000).map(|code| code.to_string()).collect();
+    let words: Vec<&str> =
+        ["word", "--k", "8"].into_iter().chain(codes.iter().map(|code| &code[..])).collect();
+    check_left_early(&words, 0, 0);
+    let wide: String = (1..=100_000).map(|count| format!("(count AAA {count})\n")).collect();
+    let sum: u64 = (1..=100_000).sum();
+    let listing = format!("(survey (letters ACGT) (k 3) (mirror complement))\n{wide}(total {sum})\n");
+    let listing = folder.file("listing.txt", listing.as_bytes());
+    check_left_early(&["histogram", "--each", listing.to_str().expect("a name")], 0, 0);
+}
+
+/// A reader who was gone before the first byte.
+#[test]
+fn standard_output_is_closed_at_once() {
+    for arguments in [&["--help"][..], &["count", "--help"], &["classes"], &["code", "--k", "2", "AC"]] {
+        let mut command = Command::new(WONTIRJE);
+        let (mut reader, writer) = std::io::pipe().expect("a pipe");
+        reader.read_exact(&mut []).expect("nothing");
+        drop(reader);
+        command.args(arguments).stdout(writer).stderr(Stdio::piped());
+        let run = Run::of(command.spawn().and_then(|child| child.wait_with_output()).expect("the command"));
+        assert_eq!((run.status, &run.err[..]), (0, ""), "{arguments:?}");
+    }
+}

@@ -1,0 +1,117 @@
+//! `wontirje count` beside the counter program, on the stored runs of tests/ and on drawn inputs: survey line
+//! and file are taken apart, and the command must print the program's listing, the same five numbers, or
+//! refuse with the same number and place.
+
+mod run;
+
+use kmer_tests::draw_inputs::Inputs;
+use kmer_tests::program::{check_each, run_in_pieces};
+use kmer_tests::program_cases::{cases_by_hand, vectors};
+use kmer_tests::second_counter::{first_line, survey};
+use kmer_tests::settings::{shown_file, Settings};
+use run::{options, run_with, Run};
+use std::sync::atomic::{AtomicUsize, Ordering};
+
+/// How many inputs were compared, by what became of them.
+#[derive(Default)]
+struct Compared {
+    counted: AtomicUsize,
+    file_refused: AtomicUsize,
+    settings_refused: AtomicUsize,
+    /// Not in the command's reach: no survey line, an unknown mirror, letters that no argument can hold, an
+    /// input above 65,536 bytes, or a table above the program's 16,384 places.
+    out_of_reach: AtomicUsize,
+}
+
+impl Compared {
+    fn numbers(&self) -> [usize; 4] {
+        [&self.counted, &self.file_refused, &self.settings_refused, &self.out_of_reach]
+            .map(|number| number.load(Ordering::Relaxed))
+    }
+}
+
+/// The settings of an input, where the command can be given them.
+fn in_reach(input: &[u8]) -> Option<Settings> {
+    survey(first_line(input).0).filter(|settings| settings.mirror < 2 && !settings.letters.contains(&0))
+}
+
+fn counts(settings: &Settings, file: &[u8]) -> Run {
+    let mut arguments = vec!["count".into()];
+    arguments.extend(options(settings));
+    arguments.push("-".into());
+    run_with(&arguments, file)
+}
+
+/// The number and P of `(refused N P)`.
+fn refusal(printed: &str) -> Option<(u64, u64)> {
+    let (number, p) = printed.strip_prefix("(refused ")?.strip_suffix(")\n")?.split_once(' ')?;
+    Some((number.parse().expect("a number"), p.parse().expect("a number")))
+}
+
+/// The program's file line as the command says it.
+fn as_said(file_line: &str) -> String {
+    let inner =
+        file_line.strip_prefix("(file (").and_then(|rest| rest.strip_suffix("))\n")).expect("a file line");
+    format!("standard input: {}", inner.replace(") (", ", "))
+}
+
+/// The command prints and says what the program's output says.
+fn check(input: &[u8], output: &[u8], compared: &Compared) {
+    let printed = std::str::from_utf8(output).expect("text");
+    let refusal = refusal(printed);
+    let (Some(settings), false) = (in_reach(input), matches!(refusal, Some((7 | 13 | 14, _)))) else {
+        compared.out_of_reach.fetch_add(1, Ordering::Relaxed);
+        return;
+    };
+    let run = counts(&settings, first_line(input).1);
+    let what = || format!("input {}: status {}, {}", shown_file(input), run.status, run.err);
+    let complaint = match run.complaints()[..] {
+        [only] => only,
+        _ => panic!("{}", what()),
+    };
+    let kind = match refusal {
+        None => {
+            let at = printed.rfind("(file ").expect("a file line");
+            assert!(run.status == 0 && run.text() == &printed[..at], "{}", what());
+            assert_eq!(complaint, as_said(&printed[at..]), "{}", what());
+            &compared.counted
+        }
+        Some((number @ (10 | 11), p)) => {
+            let start = format!("standard input: refused {number} at offset {p} (line ");
+            assert!(run.status == 1 && complaint.starts_with(&start), "{}", what());
+            assert!(run.text().ends_with("))\n(total 0)\n") && run.text().lines().count() == 2, "{}", what());
+            &compared.file_refused
+        }
+        Some((number, _)) => {
+            assert!(complaint.starts_with(&format!("wontirje: refused {number}: ")), "{}", what());
+            assert!(run.status == 2 && run.out.is_empty(), "{}", what());
+            &compared.settings_refused
+        }
+    };
+    kind.fetch_add(1, Ordering::Relaxed);
+}
+
+/// A run is compared with what is stored for the program and with what the program prints now.
+#[test]
+fn stored_runs() {
+    let compared = Compared::default();
+    let cases: Vec<_> = vectors(246).into_iter().chain(cases_by_hand(96)).collect();
+    check_each(&cases, |case| {
+        assert!(run_in_pieces(&case.input, case.input.len().max(1)) == case.output, "{}", case.name);
+        check(&case.input, &case.output, &compared);
+    });
+    let [counted, file_refused, settings_refused, out_of_reach] = compared.numbers();
+    assert_eq!(counted + file_refused + settings_refused + out_of_reach, 342);
+    assert!(counted > 100 && file_refused > 20 && settings_refused > 20, "{:?}", compared.numbers());
+    assert!(out_of_reach < 170, "{:?}", compared.numbers());
+}
+
+#[test]
+fn drawn_inputs() {
+    let compared = Compared::default();
+    let mut inputs = Inputs::new(121);
+    let drawn: Vec<Vec<u8>> = (0..800).map(|_| inputs.any()).collect();
+    check_each(&drawn, |input| check(input, &run_in_pieces(input, input.len().max(1)), &compared));
+    let [counted, file_refused, settings_refused, _] = compared.numbers();
+    assert!(counted > 350 && file_refused > 40 && settings_refused > 40, "{:?}", compared.numbers());
+}

@@ -1,0 +1,93 @@
+//! `wontirje code`, `word` and `classes`: from arguments and from standard input, beside the second coder.
+
+mod run;
+
+use kmer_tests::draw::*;
+use kmer_tests::expected::{coding, reading};
+use kmer_tests::settings::*;
+use run::{options, run, run_with};
+use std::ffi::OsString;
+
+/// The cases of document 01.
+#[test]
+fn codes_and_words_of_document_01() {
+    let run_text = |arguments: &[&str]| run(arguments).text().to_string();
+    assert_eq!(run_text(&["code", "--k", "8", "TACGGCTA", "TAGCCGTA"]), "1571\n1571\n");
+    assert_eq!(run_text(&["word", "--k", "8", "1571"]), "TACGGCTA\n");
+    assert_eq!(run_text(&["code", "--k", "6", "--mirror", "reversal", "AAAACA", "ttgttt"]), "160\n159\n");
+    let all = ["word", "--k", "2", "0", "1", "2", "3", "4", "5", "6", "7", "8", "9"];
+    assert_eq!(run_text(&all), "AT\nCG\nGC\nTA\nAG\nAC\nAA\nCC\nCA\nGA\n");
+    let last = format!("G{}A\n", "T".repeat(29));
+    assert_eq!(run_text(&["word", "--k", "31", "2305843009213693951"]), last);
+}
+
+#[test]
+fn sizes_of_tables() {
+    let run = run(&["classes", "1", "11", "12", "13", "31", "32", "x"]);
+    assert_eq!(run.status, 1);
+    let right = "k 1: 2 classes, table 8 bytes\nk 11: 2097152 classes, table 8388608 bytes\n\
+        k 12: 8390656 classes, table 33562624 bytes\nk 13: 33554432 classes, too many for a table\n\
+        k 31: 2305843009213693952 classes, too many for a table\n";
+    assert_eq!(run.text(), right);
+    let refused = [
+        "32: refused 4: k is 0, or there are more than 2^62 words of k letters",
+        "x: not a k: a number in decimal digits",
+    ];
+    assert_eq!(run.complaints(), refused);
+    let run = run_with(&["classes", "--letters", "ABC", "--mirror", "reversal", "--k", "2"], b"9\n");
+    assert_eq!((run.status, run.text()), (0, "k 2: 6 classes, table 24 bytes\n"));
+    let run = run_with(&["classes", "--letters", "ABC", "--mirror", "reversal", "-"], b"2\n1\n");
+    assert_eq!(run.text(), "k 2: 6 classes, table 24 bytes\nk 1: 3 classes, table 12 bytes\n");
+}
+
+/// Lines of standard input, with either end; a refused one is told and does not stop the others.
+#[test]
+fn lines_of_standard_input() {
+    for operand in [&["code", "--k", "4"][..], &["code", "--k", "4", "-"]] {
+        let run = run_with(operand, b"ACGT\nACG\nAC*T\r\n\nacgt\r\nTTTT");
+        assert_eq!((run.status, run.text()), (1, "4\n4\n72\n"), "{operand:?}");
+        let refused = [
+            "ACG: refused 5: the word has not k letters: 3 letters, k is 4",
+            "AC*T: refused 9: a byte of the word is no letter of the settings: letter 3 of the word",
+            "an empty line: refused 5: the word has not k letters: 0 letters, k is 4",
+        ];
+        assert_eq!(run.complaints(), refused);
+    }
+    let run = run_with(&["word", "--k", "1"], b"0\n1\n2\n-1\n+1\n18446744073709551616\n\n0");
+    assert_eq!((run.status, run.text()), (1, "C\nA\nC\n"));
+    let no_code = "not a code: a number below 2^64 in decimal digits";
+    let refused = [
+        String::from("2: refused 8: the code is not below the number of classes: there are 2 classes"),
+        format!("-1: {no_code}"),
+        format!("+1: {no_code}"),
+        format!("18446744073709551616: {no_code}"),
+        format!("an empty line: {no_code}"),
+    ];
+    assert_eq!(run.complaints(), refused);
+    let run = run_with(&["code"], b"");
+    assert_eq!((run.status, run.text(), &run.err[..]), (0, "", ""));
+}
+
+/// Settings of every size, words and codes through both commands, beside the second coder.
+#[test]
+fn drawn_words_and_codes() {
+    let mut random = Random::new(161);
+    for (s, mirror, k) in good_sizes().into_iter().step_by(3) {
+        let settings = Settings::new(&drawn_capitals(&mut random, s), k, mirror);
+        let (mut input, mut codes, mut words) = (Vec::new(), String::new(), String::new());
+        for _ in 0..20 {
+            let word = drawn_near_palindrome(&mut random, s, k, mirror == COMPLEMENT);
+            let word = spelled_mixed(&mut random, &settings.letters, &word);
+            let code = coding(&settings, &word).expect("a code");
+            let canonical = reading(&settings, code, k).expect("a word");
+            input.extend([&word[..], b"\n"].concat());
+            codes += &format!("{code}\n");
+            words += &format!("{}\n", canonical.escape_ascii());
+        }
+        let with = |name: &str| [vec![OsString::from(name)], options(&settings)].concat();
+        let run = run_with(&with("code"), &input);
+        assert_eq!((run.status, run.text()), (0, &codes[..]), "{settings}: {}", run.err);
+        let run = run_with(&with("word"), codes.as_bytes());
+        assert_eq!((run.status, run.text()), (0, &words[..]), "{settings}: {}", run.err);
+    }
+}
