@@ -59,8 +59,7 @@ fn the_examples_print_what_the_help_says() {
 #[test]
 fn errors_in_the_command_line() {
     let see = |command: &str| format!("; see wontirje {command}--help");
-    let given = "(letters ACGT, k 13, mirror complement)";
-    let cases: [(&[&str], String); 17] = [
+    let cases: [(&[&str], String); 13] = [
         (&[], format!("no command given{}", see(""))),
         (&["conut"], format!("conut is no command of wontirje{}", see(""))),
         (&["a\nb"], format!("a\\nb is no command of wontirje{}", see(""))),
@@ -72,36 +71,45 @@ fn errors_in_the_command_line() {
         (&["count", "--k", "2", "--k=3", "-"], format!("--k is given twice{}", see("count "))),
         (&["count", "--k", "-2", "-"], String::from("--k -2 is no number")),
         (&["count", "--k", "", "-"], String::from("--k  is no number")),
-        (
-            &["count", "--mirror", "both", "-"],
-            String::from("refused 2: the mirror is neither reversal nor complement: --mirror both"),
-        ),
-        (
-            &["count", "--k", "13", "-"],
-            format!(
-                "refused 6: more than 16,777,216 classes, too many for a table {given}; give a smaller --k \
-                 (at most 12 for ACGT under complement); wontirje classes tells the sizes"
-            ),
-        ),
-        (
-            &["code", "--letters", "acgt", "ACGT"],
-            String::from(
-                "refused 1: the letters are not 2 to 16 different capitals (letters acgt, k 11, mirror \
-                 complement); give --letters in capitals, each once, as in --letters ACGT",
-            ),
-        ),
-        (
-            &["word", "--k", "32", "0"],
-            String::from(
-                "refused 4: k is 0, or there are more than 2^62 words of k letters (letters ACGT, k 32, mirror \
-                 complement); give a k from 1 to 31 for 4 letters (62 for 2, 39 for 3, 15 for 16)",
-            ),
-        ),
         (&["histogram"], format!("give one listing, or - for standard input{}", see("histogram "))),
         (&["histogram", "--bars", "1", "-"], String::from("--bars 1 is not from 2 to 200")),
     ];
     for (arguments, right) in cases {
         run(arguments).check_failed(&right);
+    }
+}
+
+/// Settings that the library refuses: the number of the ground, the settings and what to do, in one line.
+#[test]
+fn refused_settings() {
+    let cases: [(&[&str], &str); 5] = [
+        (
+            &["count", "--mirror", "both", "-"],
+            "refused 2: the mirror is neither reversal nor complement: --mirror both",
+        ),
+        (
+            &["count", "--k", "13", "-"],
+            "refused 6: more than 16,777,216 classes, too many for a table (letters ACGT, k 13, mirror complement); \
+             give a smaller --k (at most 12 for ACGT under complement); wontirje classes tells the sizes",
+        ),
+        (
+            &["code", "--letters", "acgt", "ACGT"],
+            "refused 1: the letters are not 2 to 16 different capitals (letters acgt, k 11, mirror complement); \
+             give --letters in capitals, each once, as in --letters ACGT",
+        ),
+        (
+            &["classes", "--letters", "ACG"],
+            "refused 3: complement needs an even number of letters (letters ACG, k 11, mirror complement); \
+             give --mirror reversal, or one letter more or less",
+        ),
+        (
+            &["word", "--k", "32", "0"],
+            "refused 4: k is 0, or there are more than 2^62 words of k letters (letters ACGT, k 32, mirror \
+             complement); give a k from 1 to 31 for 4 letters (62 for 2, 39 for 3, 15 for 16)",
+        ),
+    ];
+    for (arguments, right) in cases {
+        run(arguments).check_failed(right);
     }
 }
 

@@ -37,6 +37,16 @@ fn bars_by_hand() {
     assert_eq!((run.status, run.text()), (0, none));
 }
 
+/// A bar of few classes beside a long one is still seen; one of none is not.
+#[test]
+fn the_shortest_bar() {
+    let mut counts = vec![1; 100_000];
+    counts.push(3);
+    let run = run_with(&["histogram", "-"], listing(&counts).as_bytes());
+    let lines: Vec<&str> = run.text().lines().skip(3).collect();
+    assert_eq!(lines, ["    2        0", "    3        1  ▏"]);
+}
+
 /// The labels and numbers of the bars.
 fn rows(arguments: &[&str], counts: &[u64]) -> Vec<(String, u64)> {
     let run = run_with(arguments, listing(counts).as_bytes());
@@ -126,6 +136,7 @@ fn what_is_no_listing() {
         (whole.replace("(total 8)\n", ""), String::from("line 6: no total line: the listing is cut off")),
         (whole.replace("(total 8)\n", "(total 8"), format!("line 6: {neither}")),
         (whole.replace("AG 2", "AG 3"), String::from("line 6: the total is 8, the counts add up to 9")),
+        (whole.replace("AG 2", "AG 1"), String::from("line 6: the total is 8, the counts add up to 7")),
         (whole.replace("AG 2", "AG 0"), format!("line 4: {neither}")),
         (whole.replace("AG 2", "AN 2"), format!("line 4: {neither}")),
         (whole.replace("AG 2", "AGG 2"), format!("line 4: {neither}")),

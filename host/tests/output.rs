@@ -58,6 +58,31 @@ fn a_file_that_is_there_is_not_overwritten() {
     assert_eq!(folder.names(), ["a.fa", "counts.txt", "link"]);
 }
 
+/// A name that comes up while the files are counted is not overwritten either. The command looked for it before
+/// it said the first file's numbers, and then waits for standard input.
+#[test]
+fn a_file_that_comes_up_meanwhile_is_not_overwritten() {
+    let folder = Folder::new();
+    let (first, path) = (folder.file("a.fa", EXAMPLE), folder.path("counts.txt"));
+    let mut command = Command::new(WONTIRJE);
+    command.args(["count", "--k", "2", "--output"]).arg(&path).arg(first).arg("-");
+    command.stdin(Stdio::piped()).stderr(Stdio::piped());
+    let mut child = command.spawn().expect("the command starts");
+    let mut said = BufReader::new(child.stderr.take().expect("a pipe"));
+    said.read_line(&mut String::new()).expect("the first file's line");
+    fs::write(&path, b"kept").expect("a file");
+    drop(child.stdin.take());
+    assert_eq!(child.wait().expect("the command ends").code(), Some(2));
+    let mut rest = String::new();
+    said.read_to_string(&mut rest).expect("text");
+    assert!(
+        rest.ends_with("counts.txt: there is such a file already; only a new one is written\n"),
+        "{rest}"
+    );
+    assert_eq!(fs::read(&path).expect("the file"), b"kept");
+    assert_eq!(folder.names(), ["a.fa", "counts.txt"]);
+}
+
 #[test]
 fn a_folder_that_is_not_there() {
     let folder = Folder::new();

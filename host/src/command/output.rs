@@ -64,14 +64,13 @@ pub fn check_new(path: &Path) -> Result<(), Failure> {
 fn named(part: &Path, path: &Path) -> io::Result<()> {
     match fs::hard_link(part, path) {
         Ok(()) => fs::remove_file(part),
-        Err(error) if error.kind() == ErrorKind::AlreadyExists => Err(error),
-        Err(_) => fs::rename(part, path),
+        Err(_) if path.symlink_metadata().is_err() => fs::rename(part, path),
+        Err(error) => Err(error),
     }
 }
 
 /// Writes a new file: under a temporary name, then to the disk, then under its own name.
 pub fn to_new_file(path: &Path, write: Writing) -> Result<(), Failure> {
-    check_new(path)?;
     let part = temporary(path);
     let mut file = File::create_new(&part).map_err(|error| match error.kind() {
         ErrorKind::AlreadyExists => failed(&part, error),

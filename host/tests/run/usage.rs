@@ -1,6 +1,7 @@
 //! What a process took, as the system measured it: processor time, and the peak of the memory that it had
-//! resident. For the tests of memory and, by its path, for bench/. The system counts the peak of the process that
-//! started another one as part of the other's, so that `own_peak` must be small where `ended` is to mean anything.
+//! resident. For the tests of memory and, by its path, for bench/. The system counts the peak of the process
+//! that started another one as part of the other's, so that `own_peak` must be small where `ended` is to mean
+//! anything.
 
 use std::fs;
 use std::process::Child;
