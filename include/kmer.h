@@ -7,21 +7,23 @@
  * A plain rank (the ranks of the letters read as base-s digits) counts all words, a code counts
  * classes: neither may be used for the other.
  *
- * Settings, the first arguments of every call:
+ * Settings, the first arguments of every call (kmer_codes_two_bit takes only k):
  *   letters, letters_len  the alphabet: 2 to 16 different capitals A to Z, one byte each, no end byte.
  *                         A letter's rank is its place in this list, from 0. s is their number. DNA is ACGT.
  *   k                     the letters in a word: at least 1, and s^k at most 2^62. The largest k is 62
  *                         for two letters, 39 for three, 31 for four, 15 for sixteen.
  *   mirror                KMER_REVERSAL or KMER_COMPLEMENT; the latter needs an even s.
  *
- * Every pointer comes with its length in bytes, may be NULL where that length is 0, and must otherwise
- * point to as many bytes. Nothing need end in a 0 byte. A buffer that is written must not overlap one that
- * is read. Whatever the numbers and bytes are, a call returns and touches no other memory; it never writes
- * to letters, word, sequence or file, and only kmer_clear and kmer_add write to a table. The calls keep no
- * state, so several threads may call at once, each with a buffer of its own.
+ * Every pointer comes with its length in elements of its type (bytes, 32-bit counts or 64-bit numbers),
+ * may be NULL where that length is 0, and must otherwise point to as many elements. Nothing need end in a
+ * 0 byte. A buffer that is written must not overlap any other lent buffer. Whatever the numbers and bytes
+ * are, a call returns and touches no other memory; it never writes to letters, word, sequence or file, and
+ * only kmer_clear and kmer_add write to a table. The calls keep no state, so several threads may call at
+ * once, each with a buffer of its own.
  *
  * An answer below 2^63 is a result. An answer from 2^63 on is a refusal: see kmer_is_refused below.
- * Of several grounds for refusing that apply, the one with the lowest number is returned.
+ * Of several grounds for refusing that apply, the one with the lowest number is returned; of 10 and 11 the
+ * one at the earlier byte.
  */
 #ifndef KMER_H
 #define KMER_H

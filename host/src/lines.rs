@@ -1,6 +1,6 @@
 //! The listing of a table line by line (document 01, "Listing and counter program": "line by line, with less
-//! memory"). The library writes the listing whole into one buffer, some 200 MB for the largest tables; this
-//! needs a line's room.
+//! memory"). The library writes the listing whole into one buffer, up to some 750 MB for the largest tables;
+//! this needs a line's room.
 
 use crate::refusal::Refusal;
 use crate::settings::Settings;

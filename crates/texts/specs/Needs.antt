@@ -1,4 +1,4 @@
--- What writers of texts promise each other; no claim and no public contract rests on it. Every byte has its place whether the buffer has that
+-- What writers of texts promise; no claim and no call of document 01 rests on it. Every byte has its place whether the buffer has that
 -- place or not, so that writers one after the other need no condition.
 use mathlib.Core.Path.{_≡_}
 use Prim.Native.Nat.{ℕ, _+_, _≤_, min}

@@ -1,5 +1,5 @@
 //! Reads a listing, or what the counter program prints: how many classes have each count. The counts must add
-//! up to the total, so that a listing that was cut off or changed is found out.
+//! up to the total, so that a listing that was cut off is found out.
 
 use crate::failure::reason;
 use std::collections::BTreeMap;
