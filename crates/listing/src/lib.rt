@@ -129,14 +129,14 @@ pub fn put_listing(out: &mut [u8], letters: &[u8], k: usize, mirror: u64, counts
 }
 
 // The length of a class's line, its word having k letters.
-fn line_length(k: usize, n: u32) -> usize
+fn line_length(k: usize, count: u32) -> usize
     requires { ⌜ k ≤ 62 ⌝ }
-    ensures { λ r. ⌜ r ≡ lineLength k n ⌝ }
+    ensures { λ r. ⌜ r ≡ lineLength k count ⌝ }
 {
-    if n == 0 {
+    if count == 0 {
         return 0;
     }
-    10 + k + texts::digit_count(n as u64)
+    10 + k + texts::digit_count(count as u64)
 }
 
 fn lines_length(k: usize, counts: &[u32]) -> usize
@@ -144,10 +144,10 @@ fn lines_length(k: usize, counts: &[u32]) -> usize
     ensures { λ r. ⌜ r ≡ linesLength k (now (counts .entry)) ⌝ }
 {
     let mut sum: usize = 0;
-    let mut i: usize = 0;
-    while i < counts.len() {
-        sum += line_length(k, counts[i]);
-        i += 1;
+    let mut j: usize = 0;
+    while j < counts.len() {
+        sum += line_length(k, counts[j]);
+        j += 1;
     }
     sum
 }

@@ -17,7 +17,6 @@ use Rattle.fasta.specs.declared.Numbers.{Numbers}
 use Rattle.fasta.specs.File.{itemsFrom, fileFault, fileNumbers}
 use Rattle.settings.specs.RankTables.{rankByTable}
 use Rattle.sequence.specs.declared.kernels.Coder.{Coder}
-use Rattle.laws.specs.Each.{Each}
 use Rattle.laws.specs.Windows.{windows}
 use Rattle.table.specs.Table.{bumps, places, full, tooMany, unlessRefused, lateTable}
 use Rattle.table.specs.declared.batches.Mark.{Mark}

@@ -16,13 +16,13 @@ digit-count-requires : tie.Need-digit-count-requires
 digit-count-requires c κs = search needs
 
 add-result-2 : tie.Need-add-result-2
-add-result-2 c = omega (arith, c .digit-count .ensures, decimal-length 19 (c .before .before .args .n) (omega arith))
+add-result-2 c = omega (arith, c .digit-count .ensures, decimal-length 19 (c .before .before .args .count) (omega arith))
 
 returns-2 : tie.Need-returns-2
 returns-2 c =
     let test = c .before in
     let a = test .before .args in
-    omega (arith, c .digit-count .ensures, counted-length (a .k) (a .n) (test .if1 .left))
+    omega (arith, c .digit-count .ensures, counted-length (a .k) (a .count) (test .if1 .left))
 
 pub line-length-spec : {M : Type 1} → statement M
 line-length-spec =

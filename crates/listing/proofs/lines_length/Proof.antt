@@ -10,10 +10,10 @@ use Rattle.listing.proofs.lines_length.Statement.{statement}
 use Rattle.listing.proofs.lines_length.Tie as tie
 
 abbrev Inv-loop : tie.InvT-loop
-Inv-loop k counts sum₀ i₀ sum i = (linesLength k counts ≡ sum + linesLength k (drop i counts)) × (i ≤ length counts) × (sum ≤ 82 * i)
+Inv-loop k counts sum₀ j₀ sum j = (linesLength k counts ≡ sum + linesLength k (drop j counts)) × (j ≤ length counts) × (sum ≤ 82 * j)
 
 abbrev μ-loop : tie.MeasureT-loop
-μ-loop k counts sum₀ i₀ sum i = length counts - i
+μ-loop k counts sum₀ j₀ sum j = length counts - j
 
 loop-holds : tie.Need-loop-holds Inv-loop μ-loop
 loop-holds c = (omega arith, omega arith, omega arith)
@@ -32,12 +32,12 @@ add-sum c =
     let known = c .before in
     let loop = known .before .before in
     let start = loop .before .before in
-    let n = getD (now (start .args .counts)) (loop .loop .i) 0 in
-    let short = line-short (start .args .k) n (start .pre .0) (omega (arith, known .shared-slice-known2 .given (loop .loop .i))) in
+    let n = getD (now (start .args .counts)) (loop .loop .j) 0 in
+    let short = line-short (start .args .k) n (start .pre .0) (omega (arith, known .shared-slice-known2 .given (loop .loop .j))) in
     omega (arith, c .line-length .ensures, short, loop .loop .inv .2, start .pre .1)
 
-add-i : tie.Need-add-i Inv-loop μ-loop
-add-i c = omega arith
+add-j : tie.Need-add-j Inv-loop μ-loop
+add-j c = omega arith
 
 loop-less : tie.Need-loop-less Inv-loop μ-loop
 loop-less c = omega arith
@@ -49,16 +49,16 @@ loop-again c =
     let loop = test .before in
     let start = loop .before .before in
     let counts = now (start .args .counts) in
-    let n = getD counts (loop .loop .i) 0 in
-    let short = line-short (start .args .k) n (start .pre .0) (omega (arith, known .shared-slice-known2 .given (loop .loop .i))) in
-    let step = lines-step (start .args .k) counts (loop .loop .i) (test .loop-test .taken) in
+    let n = getD counts (loop .loop .j) 0 in
+    let short = line-short (start .args .k) n (start .pre .0) (omega (arith, known .shared-slice-known2 .given (loop .loop .j))) in
+    let step = lines-step (start .args .k) counts (loop .loop .j) (test .loop-test .taken) in
     (omega (arith, loop .loop .inv .0, step, c .line-length .ensures), omega arith, omega (arith, c .line-length .ensures, short, loop .loop .inv .2))
 
 returns : tie.Need-returns Inv-loop μ-loop
 returns c =
     let loop = c .before in
     let start = loop .before .before in
-    omega (arith, loop .loop .inv .0, lines-end (start .args .k) (now (start .args .counts)) (loop .loop .i) (c .loop-test .left))
+    omega (arith, loop .loop .inv .0, lines-end (start .args .k) (now (start .args .counts)) (loop .loop .j) (c .loop-test .left))
 
 pub lines-length-spec : {M : Type 1} → statement M
 lines-length-spec =
@@ -71,7 +71,7 @@ lines-length-spec =
     shared-slice-read-line-length
     line-length-requires
     add-sum
-    add-i
+    add-j
     loop-less
     loop-again
     returns)
