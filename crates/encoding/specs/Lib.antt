@@ -1,4 +1,4 @@
--- What a reader must believe of the encoding, in the order of document 01; and, last, what only private functions and laws speak of.
+-- What a reader must believe of the encoding, in the order of document 01; and, last, what only functions below the calls and laws speak of.
 pub mod Words
 pub mod Codes
 pub mod WordsOfCodes

@@ -1,4 +1,4 @@
--- What private functions ask of each other and promise each other: the scan takes item by item. No claim and no public contract rests on it.
+-- What functions below the calls ask of each other and promise each other: the scan takes item by item. No claim and no call of document 01 rests on it.
 use Prim.Native.Nat.{ℕ, _+_, _≤_}
 use mathlib.Core.Bool.{cond}
 use mathlib.Core.Option.{Option, none, some}

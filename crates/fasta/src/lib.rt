@@ -140,7 +140,7 @@ fn with_letter(t: Tally, rank: u8, k: usize) -> Tally
             foreign: t.foreign + 1,
             edge: t.edge,
             windows: t.windows,
-            run: 0, // nor over a foreign letter
+            run: 0, // no window runs over a foreign letter
         };
     }
     if k <= t.run + 1 {

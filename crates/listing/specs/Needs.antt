@@ -1,4 +1,4 @@
--- What private functions ask of each other. No claim and no public contract rests on it.
+-- What functions ask of each other. No claim and no call of document 01 rests on it; `put_listing`, which the program uses, does.
 use mathlib.Core.Path.{_≡_}
 use Prim.Native.Nat.{ℕ, zero, suc, _+_, _≤_}
 use mathlib.Core.Option.{none}

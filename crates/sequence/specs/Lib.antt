@@ -1,4 +1,4 @@
--- What a reader must believe of the codes along a sequence, in the order of document 01; and, last, what only private functions ask of each other.
+-- What a reader must believe of the codes along a sequence, in the order of document 01; and, last, what functions ask of each other.
 pub mod Windows
 pub mod Sequences
 pub mod Needs

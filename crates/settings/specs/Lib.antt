@@ -1,4 +1,5 @@
--- What a reader must believe of the settings: the grounds for refusing and how a call reports them; letters, k and mirror.
+-- What a reader must believe of the settings: the grounds for refusing and how a call reports them; letters, k and mirror. Last, what functions ask
+-- of a table of ranks (RankTables), on which no claim rests.
 pub mod Grounds
 pub mod Settings
 pub mod Limits

@@ -1,4 +1,4 @@
--- What private functions ask of each other and promise each other. No claim and no public contract rests on it.
+-- What functions below the calls ask of each other and promise each other. No claim and no call of document 01 rests on it.
 use mathlib.Core.Path.{_≡_}
 use Prim.Native.Nat.{ℕ, _+_, _-_, _<_, _≤_, max}
 use mathlib.Core.Bool.{Bool, true, false, cond}

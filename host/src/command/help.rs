@@ -48,7 +48,7 @@ pub const CODE: &str = "\
 wontirje code [--letters ACGT] [--k 11] [--mirror complement] [WORD...]
 
 Prints the code of each word's class, one a line; the words are read from standard input, one a line, where
-none is given or - is. A word and its mirror have the same code. A refused word is named on standard error
+none is given, or only -. A word and its mirror have the same code. A refused word is named on standard error
 instead.
 
 Example:
@@ -59,7 +59,7 @@ pub const WORD: &str = "\
 wontirje word [--letters ACGT] [--k 11] [--mirror complement] [CODE...]
 
 Prints the canonical word of each code, one a line; the codes are read from standard input, one a line,
-where none is given or - is. A refused code is named on standard error instead.
+where none is given, or only -. A refused code is named on standard error instead.
 
 Example:
   wontirje word --k 8 1571                          prints TACGGCTA
