@@ -142,7 +142,11 @@ fn what_is_no_listing() {
         (whole.replace("AG 2", "AGG 2"), format!("line 4: {neither}")),
         (whole.replace("AG 2", "AG 4294967296"), format!("line 4: {neither}")),
         (whole.replace("AG 2", &"x".repeat(1000)), format!("line 4: {neither}")),
-        (format!("{whole}more\n"), String::from("line 7: nothing may follow the total")),
+        (format!("{whole}more\n"), String::from("line 7: nothing may follow the listing")),
+        (
+            format!("{whole}(file (records 1) (letters 9) (foreign 0) (edge 1) (windows 8))\n{whole}"),
+            String::from("line 8: nothing may follow the listing"),
+        ),
         (
             whole.replace("(letters ACGT)", "(letters ACG)"),
             String::from("line 1: refused 3: complement needs an even number of letters"),

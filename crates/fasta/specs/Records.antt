@@ -35,8 +35,9 @@ lineEnd file h = lfFrom file (h + 1) (length file - (h + 1))
 abbrev pub headerLength : List ℕ → ℕ → ℕ → ℕ
 headerLength file h e = cond (eqb (getD file (e - 1) 0) 13) (e - 1 - h) (e - h)
 
--- The record whose header starts at h and whose header line's LF is at e: "the header line without its end, and all bytes from the next
--- line to the next header or the file's end"; "A header that the file's end cuts off has a second part of length 0 at the file's length."
+-- The record whose header starts at h and whose header line's LF is at e, the file's length where it is cut off: "the header line without its
+-- end, and all bytes from the next line to the next header or the file's end"; "A header that the file's end cuts off has a second part of
+-- length 0 at the file's length."
 unfoldable pub recordTo : List ℕ → ℕ → ℕ → Found
 recordTo file h e =
     cond (ltb e (length file))

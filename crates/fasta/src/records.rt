@@ -64,7 +64,7 @@ fn line_end(file: &[u8], h: usize) -> usize
     i
 }
 
-// The record whose header starts at h and whose header line's LF is at e.
+// The record whose header starts at h and whose header line's LF is at e, the file's length where the file's end cuts it off.
 fn record_to(file: &[u8], h: usize, e: usize) -> Found
     requires { ⌜ (h < e) × (e ≤ length (now file)) ⌝ }
     ensures { λ r. ⌜ r ≡ recordTo (now (file .entry)) h e ⌝ }

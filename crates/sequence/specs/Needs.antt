@@ -72,13 +72,13 @@ pub record TwoBitWindow (k e : ℕ) (d : List ℕ) (j x y : ℕ) : Type 0 where
   pub ahead : x ≡ plain 4 (part j k d)
   pub behind : y ≡ plain 4 (mirror 4 Complement (part j k d))
 
--- Two numbers differ in their q lowest letters of two bits, and in the highest of these.
+-- Two numbers differ only within their q lowest letters of two bits, and in the highest of these.
 pub record Differ (a b q : ℕ) : Type 0 where
   pub few : q ≤ 32
   pub same : a / 4 ^ q ≡ b / 4 ^ q
   pub other : 1 ≤ q → a / 4 ^ (q - 1) ≢ b / 4 ^ (q - 1)
 
--- The lower and the higher of two plain ranks, which differ in their q lowest letters.
+-- The lower and the higher of two plain ranks, which differ only within their q lowest letters, and in the highest of these.
 pub record Ordered (x y a b q : ℕ) : Type 0 where
   pub lower : a ≡ min x y
   pub higher : b ≡ max x y

@@ -131,7 +131,7 @@ fn differing_code(
     (top + t.palindromes) / 2 + q * low + w
 }
 
-// The same of the window within, two letters shorter.
+// What is kept of the window within, two letters shorter.
 fn inner_window(
     d: &[u8],
     j: usize,

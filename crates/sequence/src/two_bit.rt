@@ -51,7 +51,7 @@ fn letters_between(a: u64, lo: u64, hi: u64) -> u64
     a & (power_of_four(hi) - power_of_four(lo))
 }
 
-// In how many of their lowest letters two numbers differ.
+// How many lowest letters reach up to the highest one that differs; 0 where none does.
 fn differing_letters(a: u64, b: u64) -> u64
     ensures { λ r. ⌜ Differ a b r ⌝ }
 {

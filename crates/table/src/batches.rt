@@ -87,8 +87,8 @@ fn gathered_to(at: usize, mode: Mode, letters: usize, ended: bool) -> Gathered
     }
 }
 
-// Gathers letters of one run behind the first n of the array, from the place `from` of the file on. A byte that is no letter is written too, and
-// overwritten by the next: that saves a branch that could not be foreseen. A full array ends no run.
+// Gathers letters of one run behind the first n of the array, from the place `from` of the file on. A byte that neither is a letter nor
+// ends the run is written too, as rank 0, and overwritten by the next: that saves a branch that could not be foreseen. A full array ends no run.
 fn gather(
     file: &[u8],
     table: &[u8; 256],

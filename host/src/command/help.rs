@@ -17,7 +17,8 @@ Settings of all but histogram, and what they are when not given:
 Example:
   wontirje count reads.fa > counts.txt && wontirje histogram counts.txt
 
-Exit status: 0 all was taken in, 1 something was refused, 2 the command could not do its work.
+Exit status: 0 all was taken in, 1 something was refused or a file could not be read, 2 the command could
+not do its work.
 See wontirje COMMAND --help. Codes and counts are the library's, which is proved; the command is tested.
 ";
 
@@ -33,7 +34,7 @@ and does not stop the others.
 
   --output FILE   write the listing to a new file, which appears only when it is whole; a file that is there
                   already is not overwritten
-  --strict        stop at the first file that is refused, and print no listing
+  --strict        stop at the first file that is refused or not read, and print no listing
   --no-listing    print no listing, only the line for each file
 
 A file has at most 16,777,216 bytes; split larger ones between records. For ACGT under complement k is at
@@ -79,8 +80,8 @@ pub const HISTOGRAM: &str = "\
 wontirje histogram [--bars 40] [--each] [--svg FILE] LISTING
 
 Prints how many classes of a listing have each count, with bars; - is standard input. Classes without a
-count are in no bar. Where there are more counts than --bars, each bar stands for several, and the last one
-for all above.
+count are in no bar. Where the highest count is above --bars, a bar may stand for several counts, and the
+last one for all above.
 
   --bars N     at most N bars, 2 to 200
   --each       print a line for each count that some class has, however many

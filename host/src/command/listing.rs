@@ -104,9 +104,13 @@ pub fn read(from: impl BufRead) -> Result<Listing, String> {
     if total != listing.total {
         return Err(lines.fault(&format!("the total is {total}, the counts add up to {}", listing.total)));
     }
-    // The counter program prints the file's numbers after the listing.
-    match lines.next()? {
-        Some(line) if !line.starts_with("(file (") => Err(lines.fault("nothing may follow the total")),
-        _ => Ok(listing),
+    // The counter program prints the file's numbers after the listing, and nothing after these.
+    let mut after = lines.next()?;
+    if after.is_some_and(|line| line.starts_with("(file (")) {
+        after = lines.next()?;
+    }
+    match after {
+        Some(_) => Err(lines.fault("nothing may follow the listing")),
+        None => Ok(listing),
     }
 }

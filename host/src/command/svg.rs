@@ -37,7 +37,8 @@ fn grouped(number: u64) -> String {
     text
 }
 
-/// The distance between two lines of the scale: 1, 2 or 5 times a power of ten, with at most 5 lines.
+/// The distance between two lines of the scale: 1, 2 or 5 times a power of ten, with at most 5 lines above
+/// the base.
 fn step(highest: u64) -> u64 {
     let mut power = 1;
     loop {
