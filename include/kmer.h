@@ -15,11 +15,13 @@
  *   mirror                KMER_REVERSAL or KMER_COMPLEMENT; the latter needs an even s.
  *
  * Every pointer comes with its length in elements of its type (bytes, 32-bit counts or 64-bit numbers),
- * may be NULL where that length is 0, and must otherwise point to as many elements. Nothing need end in a
- * 0 byte. A buffer that is written must not overlap any other lent buffer. Whatever the numbers and bytes
- * are, a call returns and touches no other memory; it never writes to letters, word, sequence or file, and
- * only kmer_clear and kmer_add write to a table. The calls keep no state, so several threads may call at
- * once, each with a buffer of its own.
+ * may be NULL where that length is 0, and must otherwise be aligned for its type and point to as many
+ * elements. Nothing need end in a 0 byte. A buffer that is written must not overlap any other lent buffer.
+ * Whatever the numbers and bytes are, a call returns and touches no other memory; it never writes to
+ * letters, word, sequence or file, and only kmer_clear and kmer_add write to a table. The calls keep no
+ * state, so several threads may call at once; they may share what is only read, and what a call writes must
+ * be that call's alone. While a call runs nobody else may write to memory that is lent to it, nor read what
+ * it writes.
  *
  * An answer below 2^63 is a result. An answer from 2^63 on is a refusal: see kmer_is_refused below.
  * Of several grounds for refusing that apply, the one with the lowest number is returned; of 10 and 11 the
@@ -50,7 +52,7 @@ enum kmer_grounds {
     KMER_BAD_LENGTH = 5,     /* word_len is not k */
     KMER_TOO_LARGE = 6,      /* the sequence or file is above 16,777,216 bytes; in table calls also:
                                 there are more than 16,777,216 classes */
-    KMER_SHORT_BUFFER = 7,   /* the lent buffer is too short; P is the length needed */
+    KMER_SHORT_BUFFER = 7,   /* a lent buffer is too short; P is the length needed */
     KMER_BAD_CODE = 8,       /* code is not below the number of classes */
     KMER_FOREIGN_BYTE = 9,   /* a byte of word is no letter of the settings; P is the first such place */
     KMER_STRAY_BYTE = 10,    /* a byte of the file belongs neither to a header nor to a line of letters; P is

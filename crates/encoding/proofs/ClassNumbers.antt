@@ -14,15 +14,15 @@ use Rattle.encoding.specs.Words.{Mirror, Reversal, Complement}
 use Rattle.encoding.specs.Codes.{shift, oddShift}
 use Rattle.encoding.specs.Needs.{palindromes}
 
-pub half-of : {a b : ℕ} → a ≡ 2 * b → a / 2 ≡ b
+half-of : {a b : ℕ} → a ≡ 2 * b → a / 2 ≡ b
 half-of e = omega arith
 
 -- Halves of k, by recursion in steps of two.
-pub halfUp-suc : (n : ℕ) → halfUp (suc (suc n)) ≡ suc (halfUp n)
+halfUp-suc : (n : ℕ) → halfUp (suc (suc n)) ≡ suc (halfUp n)
 unfolding halfUp
 halfUp-suc n = omega arith
 
-pub isOdd-suc : (n : ℕ) → isOdd (suc (suc n)) ≡ isOdd n
+isOdd-suc : (n : ℕ) → isOdd (suc (suc n)) ≡ isOdd n
 unfolding isOdd
 isOdd-suc n = let e : suc (suc n) % 2 ≡ n % 2 = omega arith in ap (λ (x : ℕ). eqb x 1) e
 
@@ -30,16 +30,16 @@ even-half : (n : ℕ) → isOdd n ≡ false → n / 2 ≡ halfUp n
 unfolding isOdd halfUp
 even-half n e = omega (arith, eqb-false (n % 2) 1 e)
 
-pub halfUp-le : (n : ℕ) → halfUp n ≤ n
+halfUp-le : (n : ℕ) → halfUp n ≤ n
 unfolding halfUp
 halfUp-le n = omega arith
 
-pub halfUp-twice : (n : ℕ) → (n ≤ 2 * halfUp n) × (2 * halfUp n ≤ n + 1)
+halfUp-twice : (n : ℕ) → (n ≤ 2 * halfUp n) × (2 * halfUp n ≤ n + 1)
 unfolding halfUp
 halfUp-twice n = omega arith
 
 -- s ^ n and s ^ (n/2 rounded up) are both odd or both even
-pub same-parity : (s n : ℕ) → (t : ℕ) × (s ^ n + s ^ halfUp n ≡ 2 * t)
+same-parity : (s n : ℕ) → (t : ℕ) × (s ^ n + s ^ halfUp n ≡ 2 * t)
 unfolding halfUp
 same-parity s zero = (1, omega (arith, pow-zero s))
 same-parity s (suc zero) = (s ^ 1, omega arith)
@@ -53,6 +53,7 @@ unfolding isOdd
 odd-even-pow s zero h e = absurd (false≢true e)
 odd-even-pow s (suc n) h e = even-pow s n h
 
+-- Twice the number of classes is s^n and the number of palindromes: the division by 2 in `classes` loses nothing.
 pub twice-classes : (s : ℕ) (m : Mirror) (n : ℕ) → EvenUnder s m → 2 * classes s m n ≡ s ^ n + palindromes s m n
 unfolding classes palindromes
 twice-classes s Reversal n h = let (t, e) = same-parity s n in omega arith
@@ -62,6 +63,7 @@ twice-classes s Complement n h = go (isOdd n) refl
     go true e = let (t, f) = odd-even-pow s n h e in omega arith
     go false e = let (t, f) = same-parity s n in rw (even-half n e) (omega arith)
 
+-- A word two letters longer: s times as many palindromes.
 pub palindromes-suc : (s : ℕ) (m : Mirror) (n : ℕ) → palindromes s m (suc (suc n)) ≡ s * palindromes s m n
 unfolding palindromes
 palindromes-suc s Reversal n = rw (halfUp-suc n) (omega (arith, pow-suc s (halfUp n)))
@@ -71,6 +73,7 @@ palindromes-suc s Complement n = rw (halfUp-suc n, isOdd-suc n) (go (isOdd n))
     go true = omega arith
     go false = omega (arith, pow-suc s (halfUp n))
 
+-- classes(n + 2) = s classes(n) + s(s - 1)/2 s^n: equal outer letters around each class, or a pair that differs around each word.
 pub classes-suc : (s : ℕ) (m : Mirror) (n : ℕ) → EvenUnder s m → classes s m (suc (suc n)) ≡ s * classes s m n + pairCount s * s ^ n
 classes-suc s m n h =
     omega (
@@ -91,7 +94,7 @@ odd-even-ceil s (suc zero) h e = even-pow s 0 h
 odd-even-ceil s (suc (suc n)) h e =
     subst⁻¹ (λ (c : ℕ). (t : ℕ) × (s ^ c ≡ 2 * t)) (halfUp-suc n) (even-pow s (halfUp n) h)
 
-pub odd-palindromes : (s : ℕ) (m : Mirror) (n : ℕ) → EvenUnder s m → palindromes s m n + 2 * oddShift s m n ≡ s ^ halfUp n
+odd-palindromes : (s : ℕ) (m : Mirror) (n : ℕ) → EvenUnder s m → palindromes s m n + 2 * oddShift s m n ≡ s ^ halfUp n
 unfolding palindromes oddShift
 odd-palindromes s Reversal n h = omega arith
 odd-palindromes s Complement n h = go (isOdd n) refl

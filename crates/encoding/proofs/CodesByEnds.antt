@@ -44,12 +44,14 @@ module _ (s : ℕ) (m : Mirror) (hs : 1 < s) (he : EvenUnder s m) where
         ap (code s m (suc (suc n))) (sym (mirror-ends s m a b u))
         ∙ code-mirror s m hs he (suc (suc n)) (a ∷ (u ++ (b ∷ []))) (length-ends n a b u l) h
 
+  -- A first letter below the last as the mirror shows it: behind all words of equal outer letters, by the pair, then by the plain rank of the inner letters.
   pub code-less : (n a b : ℕ) (u : List ℕ) (l : length u ≡ n) (h : Ranks s (a ∷ (u ++ (b ∷ [])))) → a < mirrorRank s m b
       → code s m (suc (suc n)) (a ∷ (u ++ (b ∷ []))) ≡ s * classes s m n + pairRank s a (mirrorRank s m b) * s ^ n + plain s u
   code-less n a b u l h g =
       code-low (suc (suc n)) (a ∷ (u ++ (b ∷ []))) (length-ends n a b u l) h (differ-canonical s m n a b u l h g)
       ∙ codeRec-differ s m n a b u l (λ e. omega arith)
 
+  -- A first letter above it: the same of the word's mirror, so the pair turned round and the plain rank of the inner letters' mirror.
   pub code-more : (n a b : ℕ) (u : List ℕ) (l : length u ≡ n) (h : Ranks s (a ∷ (u ++ (b ∷ [])))) → mirrorRank s m b < a
       → code s m (suc (suc n)) (a ∷ (u ++ (b ∷ []))) ≡ s * classes s m n + pairRank s (mirrorRank s m b) a * s ^ n + plain s (mirror s m u)
   code-more n a b u l h g =
@@ -65,6 +67,7 @@ module _ (s : ℕ) (m : Mirror) (hs : 1 < s) (he : EvenUnder s m) where
       ∙ codeRec-same s m n a b u l e
       ∙ rw (code-low n u l (inner-ranks s m n a b u l h) g, e)
 
+  -- Equal outer letters: s times the code within, plus that letter.
   pub code-same : (n a b : ℕ) (u : List ℕ) (l : length u ≡ n) (h : Ranks s (a ∷ (u ++ (b ∷ [])))) → a ≡ mirrorRank s m b
       → code s m (suc (suc n)) (a ∷ (u ++ (b ∷ []))) ≡ s * code s m n u + a
   code-same n a b u l h e =
@@ -89,6 +92,7 @@ other-one : (s : ℕ) (hs : 1 < s) (he : EvenUnder s Complement) (a : ℕ) → a
 unfolding mirror mirrorRank middleOfCode
 other-one s hs he a h g = one-low s Complement hs he (s - 1 - a) (omega arith) (omega arith)
 
+-- A word of one letter has that code.
 pub code-one : (s : ℕ) (m : Mirror) (hs : 1 < s) (he : EvenUnder s m) (a : ℕ) → a < s → code s m 1 (a ∷ []) ≡ middleCode s m a
 unfolding middleCode middleOfCode mirrorRank
 code-one s Reversal hs he a h = one-low s Reversal hs he a h (omega arith)

@@ -36,7 +36,7 @@ module _ (s R : ℕ) (hs : 1 < s) (few : s ≤ 16) (hR : R < pairCount s) where
   pub first-small : R / s ≤ R
   first-small = div-le-self R s
 
-  pub pair-value-small : (n x : ℕ) → x < s ^ n → s ^ suc (suc n) ≤ 2 ^ 62 → (R + s) * s ^ n + x < 2 ^ 62
+  pair-value-small : (n x : ℕ) → x < s ^ n → s ^ suc (suc n) ≤ 2 ^ 62 → (R + s) * s ^ n + x < 2 ^ 62
   pair-value-small n x hx g =
       omega (arith, value-differ-lt s R (s ^ n) x hs hR hx, pow-suc s (suc n), ap (λ (y : ℕ). y * s) (pow-suc s n))
 

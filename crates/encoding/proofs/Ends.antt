@@ -60,7 +60,7 @@ pub Ranks-right : (s : ℕ) (u v : List ℕ) → Ranks s (u ++ v) → Ranks s v
 Ranks-right s [] v h = h
 Ranks-right s (a ∷ u) v h = Ranks-right s u v (h .1)
 
-pub plain-append : (s : ℕ) (u v : List ℕ) → plain s (u ++ v) ≡ plain s u * s ^ length v + plain s v
+plain-append : (s : ℕ) (u v : List ℕ) → plain s (u ++ v) ≡ plain s u * s ^ length v + plain s v
 unfolding plain
 plain-append s [] v = omega arith
 plain-append s (a ∷ u) v =

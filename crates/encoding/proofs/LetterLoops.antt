@@ -15,11 +15,11 @@ use Rattle.encoding.specs.Words.{Ranks, Mirror, mirror}
 use Rattle.encoding.specs.WordsOfCodes.{wordOf}
 
 module _ (letters word : List ℕ) (i : ℕ) where
-  pub ranks-next : i < length word → ranksOf letters (take (i + 1) word) ≡ ranksOf letters (take i word) ++ (rankAt letters (getD word i 0) ∷ [])
+  ranks-next : i < length word → ranksOf letters (take (i + 1) word) ≡ ranksOf letters (take i word) ++ (rankAt letters (getD word i 0) ∷ [])
   unfolding ranksOf
   ranks-next h = rw (add-one i, take-suc word i 0 h) (map-snoc (rankAt letters) (take i word) (getD word i 0))
 
-  pub length-ranks : i ≤ length word → length (ranksOf letters (take i word)) ≡ i
+  length-ranks : i ≤ length word → length (ranksOf letters (take i word)) ≡ i
   unfolding ranksOf
   length-ranks h = length-map (take i word) (rankAt letters) ∙ length-take-le i word h
 

@@ -9,7 +9,7 @@ use Rattle.encoding.specs.Codes.{pairRank}
 use Rattle.encoding.specs.WordsOfCodes.{pairOfRank}
 
 -- The rank with no subtraction and no division.
-pub rank-twice : (s l r : ℕ) → l < r → r < s → 2 * pairRank s l r + l * l + 3 * l + 2 ≡ 2 * (l * s) + 2 * r
+rank-twice : (s l r : ℕ) → l < r → r < s → 2 * pairRank s l r + l * l + 3 * l + 2 ≡ 2 * (l * s) + 2 * r
 unfolding pairRank
 rank-twice s l r h g =
     let d : ℕ = 2 * s - 3 - l in
@@ -21,10 +21,10 @@ rank-twice s l r h g =
     half : (x y l₀ t r₀ : ℕ) → x + l₀ * l₀ + 3 * l₀ ≡ 2 * y → 0 < r₀ → l₀ * l₀ ≡ l₀ + 2 * t → 2 * (x / 2 + r₀ - 1) + l₀ * l₀ + 3 * l₀ + 2 ≡ 2 * y + 2 * r₀
     half x y l₀ t r₀ e p q = omega arith
 
-pub rank-zero : (s r : ℕ) → 0 < r → r < s → pairRank s 0 r ≡ r - 1
+rank-zero : (s r : ℕ) → 0 < r → r < s → pairRank s 0 r ≡ r - 1
 rank-zero s r h g = omega (arith, rank-twice s 0 r h g)
 
-pub rank-suc : (t l r : ℕ) → l < r → r ≤ t → pairRank (suc (suc t)) (suc l) (suc r) ≡ suc t + pairRank (suc t) l r
+rank-suc : (t l r : ℕ) → l < r → r ≤ t → pairRank (suc (suc t)) (suc l) (suc r) ≡ suc t + pairRank (suc t) l r
 rank-suc t l r h g = omega (arith, rank-twice (suc (suc t)) (suc l) (suc r) (omega arith) (omega arith), rank-twice (suc t) l r h (omega arith))
 
 pub rank-lt : (t l r : ℕ) → l < r → r ≤ t → pairRank (suc t) l r < pairCount (suc t)
@@ -45,7 +45,7 @@ high-rank t R =
     let e : suc t + R - suc t ≡ R = omega arith in
     rw (lt-leb (suc (suc t + R)) (suc t) (omega arith), e)
 
-pub ofRank-rank : (t l r : ℕ) → l < r → r ≤ t → pairOfRank t (pairRank (suc t) l r) ≡ (l, r)
+ofRank-rank : (t l r : ℕ) → l < r → r ≤ t → pairOfRank t (pairRank (suc t) l r) ≡ (l, r)
 ofRank-rank zero l r h g = absurd (omega arith)
 ofRank-rank (suc t) zero zero h g = absurd (omega arith)
 ofRank-rank (suc t) zero (suc r) h g =
@@ -61,7 +61,7 @@ pub record IsPair (t R : ℕ) (p : ℕ × ℕ) : Type 0 where
   pub within : p .1 ≤ t
   pub rank : pairRank (suc t) (p .0) (p .1) ≡ R
 
-pub ofRank-pair : (t R : ℕ) → R < pairCount (suc t) → IsPair t R (pairOfRank t R)
+ofRank-pair : (t R : ℕ) → R < pairCount (suc t) → IsPair t R (pairOfRank t R)
 unfolding pairCount
 ofRank-pair zero R h = absurd (omega arith)
 ofRank-pair (suc t) R h =

@@ -20,11 +20,11 @@ use Rattle.encoding.specs.Words.{Reversal, plain}
 
 -- ---- whether a word can be coded
 
-pub given-none : {A : Type 0} (g : Option Ground) (x a : A) → given x ≡ outcome g a → true ≡ noneApplies g
+given-none : {A : Type 0} (g : Option Ground) (x a : A) → given x ≡ outcome g a → true ≡ noneApplies g
 given-none none x a e = refl
 given-none (some f) x a e = absurd (let z : _≡_ {A = ℕ} 0 1 = cc in omega arith)
 
-pub refused-some : {A : Type 0} (g : Option Ground) (f : Ground) (a : A) → refused f ≡ outcome g a → false ≡ noneApplies g
+refused-some : {A : Type 0} (g : Option Ground) (f : Ground) (a : A) → refused f ≡ outcome g a → false ≡ noneApplies g
 refused-some none f a e = absurd (let z : _≡_ {A = ℕ} 0 1 = cc in omega arith)
 refused-some (some g) f a e = refl
 

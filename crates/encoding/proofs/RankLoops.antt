@@ -32,14 +32,14 @@ plain-none s = refl
 -- ---- the mirror, written from its start
 
 module _ (s : ℕ) (m : Mirror) (w : List ℕ) (i : ℕ) where
-  pub mirror-next : i < length w
+  mirror-next : i < length w
       → mirror s m (drop (length w - (i + 1)) w) ≡ mirror s m (drop (length w - i) w) ++ (mirrorRank s m (getD w (length w - 1 - i) 0) ∷ [])
   mirror-next h =
       let e : length w - (i + 1) ≡ length w - 1 - i = omega arith in
       let f : suc (length w - 1 - i) ≡ length w - i = omega arith in
       rw (e, drop-cons w (length w - 1 - i) 0 (omega arith), f) (mirror-cons s m (getD w (length w - 1 - i) 0) (drop (length w - i) w))
 
-  pub length-mirrored : i ≤ length w → length (mirror s m (drop (length w - i) w)) ≡ i
+  length-mirrored : i ≤ length w → length (mirror s m (drop (length w - i) w)) ≡ i
   length-mirrored h = length-mirror s m (drop (length w - i) w) ∙ length-drop (length w - i) w ∙ omega arith
 
   pub mirror-all : length w ≤ i → mirror s m (drop (length w - i) w) ≡ mirror s m w

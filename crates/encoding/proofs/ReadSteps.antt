@@ -136,7 +136,7 @@ module _ (out X : List ℕ) (h : 2 ≤ length out) (a b : ℕ) (e : X ≡ a ∷ 
       let k : length out - 1 - 1 ≡ length out - 2 = omega arith in
       rw (e, k) (ap length (take-at (take (length out - 2) (drop 1 out)) (b ∷ []) (length out - 2) (length-inner out h)) ∙ length-inner out h)
 
-  pub put-inside : (Y : List ℕ) → putMid 1 (length out - 1 - 1) X Y ≡ a ∷ (Y ++ (b ∷ []))
+  put-inside : (Y : List ℕ) → putMid 1 (length out - 1 - 1) X Y ≡ a ∷ (Y ++ (b ∷ []))
   put-inside Y =
       let k : length out - 1 - 1 ≡ length out - 2 = omega arith in
       rw (e, k, drop-at (take (length out - 2) (drop 1 out)) (b ∷ []) (length out - 2) (length-inner out h))
@@ -248,7 +248,7 @@ module _ (letters : List ℕ) (k : ℕ) (m : Mirror) (q : ℕ) (f : Limits (leng
   pub word-length : length (wordOf (length letters) m k q) ≡ k
   word-length = length-wordOf (length letters) m (f .two) (f .even) k q g
 
-  pub word-ranks : Ranks (length letters) (wordOf (length letters) m k q)
+  word-ranks : Ranks (length letters) (wordOf (length letters) m k q)
   word-ranks = ranks-wordOf (length letters) m (f .two) (f .even) k q g
 
   pub zeros-length : length (take k zeros) ≡ k
@@ -261,7 +261,7 @@ module _ (letters : List ℕ) (k : ℕ) (m : Mirror) (q : ℕ) (f : Limits (leng
     w-len : length w ≡ k
     w-len = ap length w-is ∙ word-length
 
-    pub front : take k (w ++ d) ≡ wordOf (length letters) m k q
+    front : take k (w ++ d) ≡ wordOf (length letters) m k q
     front = take-at w d k w-len ∙ w-is
 
     pub front-fits : k ≤ length (w ++ d)

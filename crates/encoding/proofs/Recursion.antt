@@ -30,16 +30,18 @@ codeRec s m (suc (suc n)) w =
     let inner : List ℕ = take n (drop 1 w) in
     cond (eqb l r) (s * codeRec s m n inner + r) (s * classes s m n + pairRank s l r * s ^ n + plain s inner)
 
-pub codeRec-ends : (s : ℕ) (m : Mirror) (n a b : ℕ) (u : List ℕ) → length u ≡ n
+codeRec-ends : (s : ℕ) (m : Mirror) (n a b : ℕ) (u : List ℕ) → length u ≡ n
     → codeRec s m (suc (suc n)) (a ∷ (u ++ (b ∷ [])))
     ≡ cond (eqb a (mirrorRank s m b)) (s * codeRec s m n u + mirrorRank s m b) (s * classes s m n + pairRank s a (mirrorRank s m b) * s ^ n + plain s u)
 unfolding codeRec
 codeRec-ends s m n a b u h = rw (getD-at u b [] 0 n h, take-at u (b ∷ []) n h)
 
+-- Equal outer letters: s times the code within, plus r.
 pub codeRec-same : (s : ℕ) (m : Mirror) (n a b : ℕ) (u : List ℕ) → length u ≡ n → a ≡ mirrorRank s m b
     → codeRec s m (suc (suc n)) (a ∷ (u ++ (b ∷ []))) ≡ s * codeRec s m n u + mirrorRank s m b
 codeRec-same s m n a b u l e = codeRec-ends s m n a b u l ∙ rw (eq-eqb a (mirrorRank s m b) e)
 
+-- Outer letters that differ: all codes of equal outer letters, then R s^n, then the plain rank of the inner letters.
 pub codeRec-differ : (s : ℕ) (m : Mirror) (n a b : ℕ) (u : List ℕ) → length u ≡ n → a ≢ mirrorRank s m b
     → codeRec s m (suc (suc n)) (a ∷ (u ++ (b ∷ []))) ≡ s * classes s m n + pairRank s a (mirrorRank s m b) * s ^ n + plain s u
 codeRec-differ s m n a b u l e = codeRec-ends s m n a b u l ∙ rw (ne-eqb a (mirrorRank s m b) e)
@@ -63,7 +65,7 @@ unfolding shift
 shift-inner s n zero h g = omega arith
 shift-inner s n (suc i) h g = rw (eqb·suc-zero i) (shift-suc s n i h g)
 
--- the value of the two digits of a pair
+-- The value of the two digits of a pair.
 pub pair-value : (s R p q x : ℕ) → q ≡ p * s → (R / s + 1) * q + (R % s * p + x) ≡ R * p + q + x
 pair-value s R p q x e = omega (arith, ap (λ (y : ℕ). y * p) (div-add-mod' R s), ap (λ (y : ℕ). R / s * y) e)
 
@@ -71,7 +73,7 @@ value-same : (s c v x y o d r : ℕ) → v ≡ c + x + o → d ≡ v * s + r →
 value-same s c v x y o d r e f g = omega (arith, ap (λ (z : ℕ). z * s) e)
 
 module _ (s : ℕ) (m : Mirror) (hs : 1 < s) (he : EvenUnder s m) where
-  -- The digits' value is the code with the shifts added.
+  -- What is shown by induction on the outer letters: the digits' value is the code with the shifts added.
   abbrev Value : ℕ → List ℕ → Type 0
   Value n w = Ranks s w → IsCanonical s m w → plain s (digits s m n w) ≡ codeRec s m n w + shift s n (differingPair s m n w) + oddShift s m n
 
@@ -114,6 +116,7 @@ module _ (s : ℕ) (m : Mirror) (hs : 1 < s) (he : EvenUnder s m) where
   unfolding digits codeRec differingPair
   value-one a h g = plain-one s (mirrorRank s m a) ∙ one-value s m he a (h .0) (canonical-one s m a g)
 
+  -- The value of a canonical word's digits is its code with the shift and the odd-k subtraction added: neither subtraction is cut off.
   pub value : (n : ℕ) (w : List ℕ) → length w ≡ n → Ranks s w → IsCanonical s m w
       → plain s (digits s m n w) ≡ codeRec s m n w + shift s n (differingPair s m n w) + oddShift s m n
   value = ends (Value s m hs he) value-zero value-one (value-step s m hs he)

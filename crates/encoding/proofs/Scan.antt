@@ -35,7 +35,7 @@ stops-inner s m n a b p u l g =
           (inner-at u b p (omega arith) ∙ d ∙ ap (mirrorRank s m) (sym (inner-at u b i (omega arith))));
     }
 
-pub stops-at : (s : ℕ) (m : Mirror) (n : ℕ) (w : List ℕ) → length w ≡ n → (p : ℕ) → Stops s m n w p → equalPairs s m n w ≡ p
+stops-at : (s : ℕ) (m : Mirror) (n : ℕ) (w : List ℕ) → length w ≡ n → (p : ℕ) → Stops s m n w p → equalPairs s m n w ≡ p
 unfolding equalPairs
 stops-at s m =
     ends (λ n w. (p : ℕ) → Stops s m n w p → equalPairs s m n w ≡ p) (λ p g. omega (arith, g .fits)) (λ a p g. omega (arith, g .fits))

@@ -76,6 +76,7 @@ pub reversal-palindromes : (s k : ℕ) → Limits s Reversal k → (w : List ℕ
 unfolding palindromes
 reversal-palindromes s k within w i = palindromes-lowest s Reversal (within .two) (within .even) k w (i .letters) (i .ranks)
 
+-- And these are codes: there are at least s^c classes.
 pub reversal-palindromes-fit : (s k : ℕ) → Limits s Reversal k → s ^ halfUp k ≤ classes s Reversal k
 unfolding palindromes
 reversal-palindromes-fit s k within = classes-palindromes s Reversal k (within .two) (within .even)
@@ -87,6 +88,7 @@ complement-palindromes s k within even w i =
     let p = palindromes-lowest s Complement (within .two) (within .even) k w (i .letters) (i .ranks) in
     rw (even-palindromes s k even) at p
 
+-- And these are codes: there are at least s^(k/2) classes.
 pub complement-palindromes-fit : (s k : ℕ) → Limits s Complement k → isOdd k ≡ false → s ^ (k / 2) ≤ classes s Complement k
 complement-palindromes-fit s k within even = rw (even-palindromes s k even) at (classes-palindromes s Complement k (within .two) (within .even))
 

@@ -17,7 +17,7 @@ use Rattle.encoding.proofs.Ends.{length-mirror}
 use Rattle.encoding.proofs.LetterLoops.{ranks-below, length-ranksOf}
 
 module _ (letters word : List ℕ) (m : Mirror) (f : Limits (length letters) m (length word)) where
-  pub as-word : FitWord (length letters) (ranksOf letters word)
+  as-word : FitWord (length letters) (ranksOf letters word)
   as-word = record { two = f .two; ranks = ranks-below letters word (omega (arith, f .two)); small = rw (length-ranksOf letters word) (f .small) }
 
   mirror-ranks : Ranks (length letters) (mirror (length letters) m (ranksOf letters word))
@@ -26,14 +26,14 @@ module _ (letters word : List ℕ) (m : Mirror) (f : Limits (length letters) m (
   mirror-len : length (mirror (length letters) m (ranksOf letters word)) ≡ length word
   mirror-len = length-mirror (length letters) m (ranksOf letters word) ∙ length-ranksOf letters word
 
-  pub as-mirror : FitWord (length letters) (mirror (length letters) m (ranksOf letters word))
+  as-mirror : FitWord (length letters) (mirror (length letters) m (ranksOf letters word))
   as-mirror = record { two = f .two; ranks = mirror-ranks; small = rw mirror-len (f .small) }
 
   pub own-canonical : plain (length letters) (ranksOf letters word) ≤ plain (length letters) (mirror (length letters) m (ranksOf letters word))
       → FitCanonical (length letters) m (ranksOf letters word)
   own-canonical h = record { word = as-word; few = f .few; even = f .even; least = h }
 
-  pub other-canonical : plain (length letters) (mirror (length letters) m (ranksOf letters word)) < plain (length letters) (ranksOf letters word)
+  other-canonical : plain (length letters) (mirror (length letters) m (ranksOf letters word)) < plain (length letters) (ranksOf letters word)
       → FitCanonical (length letters) m (mirror (length letters) m (ranksOf letters word))
   other-canonical h =
       record {
@@ -48,7 +48,7 @@ module _ (letters word : List ℕ) (m : Mirror) (f : Limits (length letters) m (
   unfolding code
   own-code h = rw (canonical-low (length letters) m (ranksOf letters word) h, length-ranksOf letters word)
 
-  pub other-code : plain (length letters) (mirror (length letters) m (ranksOf letters word)) < plain (length letters) (ranksOf letters word)
+  other-code : plain (length letters) (mirror (length letters) m (ranksOf letters word)) < plain (length letters) (ranksOf letters word)
       → codeOfCanonical (length letters) m (length (mirror (length letters) m (ranksOf letters word))) (mirror (length letters) m (ranksOf letters word))
       ≡ code (length letters) m (length word) (ranksOf letters word)
   unfolding code

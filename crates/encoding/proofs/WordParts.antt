@@ -33,7 +33,7 @@ rank-back s w i h g = rank-at s w (length w - 1 - i) h (omega arith)
 abbrev pub span : ℕ → ℕ → List ℕ → List ℕ
 span i n w = take n (drop i w)
 
-pub length-span : (i n : ℕ) (w : List ℕ) → i + n ≤ length w → length (span i n w) ≡ n
+length-span : (i n : ℕ) (w : List ℕ) → i + n ≤ length w → length (span i n w) ≡ n
 length-span i n w h = length-take-le n (drop i w) (omega (arith, length-drop i w))
 
 pub span-ends : (i n : ℕ) (w : List ℕ) → i + suc (suc n) ≤ length w
@@ -44,7 +44,7 @@ span-ends i n w h =
     ∙ ap (λ (l : List ℕ). getD w i 0 ∷ l) (take-suc (drop (suc i) w) n 0 (omega (arith, length-drop (suc i) w)))
     ∙ rw (getD-drop (suc i) w n 0, e)
 
-pub digits-span : (s : ℕ) (m : Mirror) (i n : ℕ) (w : List ℕ) → i + suc (suc n) ≤ length w
+digits-span : (s : ℕ) (m : Mirror) (i n : ℕ) (w : List ℕ) → i + suc (suc n) ≤ length w
     → digits s m (suc (suc n)) (span i (suc (suc n)) w)
     ≡ endDigits s m n (getD w i 0) (span (suc i) n w) (mirrorRank s m (getD w (i + suc n) 0))
     (eqb (getD w i 0) (mirrorRank s m (getD w (i + suc n) 0)))

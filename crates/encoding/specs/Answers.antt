@@ -14,6 +14,7 @@ use Rattle.encoding.specs.declared.letters.Place.{Place}
 use Rattle.encoding.specs.declared.letters.Place.the-variants.{At, Nowhere}
 use Rattle.encoding.specs.Calls.{pickGround, firstPicked}
 
+-- The answers of the calls as this paper's values: the code, how many bytes were set, or the refusal's number and P.
 abbrev pub ofCoding : Coding → Outcome ℕ
 ofCoding (Coded q) = given (q .0)
 ofCoding (Refused f) = refused (groundOf f)
@@ -22,6 +23,7 @@ abbrev pub ofFilling : Filling → Outcome ℕ
 ofFilling (Filled n) = given n
 ofFilling (Unfilled f) = refused (groundOf f)
 
+-- The place of a byte that is no letter, or none.
 abbrev pub ofPlace : Place → Option ℕ
 ofPlace (At n) = some n
 ofPlace Nowhere = none
@@ -36,7 +38,8 @@ abbrev pub handedBack : Option Ground → List ℕ → List ℕ
 handedBack (some g) word = []
 handedBack none word = word
 
--- The part r that is handed back starts where the chosen slice starts, and holds its bytes.
+-- The part r that is handed back starts where the chosen slice starts (the first, where the pick is refused), and holds its bytes, or none where it
+-- is refused.
 pub record Picked (letters : List ℕ) (k m : ℕ) (first second r : RefT (List ℕ)) : Type 0 where
   pub origin : r .ptr ≡ chosen (pickGround letters k m (first .now) (second .now)) (firstPicked letters (first .now) (second .now)) (first .ptr) (second .ptr)
   pub holds : r .now ≡ handedBack (pickGround letters k m (first .now) (second .now))

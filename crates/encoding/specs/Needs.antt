@@ -1,4 +1,4 @@
--- What functions below the calls ask of each other and laws speak of, and no claim cites: where the scan of a word stops, the number of palindromes, and
+-- What functions below the calls ask of each other and laws speak of; no sentence of document 01 rests on it: where the scan of a word stops, the number of palindromes, and
 -- words and codes that fit 62 bits.
 use mathlib.Core.Bool.{Bool, true, false, cond}
 use mathlib.Core.Option.{Option, none, some}

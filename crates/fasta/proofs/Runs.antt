@@ -67,7 +67,7 @@ runs-split k [] h = omega arith
 runs-split k (r ∷ rs) h = omega (arith, length-append (windows k r) (windowsOf k rs), run-split k r h, runs-split k rs h)
 
 -- The same of any items: a later file format needs no proof of its own.
-pub items-split : (rank : ℕ → Option ℕ) (k : ℕ) (is : List Item) → 1 ≤ k
+items-split : (rank : ℕ → Option ℕ) (k : ℕ) (is : List Item) → 1 ≤ k
     → lettersIn is ≡ length (windowsIn rank k is) + foreignIn rank is + edgeIn rank k is
 items-split rank k is h = omega (arith, letters-split rank is, total-runs (marks rank is), runs-split k (runs (marks rank is)) h)
 

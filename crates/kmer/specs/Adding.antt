@@ -32,6 +32,7 @@ addIntoGround letters k m t file room =
 abbrev pub fiveNumbers : Numbers → List ℕ
 fiveNumbers n = n .records ∷ n .letters ∷ n .foreign ∷ n .edge ∷ n .windows ∷ []
 
+-- The contract of `kmer_add`: what it returns, and the table and the answer list that it leaves; a refused call changes neither.
 pub record AddsInto (letters : List ℕ) (k mirror : ℕ) (t file old : List ℕ) (r : ℕ) (t′ new : List ℕ) : Type 0 where
   pub returns : r ≡ returnedWithPlace (outcome (addIntoGround letters k mirror t file (length old)) 5)
   pub table-left : t′ ≡ unlessRefused (addIntoGround letters k mirror t file (length old)) (bumps t (places letters k mirror file)) t

@@ -18,7 +18,7 @@ three s n e f h =
     ap (λ (x : ℕ). s ^ x) g ∙ pow-add s (n - e - f + f) e ∙ ap (λ (x : ℕ). x * s ^ e) (pow-add s (n - e - f) f)
 
 -- A digit above the window does not show in it.
-pub window-high : (s n a x e f : ℕ) → 1 < s → e + f ≤ n → window s e f (a * s ^ n + x) ≡ window s e f x
+window-high : (s n a x e f : ℕ) → 1 < s → e + f ≤ n → window s e f (a * s ^ n + x) ≡ window s e f x
 unfolding window
 window-high s n a x e f hs h =
     let d : ℕ = n - e - f in
@@ -26,7 +26,7 @@ window-high s n a x e f hs h =
     rw (g, add-mul-div-right x (a * s ^ (n - e - f) * s ^ f) (pow-pos s e hs)) (add-mul-mod-self-right (x / s ^ e) (a * s ^ (n - e - f)) (s ^ f))
 
 -- A digit below moves it by one.
-pub window-low : (s x b e f : ℕ) → b < s → window s (suc e) f (x * s + b) ≡ window s e f x
+window-low : (s x b e f : ℕ) → b < s → window s (suc e) f (x * s + b) ≡ window s e f x
 unfolding window
 window-low s x b e f h = rw (pow-succ' s e, ← (div-div-eq-div-mul (x * s + b) s (s ^ e)), digits-div x h)
 

@@ -82,7 +82,7 @@ total-length n h = simp length-append (omega (arith, decimal-length 18 n (omega 
 
 module _ (letters : List ℕ) (k m : ℕ) (counts : List ℕ) (A : AllCounts letters k m counts) where
   -- A listing is as long as its lines.
-  pub listing-is : length (listingOf letters k m counts)
+  listing-is : length (listingOf letters k m counts)
       ≡ length (surveyLine letters k m) + linesLength k counts + length (totalLine (sum counts))
   unfolding listingOf
   listing-is =
@@ -90,14 +90,14 @@ module _ (letters : List ℕ) (k m : ℕ) (counts : List ℕ) (A : AllCounts let
       let lines = lines-are k (wordBytes letters k m) (classCount letters k m) words 0 counts (omega (arith, A .one-a-class)) in
       simp length-append (omega (arith, lines))
 
-  pub survey-short : length (surveyLine letters k m) ≤ 64
+  survey-short : length (surveyLine letters k m) ≤ 64
   survey-short = survey-length letters k m (limits letters k m (A .good) .few) (k-short letters k m (A .good))
 
   module _ (small : Small counts) where
-    pub total-short : length (totalLine (sum counts)) ≤ 28
+    total-short : length (totalLine (sum counts)) ≤ 28
     total-short = total-length (sum counts) (omega (arith, sum-le counts small, A .few))
 
-    pub all-lines-short : linesLength k counts ≤ 82 * length counts
+    all-lines-short : linesLength k counts ≤ 82 * length counts
     all-lines-short = lines-short k counts (k-short letters k m (A .good)) small
 
     pub listing-length : length (listingOf letters k m counts) ≤ 92 + 82 * length counts

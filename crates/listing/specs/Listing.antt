@@ -46,6 +46,7 @@ unfoldable pub listingGround : (letters : List ℕ) (k mirror : ℕ) (table : Li
 listingGround letters k m table room =
     clearGround letters k m (length table) orElse groundAt 7 (tooShort room (length (listing letters k m table)))
 
+-- The answer of the call as this paper's value: how many bytes were set, or the refusal's number and P.
 abbrev pub ofListed : Listed → Outcome ℕ
 ofListed (Bytes n) = given n
 ofListed (Refused f) = refused (groundOf f)

@@ -41,7 +41,7 @@ pub record SmallNumbers (n : Numbers) : Type 0 where
   pub edge : n .edge < 18446744073709551616
   pub windows : n .windows < 18446744073709551616
 
-pub file-line-short : (n : Numbers) → SmallNumbers n → length (fileLine n) ≤ 200
+file-line-short : (n : Numbers) → SmallNumbers n → length (fileLine n) ≤ 200
 unfolding fileLine
 file-line-short n S =
     simp length-append

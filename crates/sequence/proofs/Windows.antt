@@ -16,6 +16,7 @@ unfolding windows
 windows-first k x xs h = rw (le-leb k (suc (length xs)) h)
 
 module _ (k : ℕ) (some : 1 ≤ k) where
+  -- A list of n letters has n + 1 - k windows, and none where it is shorter than k.
   pub length-windows : (w : List ℕ) → length (windows k w) ≡ length w + 1 - k
   unfolding windows
   length-windows [] = omega arith

@@ -74,12 +74,13 @@ good-settings l k m e =
       small = ltb-false (2 ^ 62) (length l ^ k) (size .1);
     }
 
--- Settings that pass the check are within the limits.
+-- The mirror by its number: complement asks for an even s.
 even-under : (s m : ℕ) → m ≤ 1 → (m ≡ 1 → s % 2 ≡ 0) → EvenUnder s (mirrorOf m)
 even-under s zero low even = tt
 even-under s (suc zero) low even = even refl
 even-under s (suc (suc m)) low even = absurd (omega arith)
 
+-- Settings that pass the check are within the limits.
 pub limits : (l : List ℕ) (k m : ℕ) → settingsGround l k m ≡ none → Limits (length l) (mirrorOf m) k
 limits l k m e =
     let g = good-settings l k m e in

@@ -40,7 +40,7 @@ abbrev pub ground : ℕ → Bool → Option Ground
 ground n true = some (n, 0)
 ground n false = none
 
--- Ground n with the first place where it is met as P, if there is one.
+-- Ground n with its P, if it applies: the first place where it is met, or for 7 the length needed.
 abbrev pub groundAt : ℕ → Option ℕ → Option Ground
 groundAt n none = none
 groundAt n (some p) = some (n, p)

@@ -1,5 +1,5 @@
 -- What a reader must believe of the settings: the grounds for refusing and how a call reports them; letters, k and mirror. Last, what functions ask
--- of a table of ranks (RankTables), on which no claim rests.
+-- of a table of ranks (RankTables), on which no sentence of document 01 rests.
 pub mod Grounds
 pub mod Settings
 pub mod Limits

@@ -1,4 +1,4 @@
--- What functions that look letters up ask of a table of all bytes' ranks. It is made once a call; no claim rests on it.
+-- What functions that look letters up ask of a table of all bytes' ranks. It is made once a call; no sentence of document 01 rests on it.
 use mathlib.Core.Path.{_≡_}
 use mathlib.Core.Bool.{cond}
 use mathlib.Core.Option.{Option, none, some}

@@ -50,6 +50,7 @@ abbrev pub mirrorOf : ℕ → Mirror
 mirrorOf zero = Reversal
 mirrorOf (suc n) = Complement
 
+-- "odd k"
 unfoldable pub isOdd : ℕ → Bool
 isOdd n = eqb (n % 2) 1
 
@@ -78,6 +79,7 @@ settingsGround letters k mirror =
 abbrev pub settingsFor : ℕ → ℕ → Mirror → Settings
 settingsFor s k m = record { s = s; k = k; mirror = m; words = s ^ k; classes = classes s m k }
 
+-- The same of settings as a caller gives them.
 abbrev pub settingsOf : List ℕ → ℕ → ℕ → Settings
 settingsOf letters k mirror = settingsFor (length letters) k (mirrorOf mirror)
 

@@ -41,7 +41,7 @@ is-out b [] e = refl
 is-out b (x ∷ xs) e = rw (ne-eqb x b (λ h. e .0 (sym h))) (is-out b xs (e .1))
 
 -- The reader's test and the grammar's bytes are the same.
-pub byte-is : (name : Name) (b : ℕ) → valueByte name b ≡ true → ByteOf name b
+byte-is : (name : Name) (b : ℕ) → valueByte name b ≡ true → ByteOf name b
 unfolding valueByte
 byte-is Letters b e = not-in b (bytes "() \r\n") e
 byte-is K b e = let h = both (leb 48 b) (leb b 57) e in (leb-true 48 b (h .0), leb-true b 57 (h .1))

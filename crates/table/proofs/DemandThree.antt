@@ -92,7 +92,9 @@ module _ (letters : List ℕ) (k m : ℕ) (good : settingsGround letters k m ≡
 
 -- ---- from a cleared table: t₀ before the clearing, t after it, no ground for refusing having applied to the clearing
 
--- Demand 3, "for every list of add calls, refused ones included, made with the same settings from a cleared table".
+-- Demand 3, "for every list of add calls, refused ones included, made with the same settings from a cleared table": every answer is the book's,
+-- every count its class's tally, later places are as before the clearing, places and classes match one to one, and the sum of the counts is
+-- letters - foreign - edge over the files taken in, where no subtraction is cut off.
 pub demand-three : (letters : List ℕ) (k m : ℕ) {t₀ t t′ : List ℕ} {cleared : Outcome ℕ} {files : List (List ℕ)} {answers : List (Outcome Numbers)}
     → clearGround letters k m (length t₀) ≡ none
     → Clears letters k m t₀ cleared t
@@ -116,7 +118,8 @@ demand-three letters k m {files = files} {answers = answers} no-ground clearing 
       no-more-foreign-and-edge-than-letters = omega (arith, letters-are);
     }
 
--- "Two such lists with the same settings": each from a cleared table of its own.
+-- "Two such lists with the same settings", each from a cleared table of its own: they leave the same counts exactly when, for every word of k letters,
+-- their files taken in hold as many windows equal to it or its mirror.
 pub demand-three-same-counts : (letters : List ℕ) (k m : ℕ) {t₀ t t′ u₀ u u′ : List ℕ} {cleared cleared′ : Outcome ℕ} {files files′ : List (List ℕ)}
     {answers answers′ : List (Outcome Numbers)}
     → clearGround letters k m (length t₀) ≡ none

@@ -14,6 +14,7 @@ use Rattle.table.specs.declared.Survey.{Survey}
 use Rattle.table.specs.Table.{clearGround, Clears}
 use Rattle.table.specs.Demand.{Adds, DemandThree}
 
+-- The answers of the calls as this paper's values: how many places were set, the file's numbers, or the refusal's number and P.
 abbrev pub ofCleared : Cleared → Outcome ℕ
 ofCleared (Count n) = given n
 ofCleared (Uncleared f) = refused (groundOf f)

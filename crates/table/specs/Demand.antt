@@ -43,6 +43,7 @@ unfoldable pub addedUp : (List ℕ → ℕ) → List (List ℕ) → ℕ
 addedUp number [] = 0
 addedUp number (file ∷ files) = number file + addedUp number files
 
+-- The "sum of the counts".
 unfoldable pub sum : List ℕ → ℕ
 sum [] = 0
 sum (x ∷ xs) = x + sum xs

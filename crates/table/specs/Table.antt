@@ -46,7 +46,7 @@ places letters k m file = map (placeOf letters k m) (wins letters k file)
 -- ---- grounds
 
 -- 12: "some class's place holds more than 4,294,967,295 less the file's windows of all classes together", the counts being those of all
--- classes and n the number of windows.
+-- classes and n the number of windows, which is at most 16,777,216 where this is asked, since ground 6 comes first.
 unfoldable pub full : ℕ → List ℕ → Bool
 full n [] = false
 full n (c ∷ cs) = ltb (4294967295 - n) c || full n cs
@@ -88,6 +88,7 @@ addAnswer letters k m room late file = outcome (addGround letters k m room late 
 abbrev pub lateTable : (letters : List ℕ) (k mirror : ℕ) (t file : List ℕ) → Bool
 lateTable letters k m t file = full (length (wins letters k file)) (take (classCount letters k m) t)
 
+-- The grounds of an add, 12 read from the table's places.
 abbrev pub tableGround : (letters : List ℕ) (k mirror : ℕ) (t file : List ℕ) → Option Ground
 tableGround letters k m t file = addGround letters k m (length t) (lateTable letters k m t file) file
 

@@ -1,4 +1,5 @@
 -- `encoding::to_code::canonical_code` meets its contract. The value of the digits is at least what is subtracted, and what is left is the code (Shifts).
+use Prim.Native.Nat.{ℕ, _+_, _≤_}
 use native.Mathlib.Omega.{arith}
 use borrow.Author.Needs.{needs}
 use Rattle.encoding.proofs.Shifts.{at-le, enough, code-is-this}
@@ -20,25 +21,22 @@ odd-shift-requires c κs = search needs
 digits-value-requires : tie.Need-digits-value-requires
 digits-value-requires c κs = search needs
 
-sub-t9 : tie.Need-sub-t9
-sub-t9 c =
+-- What is subtracted, at most the value.
+abbrev subtracted : tie.After-digits-value → ℕ
+subtracted c = c .before .before .shift-of .result + c .before .odd-shift .result
+
+subtracts : (c : tie.After-digits-value) → subtracted c ≤ c .digits-value .result
+subtracts c =
     let sh = c .before .before in
     let start = sh .before .before .before in
-    omega (
-      arith,
-      enough (start .args .s) (start .args .m) (start .args .w .now) (start .pre) _ _ _ _ (sh .before .differing-at .ensures)
-          (sh .shift-of .ensures) (c .before .odd-shift .ensures) (c .digits-value .ensures),
-    )
+    enough (start .args .s) (start .args .m) (start .args .w .now) (start .pre) _ _ _ _ (sh .before .differing-at .ensures)
+    (sh .shift-of .ensures) (c .before .odd-shift .ensures) (c .digits-value .ensures)
+
+sub-t9 : tie.Need-sub-t9
+sub-t9 c = omega (arith, subtracts c)
 
 sub-t10 : tie.Need-sub-t10
-sub-t10 c =
-    let sh = c .before .before in
-    let start = sh .before .before .before in
-    omega (
-      arith,
-      enough (start .args .s) (start .args .m) (start .args .w .now) (start .pre) _ _ _ _ (sh .before .differing-at .ensures)
-          (sh .shift-of .ensures) (c .before .odd-shift .ensures) (c .digits-value .ensures),
-    )
+sub-t10 c = omega (arith, subtracts c)
 
 returns : tie.Need-returns
 returns c =
