@@ -3,7 +3,7 @@
 mod to_code; // from a word to its code
 mod letters; // from bytes to ranks and back
 pub mod pair_ranks; // the rank of a pair of ranks
-mod ranks; // words of ranks: mirror and plain rank
+pub mod ranks; // words of ranks: mirror and plain rank
 mod to_word; // from a code to its word
 
 ghost use mathlib.Core.Path.{_≡_};

@@ -9,7 +9,6 @@ use native.Mathlib.Numerals.{add-one}
 use native.Mathlib.Omega.{arith}
 use lib.Arith.{digits-div}
 use lib.ListN.{length, getD}
-use Rattle.settings.specs.Settings.{mirrorOf}
 use Rattle.settings.specs.Limits.{EvenUnder}
 use Rattle.laws.proofs.Powers.{pow-one, exponent-le}
 use Rattle.encoding.specs.Words.{Mirror, mirrorRank, mirror, plain}
@@ -22,17 +21,14 @@ use Rattle.sequence.specs.Needs.{part, Input, Window, OuterPair}
 use Rattle.sequence.proofs.Parts.{ranks-at, part-cons, plain-more, plain-first, part-lt, back-more, back-first, back-lt}
 use Rattle.sequence.proofs.WindowEnds.{code-lt, differ-is, same-is, forward-is, back-is, palindromes-within}
 
-module _ {s mir k : ℕ} {pw d : List ℕ} (I : Input s mir k pw d) where
+module _ {s : ℕ} {m : Mirror} {k : ℕ} {pw d : List ℕ} (I : Input s m k pw d) where
   pub k-lt : k < 64
   k-lt = omega (arith, exponent-le s k (I .limits .two) (I .limits .small))
 
   pub power-fits : (i : ℕ) → i ≤ k → s ^ i ≤ 2 ^ 62
   power-fits i h = le-trans (pow-le-pow-right (omega (arith, I .limits .two)) h) (I .limits .small)
 
-module _ {s mir k : ℕ} {pw d : List ℕ} {j : ℕ} {t : Inner} (W : Window s mir k pw d j t) where
-  abbrev m : Mirror
-  m = mirrorOf mir
-
+module _ {s : ℕ} {m : Mirror} {k : ℕ} {pw d : List ℕ} {j : ℕ} {t : Inner} (W : Window s m k pw d j t) where
   two : 1 < s
   two = W .input .limits .two
 
@@ -48,11 +44,11 @@ module _ {s mir k : ℕ} {pw d : List ℕ} {j : ℕ} {t : Inner} (W : Window s m
   pub code-fits : code s m k (part j k d) < 2 ^ 62
   code-fits = lt-of-lt-of-le (code-lt s m two even d (W .input .ranks) j k (W .inside)) (W .input .limits .small)
 
-  pub outer-lt : {l r : ℕ} → OuterPair s mir k d j l r → (l < s) × (r < s)
+  pub outer-lt : {l r : ℕ} → OuterPair s m k d j l r → (l < s) × (r < s)
   outer-lt O = (rw (O .first) (rank-lt j (omega (arith, O .two, W .inside))), rw (O .last) (mirror-lt (j + k - 1) (omega (arith, O .two, W .inside))))
 
   -- The code where the outer letters differ.
-  pub differing-is : {l r : ℕ} (w R top low : ℕ) → OuterPair s mir k d j l r → l ≢ r → (l < r → w ≡ t .forward) × (r ≤ l → w ≡ t .back)
+  pub differing-is : {l r : ℕ} (w R top low : ℕ) → OuterPair s m k d j l r → l ≢ r → (l < r → w ≡ t .forward) × (r ≤ l → w ≡ t .back)
       → R ≡ pairRank s (min l r) (max l r)
       → top ≡ s ^ (k - 1)
       → low ≡ s ^ (k - 2)
@@ -65,7 +61,7 @@ module _ {s mir k : ℕ} {pw d : List ℕ} {j : ℕ} {t : Inner} (W : Window s m
 
   -- ---- the window within
 
-  inner-input : 2 ≤ k → Input s mir (k - 2) pw d
+  inner-input : 2 ≤ k → Input s m (k - 2) pw d
   inner-input h =
       record {
         limits = record { two = two; few = W .input .limits .few; even = even; small = power-fits (W .input) (k - 2) (omega arith) };
@@ -74,7 +70,7 @@ module _ {s mir k : ℕ} {pw d : List ℕ} {j : ℕ} {t : Inner} (W : Window s m
       }
 
   -- It has fewer than two letters between its ends.
-  pub within-short : (e : ℕ) → 2 ≤ k → k < 4 → e ≡ t .palindromes / s → Window s mir (k - 2) pw d (j + 1) (record { palindromes = e; forward = 0; back = 0 })
+  pub within-short : (e : ℕ) → 2 ≤ k → k < 4 → e ≡ t .palindromes / s → Window s m (k - 2) pw d (j + 1) (record { palindromes = e; forward = 0; back = 0 })
   unfolding plain mirror
   within-short e h g q =
       let z : k - 2 - 2 ≡ 0 = omega arith in
@@ -104,7 +100,7 @@ module _ {s mir k : ℕ} {pw d : List ℕ} {j : ℕ} {t : Inner} (W : Window s m
   pub within-long : (e f b q x y : ℕ) → 4 ≤ k → e ≡ t .palindromes / s → q ≡ s ^ (k - 3) → x ≡ getD d (j + 1) 0 → y ≡ mirrorRank s m (getD d (j + k - 2) 0)
       → f ≡ (t .forward - x * q) / s
       → b ≡ (t .back - y * q) / s
-      → Window s mir (k - 2) pw d (j + 1) (record { palindromes = e; forward = f; back = b })
+      → Window s m (k - 2) pw d (j + 1) (record { palindromes = e; forward = f; back = b })
   within-long e f b q x y h ee eq ex ey ef eb =
       record {
         input = inner-input (omega arith);
@@ -114,34 +110,34 @@ module _ {s mir k : ℕ} {pw d : List ℕ} {j : ℕ} {t : Inner} (W : Window s m
         behind = eb ∙ rw (ey, eq, add-one) (back-is s m two even d (W .input .ranks) j k (t .back) (j + k - 2) h (W .inside) refl (W .behind) .1);
       }
 
-  equal-is : {l r : ℕ} → OuterPair s mir k d j l r → l ≡ r → code s m k (part j k d) ≡ s * code s m (k - 2) (part (j + 1) (k - 2) d) + l
+  equal-is : {l r : ℕ} → OuterPair s m k d j l r → l ≡ r → code s m k (part j k d) ≡ s * code s m (k - 2) (part (j + 1) (k - 2) d) + l
   equal-is O e =
       rw (O .first, add-one)
       (same-is s m two even d (W .input .ranks) j k (j + k - 1) (O .two) (W .inside) refl (sym (O .first) ∙ e ∙ O .last))
 
 -- ---- the scan: after some equal pairs n letters are left, from place a
 
-pub record Scan (s mir k : ℕ) (pw d : List ℕ) (j : ℕ) (t : Inner) (a n closing scale : ℕ) : Type 0 where
-  pub window : Window s mir n pw d a t
-  pub rest : code s (mirrorOf mir) k (part j k d) ≡ closing + scale * code s (mirrorOf mir) n (part a n d)
+pub record Scan (s : ℕ) (m : Mirror) (k : ℕ) (pw d : List ℕ) (j : ℕ) (t : Inner) (a n closing scale : ℕ) : Type 0 where
+  pub window : Window s m n pw d a t
+  pub rest : code s m k (part j k d) ≡ closing + scale * code s m n (part a n d)
   pub bound : scale * s ^ n ≤ 2 ^ 62
-  pub fits : code s (mirrorOf mir) k (part j k d) < 2 ^ 62
+  pub fits : code s m k (part j k d) < 2 ^ 62
 
-pub scan-start : {s mir k : ℕ} {pw d : List ℕ} {j : ℕ} {t : Inner} → Window s mir k pw d j t → Scan s mir k pw d j t j k 0 1
+pub scan-start : {s : ℕ} {m : Mirror} {k : ℕ} {pw d : List ℕ} {j : ℕ} {t : Inner} → Window s m k pw d j t → Scan s m k pw d j t j k 0 1
 scan-start W = record { window = W; rest = omega arith; bound = omega (arith, W .input .limits .small); fits = code-fits W }
 
-module _ {s mir k : ℕ} {pw d : List ℕ} {j : ℕ} {t : Inner} {a n closing scale : ℕ} (S : Scan s mir k pw d j t a n closing scale) where
+module _ {s : ℕ} {m : Mirror} {k : ℕ} {pw d : List ℕ} {j : ℕ} {t : Inner} {a n closing scale : ℕ} (S : Scan s m k pw d j t a n closing scale) where
   pub scale-fits : 2 ≤ n → scale * s ≤ 2 ^ 62
   scale-fits h =
       let e : s ^ 1 ≤ s ^ n = pow-le-pow-right (omega (arith, S .window .input .limits .two)) (omega arith) in
       omega (arith, mul-le-mul-left scale e, ap (λ (x : ℕ). scale * x) (pow-one s), S .bound)
 
-  pub scan-rest : {l r : ℕ} → OuterPair s mir n d a l r → l ≡ r
-      → code s (mirrorOf mir) k (part j k d) ≡ closing + scale * l + scale * s * code s (mirrorOf mir) (n - 2) (part (a + 1) (n - 2) d)
+  pub scan-rest : {l r : ℕ} → OuterPair s m n d a l r → l ≡ r
+      → code s m k (part j k d) ≡ closing + scale * l + scale * s * code s m (n - 2) (part (a + 1) (n - 2) d)
   scan-rest O e = S .rest ∙ omega (arith, ap (λ (x : ℕ). scale * x) (equal-is (S .window) O e))
 
-  pub scan-within : {l r : ℕ} {t′ : Inner} → OuterPair s mir n d a l r → l ≡ r → Window s mir (n - 2) pw d (a + 1) t′
-      → Scan s mir k pw d j t′ (a + 1) (n - 2) (closing + scale * l) (scale * s)
+  pub scan-within : {l r : ℕ} {t′ : Inner} → OuterPair s m n d a l r → l ≡ r → Window s m (n - 2) pw d (a + 1) t′
+      → Scan s m k pw d j t′ (a + 1) (n - 2) (closing + scale * l) (scale * s)
   scan-within O e W′ =
       let p : s ^ suc (n - 2) ≤ s ^ n = pow-le-pow-right (omega (arith, S .window .input .limits .two)) (omega (arith, O .two)) in
       record {
@@ -151,27 +147,27 @@ module _ {s mir k : ℕ} {pw d : List ℕ} {j : ℕ} {t : Inner} {a n closing sc
         fits = S .fits;
       }
 
-  pub scan-done : (q : ℕ) → q ≡ code s (mirrorOf mir) n (part a n d) → closing + scale * q ≡ code s (mirrorOf mir) k (part j k d)
+  pub scan-done : (q : ℕ) → q ≡ code s m n (part a n d) → closing + scale * q ≡ code s m k (part j k d)
   scan-done q e = sym (S .rest ∙ rw e)
 
-  pub scan-one : (q l : ℕ) → n ≡ 1 → l ≡ getD d a 0 → q ≡ code s (mirrorOf mir) 1 (l ∷ []) → closing + scale * q ≡ code s (mirrorOf mir) k (part j k d)
+  pub scan-one : (q l : ℕ) → n ≡ 1 → l ≡ getD d a 0 → q ≡ code s m 1 (l ∷ []) → closing + scale * q ≡ code s m k (part j k d)
   scan-one q l e f g = scan-done q (g ∙ rw (f, e, part-cons a 0 d (omega (arith, S .window .inside))))
 
-  pub scan-none : n < 2 → n ≢ 1 → closing ≡ code s (mirrorOf mir) k (part j k d)
+  pub scan-none : n < 2 → n ≢ 1 → closing ≡ code s m k (part j k d)
   scan-none h g =
       let z : n ≡ 0 = omega arith in
-      let q : code s (mirrorOf mir) n (part a n d) ≡ 0 = rw z (code-none s (mirrorOf mir) (S .window .input .limits .two) (S .window .input .limits .even)) in
+      let q : code s m n (part a n d) ≡ 0 = rw z (code-none s m (S .window .input .limits .two) (S .window .input .limits .even)) in
       sym (S .rest ∙ rw q (omega arith))
 
 -- ---- the next window
 
 -- The letter that enters it is a rank.
-pub entering-lt : {s mir k : ℕ} {pw d : List ℕ} {j : ℕ} {t : Inner} → Window s mir k pw d j t → j + k < length d
+pub entering-lt : {s : ℕ} {m : Mirror} {k : ℕ} {pw d : List ℕ} {j : ℕ} {t : Inner} → Window s m k pw d j t → j + k < length d
     → {n y : ℕ} → n ≡ k - 2 → y ≡ getD d (j + 1 + n) 0 → 1 ≤ k → y < s
 entering-lt {s} {d = d} {j = j} W more {n = n} en ey some = rw ey (ranks-at s d (j + 1 + n) (W .input .ranks) (omega arith))
 
-module _ {s mir k : ℕ} {pw d : List ℕ} {j : ℕ} {t : Inner} (W : Window s mir k pw d j t) (some : 1 ≤ k) (more : j + k < length d)
-    {n q x y z : ℕ} (en : n ≡ k - 2) (eq : q ≡ s ^ n) (ex : x ≡ getD d (j + 1) 0) (ey : y ≡ getD d (j + 1 + n) 0) (ez : z ≡ mirrorRank s (mirrorOf mir) y) where
+module _ {s : ℕ} {m : Mirror} {k : ℕ} {pw d : List ℕ} {j : ℕ} {t : Inner} (W : Window s m k pw d j t) (some : 1 ≤ k) (more : j + k < length d)
+    {n q x y z : ℕ} (en : n ≡ k - 2) (eq : q ≡ s ^ n) (ex : x ≡ getD d (j + 1) 0) (ey : y ≡ getD d (j + 1 + n) 0) (ez : z ≡ mirrorRank s m y) where
   x-is : x ≡ getD d (suc j) 0
   x-is = ex ∙ rw (add-one j)
 
@@ -181,20 +177,20 @@ module _ {s mir k : ℕ} {pw d : List ℕ} {j : ℕ} {t : Inner} (W : Window s m
   now-ahead : t .forward ≡ plain s (part (suc j) n d)
   now-ahead = W .ahead ∙ rw en
 
-  now-behind : t .back ≡ plain s (mirror s (mirrorOf mir) (part (suc j) n d))
+  now-behind : t .back ≡ plain s (mirror s m (part (suc j) n d))
   now-behind = W .behind ∙ rw en
 
   ahead-more : t .forward * s + y ≡ plain s (part (suc j) (suc n) d)
   ahead-more = rw (now-ahead, y-is) (sym (plain-more s (suc j) n d (omega arith)))
 
-  behind-more : t .back + z * q ≡ plain s (mirror s (mirrorOf mir) (part (suc j) (suc n) d))
-  behind-more = rw (now-behind, ez, y-is, eq) (omega (arith, back-more s (mirrorOf mir) (suc j) n d (omega arith)))
+  behind-more : t .back + z * q ≡ plain s (mirror s m (part (suc j) (suc n) d))
+  behind-more = rw (now-behind, ez, y-is, eq) (omega (arith, back-more s m (suc j) n d (omega arith)))
 
   ahead-is : t .forward * s + y ≡ x * q + plain s (part (suc (suc j)) n d)
   ahead-is = ahead-more ∙ rw (x-is, eq) (plain-first s (suc j) n d (omega arith))
 
-  behind-is : t .back + z * q ≡ plain s (mirror s (mirrorOf mir) (part (suc (suc j)) n d)) * s + mirrorRank s (mirrorOf mir) x
-  behind-is = behind-more ∙ rw x-is (back-first s (mirrorOf mir) (suc j) n d (omega arith))
+  behind-is : t .back + z * q ≡ plain s (mirror s m (part (suc (suc j)) n d)) * s + mirrorRank s m x
+  behind-is = behind-more ∙ rw x-is (back-first s m (suc j) n d (omega arith))
 
   pub ahead-fits : (t .forward * s + y < 2 ^ 62) × (x * q ≤ t .forward * s + y)
   ahead-fits = (
@@ -207,10 +203,10 @@ module _ {s mir k : ℕ} {pw d : List ℕ} {j : ℕ} {t : Inner} (W : Window s m
 
   pub behind-fits : t .back + z * q < 2 ^ 62
   behind-fits =
-      rw behind-more (lt-of-lt-of-le (back-lt s (mirrorOf mir) (suc j) (suc n) d (W .input .ranks) (omega arith)) (power-fits (W .input) (suc n) (omega arith)))
+      rw behind-more (lt-of-lt-of-le (back-lt s m (suc j) (suc n) d (W .input .ranks) (omega arith)) (power-fits (W .input) (suc n) (omega arith)))
 
   pub next-is : (u v : ℕ) → u ≡ t .forward * s + y - x * q → v ≡ (t .back + z * q) / s
-      → Window s mir k pw d (j + 1) (record { palindromes = t .palindromes; forward = u; back = v })
+      → Window s m k pw d (j + 1) (record { palindromes = t .palindromes; forward = u; back = v })
   next-is u v eu ev =
       record {
         input = W .input;
@@ -218,23 +214,23 @@ module _ {s mir k : ℕ} {pw d : List ℕ} {j : ℕ} {t : Inner} (W : Window s m
         count = W .count;
         ahead = eu ∙ rw (← en, add-one) (omega (arith, ahead-is));
         behind = ev ∙ rw (← en, add-one, behind-is)
-            (digits-div (plain s (mirror s (mirrorOf mir) (part (suc (suc j)) n d)))
-            (mirrorRank-lt s (mirrorOf mir) x (rw x-is (ranks-at s d (suc j) (W .input .ranks) (omega arith)))));
+            (digits-div (plain s (mirror s m (part (suc (suc j)) n d)))
+            (mirrorRank-lt s m x (rw x-is (ranks-at s d (suc j) (W .input .ranks) (omega arith)))));
       }
 
 -- ---- the first window, letter by letter: i of its n inner letters are taken in
 
-pub record Opened (s mir : ℕ) (d : List ℕ) (n u v i : ℕ) : Type 0 where
+pub record Opened (s : ℕ) (m : Mirror) (d : List ℕ) (n u v i : ℕ) : Type 0 where
   pub upto : i ≤ n
   pub ahead : u ≡ plain s (part 1 i d)
-  pub behind : v ≡ plain s (mirror s (mirrorOf mir) (part 1 i d))
+  pub behind : v ≡ plain s (mirror s m (part 1 i d))
 
-pub open-none : (s mir : ℕ) (d : List ℕ) (n : ℕ) → Opened s mir d n 0 0 0
+pub open-none : (s : ℕ) (m : Mirror) (d : List ℕ) (n : ℕ) → Opened s m d n 0 0 0
 unfolding plain mirror
-open-none s mir d n = record { upto = omega arith; ahead = refl; behind = refl }
+open-none s m d n = record { upto = omega arith; ahead = refl; behind = refl }
 
-module _ {s mir k : ℕ} {pw d : List ℕ} (I : Input s mir k pw d) (long : k ≤ length d) {n u v i : ℕ} (en : n ≡ k - 2) (O : Opened s mir d n u v i) where
-  pub open-all : (e : ℕ) → e ≡ palindromes s (mirrorOf mir) k → n ≤ i → Window s mir k pw d 0 (record { palindromes = e; forward = u; back = v })
+module _ {s : ℕ} {m : Mirror} {k : ℕ} {pw d : List ℕ} (I : Input s m k pw d) (long : k ≤ length d) {n u v i : ℕ} (en : n ≡ k - 2) (O : Opened s m d n u v i) where
+  pub open-all : (e : ℕ) → e ≡ palindromes s m k → n ≤ i → Window s m k pw d 0 (record { palindromes = e; forward = u; back = v })
   open-all e q h =
       let i-is : i ≡ k - 2 = omega (arith, O .upto) in
       record { input = I; inside = omega arith; count = q; ahead = rw i-is at (O .ahead); behind = rw i-is at (O .behind) }
@@ -255,14 +251,14 @@ module _ {s mir k : ℕ} {pw d : List ℕ} (I : Input s mir k pw d) (long : k �
     pub open-ahead : u * s + x < 2 ^ 62
     open-ahead = rw ahead-more′ (lt-of-lt-of-le (part-lt s 1 (suc i) d (I .ranks) (omega (arith, inside))) (power-fits I (suc i) (omega arith)))
 
-    module _ {y q : ℕ} (ey : y ≡ mirrorRank s (mirrorOf mir) x) (eq : q ≡ s ^ i) where
-      behind-more′ : v + y * q ≡ plain s (mirror s (mirrorOf mir) (part 1 (suc i) d))
-      behind-more′ = rw (O .behind, ey, x-at, eq) (omega (arith, back-more s (mirrorOf mir) 1 i d inside))
+    module _ {y q : ℕ} (ey : y ≡ mirrorRank s m x) (eq : q ≡ s ^ i) where
+      behind-more′ : v + y * q ≡ plain s (mirror s m (part 1 (suc i) d))
+      behind-more′ = rw (O .behind, ey, x-at, eq) (omega (arith, back-more s m 1 i d inside))
 
       pub open-behind : v + y * q < 2 ^ 62
       open-behind =
-          let below = back-lt s (mirrorOf mir) 1 (suc i) d (I .ranks) (omega (arith, inside)) in
+          let below = back-lt s m 1 (suc i) d (I .ranks) (omega (arith, inside)) in
           rw behind-more′ (lt-of-lt-of-le below (power-fits I (suc i) (omega arith)))
 
-      pub open-more : Opened s mir d n (u * s + x) (v + y * q) (i + 1)
+      pub open-more : Opened s m d n (u * s + x) (v + y * q) (i + 1)
       open-more = record { upto = omega arith; ahead = ahead-more′ ∙ rw add-one; behind = behind-more′ ∙ rw add-one }

@@ -3,7 +3,6 @@ use mathlib.Core.Path.{_≡_, _∙_, subst}
 use mathlib.Core.List.{List}
 use Prim.Native.Nat.{ℕ, _*_, _^_, _≤_}
 use native.Mathlib.Omega.{arith}
-use Rattle.settings.specs.Settings.{mirrorOf}
 use Rattle.laws.proofs.Powers.{exponent-le}
 use Rattle.encoding.specs.Words.{Complement, Ranks}
 use Rattle.sequence.specs.declared.kernels.Kernel.{Kernel}
@@ -19,7 +18,7 @@ four-exponent k h =
     omega (arith, exponent-le 2 (2 * k) (omega arith) e)
 
 module _ {c : Coder} {powers : List ℕ} (C : Coding c powers) (two : c .kernel ≡ TwoBit) where
-  taken : (c .s ≡ 4) × (mirrorOf (c .mirror) ≡ Complement)
+  taken : (c .s ≡ 4) × (c .mirror ≡ Complement)
   taken = subst (λ (x : Kernel). Takes x (c .s) (c .mirror)) two (C .takes)
 
   pub two-bit-input : {ranks : List ℕ} → Ranks (c .s) ranks → TwoBitInput (c .k) (c .palindromes) ranks
@@ -32,5 +31,5 @@ module _ {c : Coder} {powers : List ℕ} (C : Coding c powers) (two : c .kernel 
       }
 
   pub two-bit-codes : (ranks : List ℕ) {o new : List ℕ} → Fills (windowCodes 4 Complement (c .k) ranks) o new
-      → Fills (windowCodes (c .s) (mirrorOf (c .mirror)) (c .k) ranks) o new
+      → Fills (windowCodes (c .s) (c .mirror) (c .k) ranks) o new
   two-bit-codes ranks F = rw (taken .0, taken .1) F

@@ -2,7 +2,7 @@
 pub mod Windows
 pub mod Parts
 pub mod Filling
-pub mod ByMirror
+pub mod OneLetter
 pub mod WindowEnds
 pub mod AnyAlphabet
 pub mod TwoBit

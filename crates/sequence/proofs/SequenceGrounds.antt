@@ -76,9 +76,9 @@ module _ (letters : List ℕ) (k m : ℕ) (sequence old : List ℕ) where
 
 -- ---- what the kernels ask holds under good settings
 
-module _ (letters : List ℕ) (k m : ℕ) (good : settingsGround letters k m ≡ none) (kernel : Kernel) (takes : Takes kernel (length letters) m) where
+module _ (letters : List ℕ) (k m : ℕ) (good : settingsGround letters k m ≡ none) (kernel : Kernel) (takes : Takes kernel (length letters) (mirrorOf m)) where
   abbrev coderOf : Settings → Coder
-  coderOf st = record { kernel = kernel; s = st .s; k = k; mirror = m; palindromes = 2 * st .classes - st .words }
+  coderOf st = record { kernel = kernel; s = st .s; k = k; mirror = st .mirror; palindromes = 2 * st .classes - st .words }
 
   ready : {powers : List ℕ} → Powers (length letters) k powers → Coding (coderOf (settingsOf letters k m)) powers
   ready P =
@@ -94,6 +94,9 @@ module _ (letters : List ℕ) (k m : ℕ) (good : settingsGround letters k m ≡
   module _ (st : Settings) (is : st ≡ settingsOf letters k m) where
     pub s-is : st .s ≡ length letters
     s-is = ap (λ (x : Settings). x .s) is
+
+    pub mirror-is : st .mirror ≡ mirrorOf m
+    mirror-is = ap (λ (x : Settings). x .mirror) is
 
     pub coder-ready : {powers : List ℕ} → Powers (st .s) k powers → Coding (coderOf st) powers
     coder-ready {powers} P = subst⁻¹ (λ (x : Settings). Coding (coderOf x) powers) is (ready (subst (λ (x : Settings). Powers (x .s) k powers) is P))

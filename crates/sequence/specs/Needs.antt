@@ -7,7 +7,6 @@ use mathlib.Core.Option.{Option, some}
 use mathlib.Core.Logic.{_≢_}
 use Prim.Native.Nat.{ℕ, suc, _+_, _-_, _/_, _^_, _<_, _≤_, min, max}
 use lib.ListN.{length, getD, take, drop}
-use Rattle.settings.specs.Settings.{mirrorOf}
 use Rattle.settings.specs.Limits.{Limits}
 use Rattle.settings.specs.RankTables.{rankByTable}
 use Rattle.encoding.specs.Words.{Mirror, Complement, Ranks, mirrorRank, mirror, plain}
@@ -37,24 +36,24 @@ pub record Powers (s k : ℕ) (table : List ℕ) : Type 0 where
   pub at : (i : ℕ) → i ≤ k → getD table i 0 ≡ s ^ i
 
 -- Settings within the limits, their powers, and a list of ranks.
-pub record Input (s mir k : ℕ) (powers d : List ℕ) : Type 0 where
-  pub limits : Limits s (mirrorOf mir) k
+pub record Input (s : ℕ) (m : Mirror) (k : ℕ) (powers d : List ℕ) : Type 0 where
+  pub limits : Limits s m k
   pub table : Powers s k powers
   pub ranks : Ranks s d
 
 -- A window of k letters at place j, with what is kept of it.
-pub record Window (s mir k : ℕ) (powers d : List ℕ) (j : ℕ) (t : Inner) : Type 0 where
-  pub input : Input s mir k powers d
+pub record Window (s : ℕ) (m : Mirror) (k : ℕ) (powers d : List ℕ) (j : ℕ) (t : Inner) : Type 0 where
+  pub input : Input s m k powers d
   pub inside : j + k ≤ length d
-  pub count : t .palindromes ≡ palindromes s (mirrorOf mir) k
+  pub count : t .palindromes ≡ palindromes s m k
   pub ahead : t .forward ≡ plain s (part (suc j) (k - 2) d)
-  pub behind : t .back ≡ plain s (mirror s (mirrorOf mir) (part (suc j) (k - 2) d))
+  pub behind : t .back ≡ plain s (mirror s m (part (suc j) (k - 2) d))
 
 -- Its outer letters, the last one as the mirror shows it.
-pub record OuterPair (s mir k : ℕ) (d : List ℕ) (j l r : ℕ) : Type 0 where
+pub record OuterPair (s : ℕ) (m : Mirror) (k : ℕ) (d : List ℕ) (j l r : ℕ) : Type 0 where
   pub two : 2 ≤ k
   pub first : l ≡ getD d j 0
-  pub last : r ≡ mirrorRank s (mirrorOf mir) (getD d (j + k - 1) 0)
+  pub last : r ≡ mirrorRank s m (getD d (j + k - 1) 0)
 
 -- ---- the kernel by two-bit numbers: four letters under complement
 
@@ -87,15 +86,15 @@ pub record Ordered (x y a b q : ℕ) : Type 0 where
 -- ---- either kernel
 
 -- The kernel by two-bit numbers takes four letters under complement alone.
-abbrev pub Takes : Kernel → ℕ → ℕ → Type 0
-Takes AnyAlphabet s mir = Unit
-Takes TwoBit s mir = (s ≡ 4) × (mirrorOf mir ≡ Complement)
+abbrev pub Takes : Kernel → ℕ → Mirror → Type 0
+Takes AnyAlphabet s m = Unit
+Takes TwoBit s m = (s ≡ 4) × (m ≡ Complement)
 
 -- Good settings as a kernel takes them, with the powers of s.
 pub record Coding (c : Coder) (powers : List ℕ) : Type 0 where
-  pub limits : Limits (c .s) (mirrorOf (c .mirror)) (c .k)
+  pub limits : Limits (c .s) (c .mirror) (c .k)
   pub some : 1 ≤ c .k
-  pub count : c .palindromes ≡ palindromes (c .s) (mirrorOf (c .mirror)) (c .k)
+  pub count : c .palindromes ≡ palindromes (c .s) (c .mirror) (c .k)
   pub takes : Takes (c .kernel) (c .s) (c .mirror)
   pub table : Powers (c .s) (c .k) powers
 

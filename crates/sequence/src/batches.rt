@@ -8,7 +8,6 @@ ghost use mathlib.Core.Path.{_≡_};
 ghost use mathlib.Core.List.{map};
 ghost use Prim.Native.Nat.{_+_, _-_, _≤_, min};
 ghost use lib.ListN.{length};
-ghost use Rattle.settings.specs.Settings.{mirrorOf};
 ghost use Rattle.sequence.specs.Windows.{windows};
 ghost use Rattle.settings.specs.RankTables.{rankByTable};
 ghost use Rattle.sequence.specs.Needs.{Fills, Coding, RanksBelow, codeBy};
@@ -27,7 +26,7 @@ fn fill_batch(bytes: &[u8], table: &[u8; 256], c: Coder, powers: &[u64; 64], out
     requires { ⌜ length (now bytes) ≤ 4096 ⌝ }
     requires { ⌜ length (now bytes) + 1 - c .k ≤ length (now out) ⌝ }
     ensures { λ _.
-        ⌜ Fills (map (codeBy (rankByTable (now (table .entry))) (c .s) (mirrorOf (c .mirror)) (c .k)) (windows (c .k) (now (bytes .entry))))
+        ⌜ Fills (map (codeBy (rankByTable (now (table .entry))) (c .s) (c .mirror) (c .k)) (windows (c .k) (now (bytes .entry))))
         (now (out .entry)) (now (out .exit)) ⌝ }
 {
     let n = bytes.len();
@@ -60,7 +59,7 @@ pub fn fill_sequence(
     requires { ⌜ RanksBelow (c .s) (now table) ⌝ }
     requires { ⌜ length (now sequence) + 1 - c .k ≤ length (now list) ⌝ }
     ensures { λ _.
-        ⌜ Fills (map (codeBy (rankByTable (now (table .entry))) (c .s) (mirrorOf (c .mirror)) (c .k)) (windows (c .k) (now (sequence .entry))))
+        ⌜ Fills (map (codeBy (rankByTable (now (table .entry))) (c .s) (c .mirror) (c .k)) (windows (c .k) (now (sequence .entry))))
         (now (list .entry)) (now (list .exit)) ⌝ }
 {
     let k = c.k;

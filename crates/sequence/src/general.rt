@@ -5,12 +5,13 @@ use super::pairs::higher;
 use super::pairs::lower;
 use super::pairs::rank_at;
 use encoding::pair_ranks::pair_rank;
+use encoding::ranks::mirror_rank;
+use settings::Mirror;
 ghost use mathlib.Core.Path.{_≡_};
 ghost use mathlib.Core.Logic.{_≢_};
 ghost use mathlib.Core.List.{[], _∷_};
 ghost use Prim.Native.Nat.{_+_, _-_, _/_, _^_, _<_, _≤_};
 ghost use lib.ListN.{length, getD};
-ghost use Rattle.settings.specs.Settings.{mirrorOf};
 ghost use Rattle.settings.specs.Limits.{EvenUnder};
 ghost use Rattle.encoding.specs.Words.{Ranks, mirrorRank};
 ghost use Rattle.encoding.specs.Codes.{code};
@@ -30,14 +31,6 @@ fn by_order(l: u64, r: u64, first: u64, second: u64) -> u64
     ensures { λ q. ⌜ (l < r → q ≡ first) × (r ≤ l → q ≡ second) ⌝ }
 {
     if l < r { first } else { second }
-}
-
-// What the mirror makes of a rank.
-fn mirror_rank(s: u64, mirror: u64, x: u64) -> u64
-    requires { ⌜ x < s ⌝ }
-    ensures { λ r. ⌜ r ≡ mirrorRank s (mirrorOf mirror) x ⌝ }
-{
-    if mirror == 0 { x } else { s - 1 - x }
 }
 
 // The quotient by the number of letters. Each divisor is a constant, so that no letter costs a division by a number known only at run time.
@@ -74,17 +67,18 @@ fn divided(y: u64, s: u64) -> u64
 }
 
 // The code of a word of one letter.
-fn middle_code(s: u64, mirror: u64, x: u64) -> u64
+fn middle_code(s: u64, m: Mirror, x: u64) -> u64
     requires { ⌜ 1 < s ⌝ }
     requires { ⌜ x < s ⌝ }
-    requires { ⌜ EvenUnder s (mirrorOf mirror) ⌝ }
-    ensures { λ r. ⌜ r ≡ code s (mirrorOf mirror) 1 (x ∷ []) ⌝ }
+    requires { ⌜ EvenUnder s m ⌝ }
+    ensures { λ r. ⌜ r ≡ code s m 1 (x ∷ []) ⌝ }
 {
-    if mirror == 0 {
-        x
-    } else {
-        let h = s / 2;
-        if x < h { h - 1 - x } else { x - (s - h) }
+    match m {
+        Mirror::Reversal => x,
+        Mirror::Complement => {
+            let h = s / 2;
+            if x < h { h - 1 - x } else { x - (s - h) }
+        }
     }
 }
 
@@ -99,12 +93,12 @@ fn power_at(powers: &[u64; 64], s: u64, k: usize, i: usize) -> u64
 }
 
 // The rank at place i, as the mirror shows it.
-fn mirror_rank_at(d: &[u8], i: usize, s: u64, mirror: u64) -> u64
+fn mirror_rank_at(d: &[u8], i: usize, s: u64, m: Mirror) -> u64
     requires { ⌜ i < length (now d) ⌝ }
     requires { ⌜ Ranks s (now d) ⌝ }
-    ensures { λ r. ⌜ r ≡ mirrorRank s (mirrorOf mirror) (getD (now (d .entry)) i 0) ⌝ }
+    ensures { λ r. ⌜ r ≡ mirrorRank s m (getD (now (d .entry)) i 0) ⌝ }
 {
-    mirror_rank(s, mirror, rank_at(d, i))
+    mirror_rank(s, m, rank_at(d, i))
 }
 
 // The code of the window at j, whose outer letters l and r (as the mirror shows it) differ.
@@ -113,16 +107,16 @@ fn differing_code(
     j: usize,
     k: usize,
     s: u64,
-    mirror: u64,
+    m: Mirror,
     powers: &[u64; 64],
     t: Inner,
     l: u64,
     r: u64,
 ) -> u64
-    requires { ⌜ Window s mirror k (now powers) (now d) j t ⌝ }
-    requires { ⌜ OuterPair s mirror k (now d) j l r ⌝ }
+    requires { ⌜ Window s m k (now powers) (now d) j t ⌝ }
+    requires { ⌜ OuterPair s m k (now d) j l r ⌝ }
     requires { ⌜ l ≢ r ⌝ }
-    ensures { λ q. ⌜ q ≡ code s (mirrorOf mirror) k (part j k (now (d .entry))) ⌝ }
+    ensures { λ q. ⌜ q ≡ code s m k (part j k (now (d .entry))) ⌝ }
 {
     let w = by_order(l, r, t.forward, t.back);
     let top = power_at(powers, s, k, k - 1);
@@ -137,13 +131,13 @@ fn inner_window(
     j: usize,
     k: usize,
     s: u64,
-    mirror: u64,
+    m: Mirror,
     powers: &[u64; 64],
     t: Inner,
 ) -> Inner
-    requires { ⌜ Window s mirror k (now powers) (now d) j t ⌝ }
+    requires { ⌜ Window s m k (now powers) (now d) j t ⌝ }
     requires { ⌜ 2 ≤ k ⌝ }
-    ensures { λ r. ⌜ Window s mirror (k - 2) (now (powers .entry)) (now (d .entry)) (j + 1) r ⌝ }
+    ensures { λ r. ⌜ Window s m (k - 2) (now (powers .entry)) (now (d .entry)) (j + 1) r ⌝ }
 {
     let e = divided(t.palindromes, s);
     if k < 4 {
@@ -155,7 +149,7 @@ fn inner_window(
     }
     let q = power_at(powers, s, k, k - 3);
     let f = rank_at(d, j + 1) * q;
-    let g = mirror_rank_at(d, j + k - 2, s, mirror) * q;
+    let g = mirror_rank_at(d, j + k - 2, s, m) * q;
     Inner {
         palindromes: e,
         forward: divided(t.forward - f, s),
@@ -169,12 +163,12 @@ fn scanned_code(
     j: usize,
     k: usize,
     s: u64,
-    mirror: u64,
+    m: Mirror,
     powers: &[u64; 64],
     outer: Inner,
 ) -> u64
-    requires { ⌜ Window s mirror k (now powers) (now d) j outer ⌝ }
-    ensures { λ r. ⌜ r ≡ code s (mirrorOf mirror) k (part j k (now (d .entry))) ⌝ }
+    requires { ⌜ Window s m k (now powers) (now d) j outer ⌝ }
+    ensures { λ r. ⌜ r ≡ code s m k (part j k (now (d .entry))) ⌝ }
 {
     let mut t = outer;
     let mut a = j;
@@ -183,46 +177,38 @@ fn scanned_code(
     let mut scale: u64 = 1;
     while 2 <= n {
         let l = rank_at(d, a);
-        let r = mirror_rank_at(d, a + n - 1, s, mirror);
+        let r = mirror_rank_at(d, a + n - 1, s, m);
         if l != r {
-            return closing + scale * differing_code(d, a, n, s, mirror, powers, t, l, r);
+            return closing + scale * differing_code(d, a, n, s, m, powers, t, l, r);
         }
         closing = closing + scale * l;
-        t = inner_window(d, a, n, s, mirror, powers, t);
+        t = inner_window(d, a, n, s, m, powers, t);
         scale = scale * s;
         a += 1;
         n -= 2;
     }
     if n == 1 {
-        closing + scale * middle_code(s, mirror, rank_at(d, a))
+        closing + scale * middle_code(s, m, rank_at(d, a))
     } else {
         closing
     }
 }
 
 // The code of the window at j: at once where its outer letters differ.
-fn window_code(
-    d: &[u8],
-    j: usize,
-    k: usize,
-    s: u64,
-    mirror: u64,
-    powers: &[u64; 64],
-    t: Inner,
-) -> u64
-    requires { ⌜ Window s mirror k (now powers) (now d) j t ⌝ }
+fn window_code(d: &[u8], j: usize, k: usize, s: u64, m: Mirror, powers: &[u64; 64], t: Inner) -> u64
+    requires { ⌜ Window s m k (now powers) (now d) j t ⌝ }
     requires { ⌜ 1 ≤ k ⌝ }
-    ensures { λ r. ⌜ r ≡ code s (mirrorOf mirror) k (part j k (now (d .entry))) ⌝ }
+    ensures { λ r. ⌜ r ≡ code s m k (part j k (now (d .entry))) ⌝ }
 {
     if k == 1 {
-        return scanned_code(d, j, k, s, mirror, powers, t);
+        return scanned_code(d, j, k, s, m, powers, t);
     }
     let l = rank_at(d, j);
-    let r = mirror_rank_at(d, j + k - 1, s, mirror);
+    let r = mirror_rank_at(d, j + k - 1, s, m);
     if l != r {
-        return differing_code(d, j, k, s, mirror, powers, t, l, r);
+        return differing_code(d, j, k, s, m, powers, t, l, r);
     }
-    scanned_code(d, j, k, s, mirror, powers, t)
+    scanned_code(d, j, k, s, m, powers, t)
 }
 
 // How many letters stand between the first and the last of k.
@@ -233,11 +219,11 @@ fn inner_length(k: usize) -> usize
 }
 
 // What is kept of the window at 0, letter by letter; e is the number of palindromes.
-fn first_window(d: &[u8], k: usize, s: u64, mirror: u64, powers: &[u64; 64], e: u64) -> Inner
-    requires { ⌜ Input s mirror k (now powers) (now d) ⌝ }
+fn first_window(d: &[u8], k: usize, s: u64, m: Mirror, powers: &[u64; 64], e: u64) -> Inner
+    requires { ⌜ Input s m k (now powers) (now d) ⌝ }
     requires { ⌜ k ≤ length (now d) ⌝ }
-    requires { ⌜ e ≡ palindromes s (mirrorOf mirror) k ⌝ }
-    ensures { λ r. ⌜ Window s mirror k (now (powers .entry)) (now (d .entry)) 0 r ⌝ }
+    requires { ⌜ e ≡ palindromes s m k ⌝ }
+    ensures { λ r. ⌜ Window s m k (now (powers .entry)) (now (d .entry)) 0 r ⌝ }
 {
     let n = inner_length(k);
     let mut u: u64 = 0;
@@ -246,7 +232,7 @@ fn first_window(d: &[u8], k: usize, s: u64, mirror: u64, powers: &[u64; 64], e: 
     while i < n {
         let x = rank_at(d, i + 1);
         u = u * s + x;
-        v = v + mirror_rank(s, mirror, x) * power_at(powers, s, k, i);
+        v = v + mirror_rank(s, m, x) * power_at(powers, s, k, i);
         i += 1;
     }
     Inner {
@@ -262,20 +248,20 @@ fn next_window(
     j: usize,
     k: usize,
     s: u64,
-    mirror: u64,
+    m: Mirror,
     powers: &[u64; 64],
     t: Inner,
 ) -> Inner
-    requires { ⌜ Window s mirror k (now powers) (now d) j t ⌝ }
+    requires { ⌜ Window s m k (now powers) (now d) j t ⌝ }
     requires { ⌜ 1 ≤ k ⌝ }
     requires { ⌜ j + k < length (now d) ⌝ }
-    ensures { λ r. ⌜ Window s mirror k (now (powers .entry)) (now (d .entry)) (j + 1) r ⌝ }
+    ensures { λ r. ⌜ Window s m k (now (powers .entry)) (now (d .entry)) (j + 1) r ⌝ }
 {
     let n = inner_length(k);
     let q = power_at(powers, s, k, n);
     let f = rank_at(d, j + 1);
     let g = rank_at(d, j + 1 + n);
-    let h = mirror_rank(s, mirror, g);
+    let h = mirror_rank(s, m, g);
     let e = t.palindromes;
     let u = t.forward * s + g - f * q;
     let v = divided(t.back + h * q, s);
@@ -287,24 +273,24 @@ fn next_window(
 }
 
 // The codes of all windows of a list of ranks, from the start of a lent list.
-pub fn fill(d: &[u8], k: usize, s: u64, mirror: u64, powers: &[u64; 64], e: u64, out: &mut [u64])
-    requires { ⌜ Input s mirror k (now powers) (now d) ⌝ }
+pub fn fill(d: &[u8], k: usize, s: u64, m: Mirror, powers: &[u64; 64], e: u64, out: &mut [u64])
+    requires { ⌜ Input s m k (now powers) (now d) ⌝ }
     requires { ⌜ 1 ≤ k ⌝ }
-    requires { ⌜ e ≡ palindromes s (mirrorOf mirror) k ⌝ }
+    requires { ⌜ e ≡ palindromes s m k ⌝ }
     requires { ⌜ length (now d) + 1 - k ≤ length (now out) ⌝ }
-    ensures { λ _. ⌜ Fills (windowCodes s (mirrorOf mirror) k (now (d .entry))) (now (out .entry)) (now (out .exit)) ⌝ }
+    ensures { λ _. ⌜ Fills (windowCodes s m k (now (d .entry))) (now (out .entry)) (now (out .exit)) ⌝ }
 {
     if d.len() < k {
         return;
     }
-    let mut t = first_window(d, k, s, mirror, powers, e);
-    let first = window_code(d, 0, k, s, mirror, powers, t);
+    let mut t = first_window(d, k, s, m, powers, e);
+    let first = window_code(d, 0, k, s, m, powers, t);
     out[0] = first;
     let mut i: usize = 0;
     while i + k < d.len() {
-        t = next_window(d, i, k, s, mirror, powers, t);
+        t = next_window(d, i, k, s, m, powers, t);
         i += 1;
-        let c = window_code(d, i, k, s, mirror, powers, t);
+        let c = window_code(d, i, k, s, m, powers, t);
         out[i] = c;
     }
 }

@@ -2,10 +2,10 @@
 // once a call, and a list of ranks of any length; longer runs come in pieces that overlap by k - 1 letters.
 use super::general;
 use super::two_bit;
+use settings::Mirror;
 ghost use mathlib.Core.Path.{_≡_};
 ghost use Prim.Native.Nat.{_+_, _-_, _^_, _<_, _≤_};
 ghost use lib.ListN.{length};
-ghost use Rattle.settings.specs.Settings.{mirrorOf};
 ghost use Rattle.encoding.specs.Words.{Ranks};
 ghost use Rattle.sequence.specs.Windows.{windowCodes};
 ghost use Rattle.sequence.specs.Needs.{Fills, Powers, Coding};
@@ -15,12 +15,12 @@ pub enum Kernel {
     TwoBit,
 }
 
-// What a kernel needs of good settings: the number of letters, k, the mirror's number, the number of palindromes.
+// What a kernel needs of good settings: the number of letters, k, the mirror, the number of palindromes.
 pub struct Coder {
     pub kernel: Kernel,
     pub s: u64,
     pub k: usize,
-    pub mirror: u64,
+    pub mirror: Mirror,
     pub palindromes: u64,
 }
 
@@ -57,11 +57,12 @@ pub fn fill_codes(ranks: &[u8], c: Coder, powers: &[u64; 64], out: &mut [u64])
     requires { ⌜ Coding c (now powers) ⌝ }
     requires { ⌜ Ranks (c .s) (now ranks) ⌝ }
     requires { ⌜ length (now ranks) + 1 - c .k ≤ length (now out) ⌝ }
-    ensures { λ _. ⌜ Fills (windowCodes (c .s) (mirrorOf (c .mirror)) (c .k) (now (ranks .entry))) (now (out .entry)) (now (out .exit)) ⌝ }
+    ensures { λ _. ⌜ Fills (windowCodes (c .s) (c .mirror) (c .k) (now (ranks .entry))) (now (out .entry)) (now (out .exit)) ⌝ }
 {
     let kernel = c.kernel;
+    let m = c.mirror;
     match kernel {
-        Kernel::AnyAlphabet => general::fill(ranks, c.k, c.s, c.mirror, powers, c.palindromes, out),
+        Kernel::AnyAlphabet => general::fill(ranks, c.k, c.s, m, powers, c.palindromes, out),
         Kernel::TwoBit => two_bit::fill(ranks, c.k as u64, c.palindromes, out),
     }
 }

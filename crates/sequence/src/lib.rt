@@ -17,7 +17,7 @@ ghost use mathlib.Core.Option.{none};
 ghost use Prim.Native.Nat.{_+_, _-_, _≤_};
 ghost use lib.ListN.{length};
 ghost use Rattle.laws.specs.Text.{bytes};
-ghost use Rattle.settings.specs.Settings.{settingsGround, settingsOf};
+ghost use Rattle.settings.specs.Settings.{mirrorOf, settingsGround, settingsOf};
 ghost use Rattle.sequence.specs.Sequences.{FillsCodes};
 ghost use Rattle.sequence.specs.Needs.{Takes};
 
@@ -47,7 +47,7 @@ fn fill_checked(
 ) -> Filled
     requires { ⌜ settingsGround (now letters) k mirror ≡ none ⌝ }
     requires { ⌜ st ≡ settingsOf (now letters) k mirror ⌝ }
-    requires { ⌜ Takes kernel (length (now letters)) mirror ⌝ }
+    requires { ⌜ Takes kernel (length (now letters)) (mirrorOf mirror) ⌝ }
     ensures { λ r. ⌜ FillsCodes (now (letters .entry)) k mirror (now (sequence .entry)) (now (list .entry)) r (now (list .exit)) ⌝ }
 {
     if sequence.len() > 16777216 {
@@ -59,11 +59,12 @@ fn fill_checked(
     }
     let table = settings::rank_table(letters);
     let powers = kernels::power_table(st.s, k);
+    let m = st.mirror;
     let c = Coder {
         kernel,
         s: st.s,
         k,
-        mirror,
+        mirror: m,
         palindromes: 2 * st.classes - st.words,
     };
     batches::fill_sequence(sequence, &table, c, &powers, list);
@@ -79,7 +80,7 @@ fn fill_list(
     sequence: &[u8],
     list: &mut [u64],
 ) -> Filled
-    requires { ⌜ Takes kernel (length (now letters)) mirror ⌝ }
+    requires { ⌜ Takes kernel (length (now letters)) (mirrorOf mirror) ⌝ }
     ensures { λ r. ⌜ FillsCodes (now (letters .entry)) k mirror (now (sequence .entry)) (now (list .entry)) r (now (list .exit)) ⌝ }
 {
     match settings::check(letters, k, mirror) {

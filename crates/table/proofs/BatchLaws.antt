@@ -6,7 +6,7 @@ use mathlib.Core.Bool.{Bool, true, false, cond}
 use mathlib.Core.List.{List, [], _++_, map-append}
 use lib.ListN.{length, take, drop, length-append, length-map, length-drop}
 use lib.Seq.{take-at, drop-at, take-add, length-take-le}
-use Rattle.settings.specs.Settings.{mirrorOf, classes}
+use Rattle.settings.specs.Settings.{classes}
 use Rattle.laws.proofs.Powers.{exponent-le}
 use Rattle.encoding.specs.Words.{Ranks, IsWord}
 use Rattle.encoding.specs.Codes.{code}
@@ -36,7 +36,7 @@ use Rattle.table.proofs.Cuts.{cut-all, cut-batch}
 
 module _ {c : Coder} {powers : List ℕ} (C : Coding c powers) (ranks : List ℕ) where
   pub codes-length : length (codesBy c (windows (c .k) ranks)) ≡ length ranks + 1 - c .k
-  codes-length = length-codes (c .k) (C .some) (code (c .s) (mirrorOf (c .mirror)) (c .k)) ranks
+  codes-length = length-codes (c .k) (C .some) (code (c .s) (c .mirror) (c .k)) ranks
 
   -- The codes stand at the start of the list that was filled.
   pub codes-front : {old new : List ℕ} → Fills (codesBy c (windows (c .k) ranks)) old new → (n : ℕ) → n ≡ length ranks + 1 - c .k
@@ -45,15 +45,15 @@ module _ {c : Coder} {powers : List ℕ} (C : Coding c powers) (ranks : List ℕ
       let codes = codesBy c (windows (c .k) ranks) in
       rw (F .is) (take-at codes (drop (length codes) old) n (codes-length ∙ sym e))
 
-  codes-below : Ranks (c .s) ranks → Each (Below (classes (c .s) (mirrorOf (c .mirror)) (c .k))) (codesBy c (windows (c .k) ranks))
+  codes-below : Ranks (c .s) ranks → Each (Below (classes (c .s) (c .mirror) (c .k))) (codesBy c (windows (c .k) ranks))
   codes-below R =
-      each-map (IsWord (c .s) (c .k)) (Below (classes (c .s) (mirrorOf (c .mirror)) (c .k))) (code (c .s) (mirrorOf (c .mirror)) (c .k))
+      each-map (IsWord (c .s) (c .k)) (Below (classes (c .s) (c .mirror) (c .k))) (code (c .s) (c .mirror) (c .k))
       (windows (c .k) ranks)
-      (λ w i. code-below-classes (c .s) (mirrorOf (c .mirror)) (c .k) (C .limits) w i)
+      (λ w i. code-below-classes (c .s) (c .mirror) (c .k) (C .limits) w i)
       (word-windows (c .s) (c .k) ranks R)
 
   -- What counting the codes asks.
-  pub can-count-batch : {counts old new : List ℕ} → Ranks (c .s) ranks → length counts ≡ classes (c .s) (mirrorOf (c .mirror)) (c .k)
+  pub can-count-batch : {counts old new : List ℕ} → Ranks (c .s) ranks → length counts ≡ classes (c .s) (c .mirror) (c .k)
       → Room (length (codesBy c (windows (c .k) ranks))) counts
       → Fills (codesBy c (windows (c .k) ranks)) old new
       → (n : ℕ) → n ≡ length ranks + 1 - c .k
@@ -153,7 +153,7 @@ module _ {c : Coder} {powers : List ℕ} (C : Coding c powers) where
 
       pub batch-room : Room (length (codesBy c (windows (c .k) batch-letters))) counts
       batch-room =
-          let m = length-map (windows (c .k) batch-letters) (code (c .s) (mirrorOf (c .mirror)) (c .k)) in
+          let m = length-map (windows (c .k) batch-letters) (code (c .s) (c .mirror) (c .k)) in
           less-room (omega (arith, ap length splits, length-append (windows (c .k) batch-letters) later, m)) (K .room)
 
       pub batch-ranks : RanksUnder (c .s) table → Ranks (c .s) batch-letters
@@ -168,7 +168,7 @@ module _ {c : Coder} {powers : List ℕ} (C : Coding c powers) where
           → length array₂ ≡ length array₁
           → Counting c table file counts₀ counts₁ array₂ (g .at) (g .mode) n₂
       counts-batch {counts₁} {array₂} {n₂} T counted Y size₂ =
-          let f = code (c .s) (mirrorOf (c .mirror)) (c .k) in
+          let f = code (c .s) (c .mirror) (c .k) in
           let m = length-map (windows (c .k) batch-letters) f in
           let sum : length (cutFrom (rankByTable table) (c .k) (take n array) file mode at) ≡ length (codesBy c (windows (c .k) batch-letters)) + length later =
           omega (arith, ap length splits, length-append (windows (c .k) batch-letters) later, m) in

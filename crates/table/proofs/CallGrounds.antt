@@ -193,15 +193,16 @@ module _ (letters : List ℕ) (k m : ℕ) (t file : List ℕ) (good : settingsGr
 pub ranks-under : (letters table : List ℕ) (s : ℕ) → s ≡ length letters → RankTable letters table → RanksUnder s table
 ranks-under letters table s e T = record { under = λ b x h f. rw e (rank-below-count letters b x (sym f ∙ T .same b h)) }
 
-pub places-by-table : (letters : List ℕ) (k m : ℕ) (table file : List ℕ) (s : ℕ) → s ≡ length letters → RankTable letters table
-    → map (code s (mirrorOf m) k) (fileWindows (rankByTable table) k file) ≡ places letters k m file
+pub places-by-table : (letters : List ℕ) (k m : ℕ) (table file : List ℕ) (st : Settings) → st ≡ settingsOf letters k m → RankTable letters table
+    → map (code (st .s) (st .mirror) k) (fileWindows (rankByTable table) k file) ≡ places letters k m file
 unfolding wins
-places-by-table letters k m table file s e T = rw (e, windows-by-table letters table T k file)
+places-by-table letters k m table file st is T =
+    ap (λ (x : Settings). map (code (x .s) (x .mirror) k) (fileWindows (rankByTable table) k file)) is ∙ rw (windows-by-table letters table T k file)
 
--- The kernel, by the number of letters.
-pub takes-letters : (letters : List ℕ) (k m : ℕ) (st : Settings) (kernel : Kernel) → st ≡ settingsOf letters k m → Takes kernel (st .s) m
-    → Takes kernel (length letters) m
-takes-letters letters k m st kernel is h = subst (λ (x : Settings). Takes kernel (x .s) m) is h
+-- The kernel, by the number of letters and the mirror's number.
+pub takes-letters : (letters : List ℕ) (k m : ℕ) (st : Settings) (kernel : Kernel) → st ≡ settingsOf letters k m → Takes kernel (st .s) (st .mirror)
+    → Takes kernel (length letters) (mirrorOf m)
+takes-letters letters k m st kernel is h = subst (λ (x : Settings). Takes kernel (x .s) (x .mirror)) is h
 
-pub classes-of : (letters : List ℕ) (k m : ℕ) (st : Settings) → st ≡ settingsOf letters k m → st .classes ≡ classes (st .s) (mirrorOf m) k
-classes-of letters k m st is = ap (λ (x : Settings). x .classes) is ∙ ap (λ (x : Settings). classes (x .s) (mirrorOf m) k) (sym is)
+pub classes-of : (letters : List ℕ) (k m : ℕ) (st : Settings) → st ≡ settingsOf letters k m → st .classes ≡ classes (st .s) (st .mirror) k
+classes-of letters k m st is = ap (λ (x : Settings). x .classes) is ∙ ap (λ (x : Settings). classes (x .s) (x .mirror) k) (sym is)

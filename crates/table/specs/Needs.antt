@@ -6,7 +6,7 @@ use mathlib.Core.Option.{Option, none, some}
 use mathlib.Core.List.{List, [], _∷_, _++_, map}
 use lib.ListN.{length, getD, take, drop, replicate}
 use Rattle.settings.specs.Grounds.{Outcome, ground, groundAt, tooShort, outcome, Overwrites, _orElse_}
-use Rattle.settings.specs.Settings.{rankIn, mirrorOf}
+use Rattle.settings.specs.Settings.{rankIn}
 use Rattle.encoding.specs.Words.{Ranks}
 use Rattle.encoding.specs.Codes.{code}
 use Rattle.fasta.specs.declared.Item.{Item}
@@ -70,7 +70,7 @@ cutAfter false rank k r file mode i = cutFrom rank k r file mode i
 
 -- The codes of some words by a coder.
 abbrev pub codesBy : Coder → List (List ℕ) → List ℕ
-codesBy c ws = map (code (c .s) (mirrorOf (c .mirror)) (c .k)) ws
+codesBy c ws = map (code (c .s) (c .mirror) (c .k)) ws
 
 -- Letters were gathered, from the place i on behind the letters r: to the end of their run or of the file, or to the end of the array.
 pub record Gathers (table r file : List ℕ) (mode : Mode) (i : ℕ) (g : Gathered) (array : List ℕ) : Type 0 where

@@ -10,7 +10,7 @@ ghost use mathlib.Core.Bool.{false};
 ghost use mathlib.Core.List.{_++_};
 ghost use Prim.Native.Nat.{_+_, _-_, _<_, _≤_};
 ghost use lib.ListN.{length, take, drop};
-ghost use Rattle.settings.specs.Settings.{mirrorOf, classes};
+ghost use Rattle.settings.specs.Settings.{classes};
 ghost use Rattle.encoding.specs.Words.{Ranks};
 ghost use Rattle.fasta.specs.File.{fileWindows};
 ghost use Rattle.settings.specs.RankTables.{asRank, rankByTable};
@@ -163,10 +163,10 @@ fn count_batch(counts: &mut [u32], ranks: &[u8], c: Coder, powers: &[u64; 64])
     requires { ⌜ Coding c (now powers) ⌝ }
     requires { ⌜ Ranks (c .s) (now ranks) ⌝ }
     requires { ⌜ length (now ranks) ≤ 1024 ⌝ }
-    requires { ⌜ length (now counts) ≡ classes (c .s) (mirrorOf (c .mirror)) (c .k) ⌝ }
-    requires { ⌜ Room (length (windowCodes (c .s) (mirrorOf (c .mirror)) (c .k) (now ranks))) (now counts) ⌝ }
+    requires { ⌜ length (now counts) ≡ classes (c .s) (c .mirror) (c .k) ⌝ }
+    requires { ⌜ Room (length (windowCodes (c .s) (c .mirror) (c .k) (now ranks))) (now counts) ⌝ }
     ensures { λ _.
-        ⌜ now (counts .exit) ≡ bumps (now (counts .entry)) (windowCodes (c .s) (mirrorOf (c .mirror)) (c .k) (now (ranks .entry))) ⌝ }
+        ⌜ now (counts .exit) ≡ bumps (now (counts .entry)) (windowCodes (c .s) (c .mirror) (c .k) (now (ranks .entry))) ⌝ }
 {
     let mut codes = no_codes();
     fill_codes(ranks, c, powers, &mut codes);
@@ -184,7 +184,7 @@ fn no_ranks() -> [u8; 1024]
 pub fn count_file(counts: &mut [u32], file: &[u8], table: &[u8; 256], c: Coder, powers: &[u64; 64])
     requires { ⌜ Coding c (now powers) ⌝ }
     requires { ⌜ RanksUnder (c .s) (now table) ⌝ }
-    requires { ⌜ length (now counts) ≡ classes (c .s) (mirrorOf (c .mirror)) (c .k) ⌝ }
+    requires { ⌜ length (now counts) ≡ classes (c .s) (c .mirror) (c .k) ⌝ }
     requires { ⌜ Room (length (fileWindows (rankByTable (now table)) (c .k) (now file))) (now counts) ⌝ }
     ensures { λ _.
         ⌜ now (counts .exit)

@@ -8,13 +8,14 @@ use fasta::Scanned;
 use sequence::kernels::Coder;
 use sequence::kernels::Kernel;
 use settings::Checked;
+use settings::Mirror;
 use settings::Refusal;
 use settings::Settings;
 ghost use mathlib.Core.Path.{_≡_};
 ghost use mathlib.Core.Option.{none};
 ghost use Prim.Native.Nat.{_-_, _<_, _≤_};
 ghost use lib.ListN.{length};
-ghost use Rattle.settings.specs.Settings.{mirrorOf, classes, settingsGround, settingsOf};
+ghost use Rattle.settings.specs.Settings.{classes, settingsGround, settingsOf};
 ghost use Rattle.fasta.specs.File.{fileWindows};
 ghost use Rattle.settings.specs.RankTables.{rankByTable, RankTable};
 ghost use Rattle.sequence.specs.Needs.{Takes, Coding};
@@ -66,15 +67,17 @@ pub fn clear(letters: &[u8], k: usize, mirror: u64, table: &mut [u32]) -> Cleare
 }
 
 // The kernel by two-bit numbers where it can be had: four letters under complement.
-fn kernel_for(s: u64, mirror: u64) -> Kernel
-    ensures { λ r. ⌜ Takes r s mirror ⌝ }
+fn kernel_for(s: u64, m: Mirror) -> Kernel
+    ensures { λ r. ⌜ Takes r s m ⌝ }
 {
-    if s == 4 {
-        if mirror == 1 {
-            return Kernel::TwoBit;
-        }
+    match m {
+        Mirror::Reversal => Kernel::AnyAlphabet,
+        Mirror::Complement => if s == 4 {
+            Kernel::TwoBit
+        } else {
+            Kernel::AnyAlphabet
+        },
     }
-    Kernel::AnyAlphabet
 }
 
 // The second pass over a file, in the counts alone: all its windows are counted, or none where some count is too high for them.
@@ -88,7 +91,7 @@ fn count_unless_full(
 ) -> Answer
     requires { ⌜ Coding c (now powers) ⌝ }
     requires { ⌜ RanksUnder (c .s) (now ranks) ⌝ }
-    requires { ⌜ length (now counts) ≡ classes (c .s) (mirrorOf (c .mirror)) (c .k) ⌝ }
+    requires { ⌜ length (now counts) ≡ classes (c .s) (c .mirror) (c .k) ⌝ }
     requires { ⌜ n .windows ≡ length (fileWindows (rankByTable (now ranks)) (c .k) (now file)) ⌝ }
     requires { ⌜ _≤_ (n .windows) 16777216 ⌝ }
     ensures { λ r.
@@ -120,13 +123,14 @@ fn add_scanned(
     requires { ⌜ classCount (now letters) k mirror ≤ length (now table) ⌝ }
     ensures { λ r. ⌜ AddedUnlessFull (now (letters .entry)) k mirror (now (table .entry)) (now (file .entry)) (ofAnswer r) (now (table .exit)) ⌝ }
 {
-    let kernel = kernel_for(st.s, mirror);
+    let m = st.mirror;
+    let kernel = kernel_for(st.s, m);
     let powers = sequence::kernels::power_table(st.s, k);
     let c = Coder {
         kernel,
         s: st.s,
         k,
-        mirror,
+        mirror: m,
         palindromes: 2 * st.classes - st.words,
     };
     let classes = st.classes as usize;

@@ -2,7 +2,7 @@
 use native.Mathlib.Omega.{arith}
 use borrow.Author.Needs.{needs}
 use denote.Ref.{now}
-use Rattle.sequence.proofs.SequenceGrounds.{too-large, too-short, all-filled, s-is, coder-ready, ranks-ready, palindromes-fit, power-ready}
+use Rattle.sequence.proofs.SequenceGrounds.{too-large, too-short, all-filled, s-is, mirror-is, coder-ready, ranks-ready, palindromes-fit, power-ready}
 use Rattle.sequence.proofs.RankTables.{Bytes}
 use Rattle.settings.proofs.SettingsGrounds.{good-settings}
 use Rattle.settings.proofs.Powers.{fits}
@@ -33,8 +33,8 @@ power-table-requires c κs =
     let q = power-ready (now (a .args .letters)) (a .args .k) (a .args .mirror) (a .pre .0) (a .args .kernel) (a .pre .1 .1) (a .args .st) (a .pre .1 .0) in
     (q .0, q .1)
 
-mul-t18 : tie.Need-mul-t18
-mul-t18 c =
+mul-t19 : tie.Need-mul-t19
+mul-t19 c =
     let start = c .before .before .before .before .before .before .before .before .before in
     let a = start in
     record {
@@ -42,8 +42,8 @@ mul-t18 c =
           (a .pre .1 .0) .0;
     }
 
-sub-t19 : tie.Need-sub-t19
-sub-t19 c =
+sub-t20 : tie.Need-sub-t20
+sub-t20 c =
     let start = c .before .before .before .before .before .before .before .before .before .before in
     let a = start in
     palindromes-fit (now (a .args .letters)) (a .args .k) (a .args .mirror) (a .pre .0) (a .args .kernel) (a .pre .1 .1) (a .args .st) (a .pre .1 .0) .1
@@ -75,10 +75,11 @@ returns-3 c =
     let a = start in
     let letters = now (a .args .letters) in
     let is = s-is letters (a .args .k) (a .args .mirror) (a .pre .0) (a .args .kernel) (a .pre .1 .1) (a .args .st) (a .pre .1 .0) in
+    let mirrored = mirror-is letters (a .args .k) (a .args .mirror) (a .pre .0) (a .args .kernel) (a .pre .1 .1) (a .args .st) (a .pre .1 .0) in
     let B : Bytes (now (a .args .sequence)) = record { below = λ i h. omega (arith, at-shared-slice-known2 .shared-slice-known2 .given i) } in
     all-filled letters (a .args .k) (a .args .mirror) (now (a .args .sequence)) _ (a .pre .0) (at-if1 .if1 .left) _
     (at-window-count .window-count .ensures) (at-if2 .if2 .left) (at-rank-table .rank-table .ensures) B
-    (rw is at (c .before .before .fill-sequence .ensures))
+    (rw (is, mirrored) at (c .before .before .fill-sequence .ensures))
 
 pub fill-checked-spec : {M : Type 1} → statement M
 fill-checked-spec =
@@ -89,8 +90,8 @@ fill-checked-spec =
     returns-2
     rank-table-requires
     power-table-requires
-    mul-t18
-    sub-t19
+    mul-t19
+    sub-t20
     fill-sequence-requires
     same-length
     returns-3)

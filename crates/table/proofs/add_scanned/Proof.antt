@@ -6,6 +6,7 @@ use lib.ListN.{length}
 use lib.Seq.{length-take-le}
 use denote.Ref.{now}
 use Rattle.settings.specs.declared.Settings.{Settings}
+use Rattle.settings.specs.Settings.{mirrorOf}
 use Rattle.sequence.specs.Needs.{Takes}
 use Rattle.sequence.proofs.SequenceGrounds.{s-is, coder-ready, palindromes-fit, power-ready}
 use borrow.Author.Needs.{needs}
@@ -16,7 +17,7 @@ use Rattle.table.proofs.add_scanned.Tie as tie
 abbrev start : tie.After-kernel-for → tie.Start
 start c = c .before .before .before .before
 
-takes : (c : tie.After-kernel-for) → Takes (c .kernel-for .result) (length (now (start c .args .letters))) (start c .args .mirror)
+takes : (c : tie.After-kernel-for) → Takes (c .kernel-for .result) (length (now (start c .args .letters))) (mirrorOf (start c .args .mirror))
 takes c =
     let a = start c .args in
     takes-letters (now (a .letters)) (a .k) (a .mirror) (a .st) (c .kernel-for .result) (start c .pre .1 .0) (c .kernel-for .ensures)
@@ -29,13 +30,13 @@ power-table-requires c κs =
     let p = power-ready _ _ _ (start c .pre .0) (c .kernel-for .result) (takes c) _ (start c .pre .1 .0) in
     (p .0, p .1)
 
-mul-t14 : tie.Need-mul-t14
-mul-t14 c =
+mul-t15 : tie.Need-mul-t15
+mul-t15 c =
     let kernel = c .before .before in
     record { fits = palindromes-fit _ _ _ (start kernel .pre .0) (kernel .kernel-for .result) (takes kernel) _ (start kernel .pre .1 .0) .0 }
 
-sub-t15 : tie.Need-sub-t15
-sub-t15 c =
+sub-t16 : tie.Need-sub-t16
+sub-t16 c =
     let kernel = c .before .before .before in
     palindromes-fit _ _ _ (start kernel .pre .0) (kernel .kernel-for .result) (takes kernel) _ (start kernel .pre .1 .0) .1
 
@@ -78,8 +79,7 @@ returns c =
     let st-is = start kernel .pre .1 .0 in
     let pre = start kernel .pre .1 .1 in
     let a = start kernel .args in
-    let s-are = s-is _ _ _ good (kernel .kernel-for .result) (takes kernel) _ st-is in
-    let places-are = places-by-table _ (a .k) (a .mirror) _ (now (a .file)) _ s-are (pre .0) in
+    let places-are = places-by-table _ (a .k) (a .mirror) _ (now (a .file)) _ st-is (pre .0) in
     let classes-are = ap (λ (x : Settings). x .classes) st-is in
     whole-table _ _ _ _ _ good (pre .1 .1) _ (pre .1 .0) _ _ _ _ classes-are places-are (count .count-unless-full .ensures)
 
@@ -89,8 +89,8 @@ add-scanned-spec =
     (tie.spec
     kernel-for-requires
     power-table-requires
-    mul-t14
-    sub-t15
+    mul-t15
+    sub-t16
     slice-relend-prefix-count-unless-full
     slice-aggregate-count-unless-full
     count-unless-full-requires

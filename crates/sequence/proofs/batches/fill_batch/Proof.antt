@@ -10,7 +10,6 @@ use lib.Seq.{length-take-le}
 use Rattle.settings.specs.RankTables.{rankByTable}
 use Rattle.sequence.proofs.Pieces.{ranks-in-array, ranks-fit, batch-numbers, batch-letters}
 use Rattle.sequence.proofs.RankTables.{length-ranks-by, Bytes, ranks-below}
-use Rattle.settings.specs.Settings.{mirrorOf}
 use Rattle.encoding.specs.Words.{Ranks}
 use Rattle.sequence.proofs.batches.fill_batch.Statement.{statement}
 use Rattle.sequence.proofs.batches.fill_batch.Tie as tie
@@ -64,7 +63,7 @@ returns c =
     let a = start .args in
     let p = start .pre in
     let is = ranks-in-array (rankByTable (now (a .table))) (now (a .bytes)) (at-no-ranks .no-ranks .result) _ (at-read-ranks .read-ranks .ensures .0) in
-    batch-letters (now (a .table)) (a .c .s) (mirrorOf (a .c .mirror)) (a .c .k) (now (a .bytes)) _ is (p .0 .some) (p .1 .1 .1)
+    batch-letters (now (a .table)) (a .c .s) (a .c .mirror) (a .c .k) (now (a .bytes)) _ is (p .0 .some) (p .1 .1 .1)
     (c .before .before .before .fill-codes .ensures) _ (at-read-ranks .read-ranks .ensures .1) (c .if1 .taken)
 
 blank-requires : tie.Need-blank-requires
@@ -85,7 +84,7 @@ returns-2 c =
     let a = start .args in
     let p = start .pre in
     let is = ranks-in-array (rankByTable (now (a .table))) (now (a .bytes)) (at-no-ranks .no-ranks .result) _ (at-read-ranks .read-ranks .ensures .0) in
-    batch-numbers (now (a .table)) (a .c .s) (mirrorOf (a .c .mirror)) (a .c .k) (now (a .bytes)) _ is (p .0 .some) (p .1 .1 .1)
+    batch-numbers (now (a .table)) (a .c .s) (a .c .mirror) (a .c .k) (now (a .bytes)) _ is (p .0 .some) (p .1 .1 .1)
     (at-fill-codes .fill-codes .ensures) (c .before .before .blank .ensures)
 
 pub fill-batch-spec : {M : Type 1} → statement M

@@ -8,14 +8,13 @@ use Rattle.settings.specs.RankTables.{rankByTable}
 use Rattle.sequence.specs.Needs.{codeBy}
 use Rattle.sequence.specs.Windows.{windows}
 use Rattle.sequence.proofs.Pieces.{Batch, batch-of, batch-less, batch-next, batch-from, batch-room, batches-none, batches-all}
-use Rattle.settings.specs.Settings.{mirrorOf}
 use Rattle.laws.proofs.Buffers.{Written, written-length}
 use Rattle.laws.proofs.Powers.{exponent-le}
 use Rattle.sequence.proofs.batches.fill_sequence.Statement.{statement}
 use Rattle.sequence.proofs.batches.fill_sequence.Tie as tie
 
 abbrev Inv-loop : tie.InvT-loop
-Inv-loop sequence table c powers list₀ k at₀ list at = Written (map (codeBy (rankByTable table) (c .s) (mirrorOf (c .mirror)) (c .k)) (windows
+Inv-loop sequence table c powers list₀ k at₀ list at = Written (map (codeBy (rankByTable table) (c .s) (c .mirror) (c .k)) (windows
     (c .k) sequence)) list₀ at list × (at ≤ length sequence)
 
 abbrev μ-loop : tie.MeasureT-loop

@@ -5,16 +5,14 @@ use denote.Ref.{now}
 use lib.ListN.{length}
 use Rattle.sequence.specs.Needs.{Window}
 use Rattle.sequence.proofs.Filling.{Filling, fills-none, filling-first, filling-done, filling-length, filling-next, filling-room}
-use Rattle.settings.specs.Settings.{mirrorOf}
-use Rattle.encoding.specs.Words.{mirror}
 use Rattle.sequence.proofs.general.fill.Statement.{statement}
 use Rattle.sequence.proofs.general.fill.Tie as tie
 
 abbrev Inv-loop : tie.InvT-loop
-Inv-loop d k s mirror powers e out₀ t₀ first i₀ out t i = Window s mirror k powers d i t × Filling s (mirrorOf mirror) k d out₀ out i
+Inv-loop d k s m powers e out₀ t₀ first i₀ out t i = Window s m k powers d i t × Filling s m k d out₀ out i
 
 abbrev μ-loop : tie.MeasureT-loop
-μ-loop d k s mirror powers e out₀ t₀ first i₀ out t i = length d - i
+μ-loop d k s m powers e out₀ t₀ first i₀ out t i = length d - i
 
 returns : tie.Need-returns Inv-loop μ-loop
 returns c = fills-none _ _ _ _ _ (c .if1 .taken)

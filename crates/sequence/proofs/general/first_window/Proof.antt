@@ -2,16 +2,15 @@
 use Prim.Native.Nat.{_-_}
 use native.Mathlib.Omega.{arith}
 use borrow.Author.Needs.{needs}
-use Rattle.encoding.specs.Words.{mirror}
 use Rattle.sequence.proofs.AnyAlphabet.{k-lt, Opened, open-none, open-lt, open-ahead, open-behind, open-more, open-all}
 use Rattle.sequence.proofs.general.first_window.Statement.{statement}
 use Rattle.sequence.proofs.general.first_window.Tie as tie
 
 abbrev Inv-loop : tie.InvT-loop
-Inv-loop d k s mirror powers e n u₀ v₀ i₀ u v i = Opened s mirror d n u v i
+Inv-loop d k s m powers e n u₀ v₀ i₀ u v i = Opened s m d n u v i
 
 abbrev μ-loop : tie.MeasureT-loop
-μ-loop d k s mirror powers e n u₀ v₀ i₀ u v i = n - i
+μ-loop d k s m powers e n u₀ v₀ i₀ u v i = n - i
 
 inner-length-requires : tie.Need-inner-length-requires Inv-loop μ-loop
 inner-length-requires c κs = search needs

@@ -2,16 +2,15 @@
 -- the n letters left.
 use native.Mathlib.Omega.{arith}
 use Rattle.sequence.proofs.AnyAlphabet.{rank-lt, Scan, scan-start, scale-fits, scan-rest, scan-within, scan-done, scan-one, scan-none}
-use Rattle.encoding.specs.Words.{mirror}
 use Rattle.encoding.proofs.ByRanks.{closing}
 use Rattle.sequence.proofs.general.scanned_code.Statement.{statement}
 use Rattle.sequence.proofs.general.scanned_code.Tie as tie
 
 abbrev Inv-loop : tie.InvT-loop
-Inv-loop d j k s mirror powers t₀ a₀ n₀ closing₀ scale₀ t a n closing scale = Scan s mirror k powers d j t a n closing scale
+Inv-loop d j k s m powers t₀ a₀ n₀ closing₀ scale₀ t a n closing scale = Scan s m k powers d j t a n closing scale
 
 abbrev μ-loop : tie.MeasureT-loop
-μ-loop d j k s mirror powers t₀ a₀ n₀ closing₀ scale₀ t a n closing scale = n
+μ-loop d j k s m powers t₀ a₀ n₀ closing₀ scale₀ t a n closing scale = n
 
 loop-holds : tie.Need-loop-holds Inv-loop μ-loop
 loop-holds c = scan-start (c .before .pre)
