@@ -1,5 +1,5 @@
 -- Ranks as bytes and the table of all bytes' ranks: it stands for the settings' ranks in the numbers of all windows of bytes.
-use mathlib.Core.Path.{_≡_, ap, refl, sym, ap₂}
+use mathlib.Core.Path.{_≡_, ap, refl, ap₂}
 use mathlib.Core.Bool.{Bool, cond, true, false, _&&_}
 use mathlib.Core.Option.{none, some, Option}
 use mathlib.Core.List.{List, map, [], _∷_}
@@ -11,11 +11,10 @@ use lib.ListN.{length, length-map, getD, take, length-take}
 use lib.Seq.{getD-take}
 use Rattle.encoding.specs.Calls.{rankOrZero, ranksOf}
 use Rattle.encoding.specs.Words.{Ranks}
-use Rattle.settings.specs.RankTables.{asRank, RankTable, rankByTable}
+use Rattle.settings.specs.RankTables.{asRank, RankTable, RanksBelow, rankByTable}
 use Rattle.settings.specs.Settings.{rankIn, mirrorOf}
-use Rattle.settings.proofs.Ranks.{rank-below-count}
 use Rattle.laws.specs.Windows.{windows}
-use Rattle.sequence.specs.Needs.{ranksBy, RanksBelow, allRanked, codeBy}
+use Rattle.sequence.specs.Needs.{ranksBy, allRanked, codeBy}
 use Rattle.sequence.specs.Sequences.{allLetters, isRank, codeOrNone, sequenceCodes}
 
 -- ---- a rank as a byte
@@ -49,14 +48,6 @@ ranks-by-at rank (b ∷ bs) (suc i) h = ranks-by-at rank bs i (omega arith)
 
 -- ---- what is worked out by the table
 
--- A table of the settings' ranks has ranks below the number of letters.
-pub table-below : {letters table : List ℕ} → RankTable letters table → 0 < length letters → RanksBelow (length letters) table
-table-below {letters} T h = record { below = λ b g. rw (T .same b g) (go b (rankIn letters b) refl) }
-  where
-    go : (b : ℕ) (r : Option ℕ) → rankIn letters b ≡ r → rankOrZero r < length letters
-    go b none e = h
-    go b (some x) e = rank-below-count letters b x (sym e)
-
 -- All bytes of a list are below 256.
 pub record Bytes (bytes : List ℕ) : Type 0 where
   pub below : (i : ℕ) → i < length bytes → getD bytes i 0 < 256
@@ -85,10 +76,19 @@ same-codes f g k same (b ∷ bs) B = go (leb k (suc (length bs))) (same (take k 
     go true e h = ap₂ (λ (x : ℕ) (xs : List ℕ). x ∷ xs) e h
     go false e h = h
 
-pub ranks-below : {s : ℕ} {table : List ℕ} → RanksBelow s table → (bytes : List ℕ) → Bytes bytes → Ranks s (ranksBy (rankByTable table) bytes)
-unfolding ranksBy
-ranks-below T [] B = tt
-ranks-below T (b ∷ bs) B = (T .below b (B .below 0 (omega arith)), ranks-below T bs (tail-bytes B))
+-- What stands for a byte in a list of ranks is below s: a rank of the table, or 0 for a byte that has none.
+module _ {s : ℕ} {table : List ℕ} (T : RanksBelow s table) (some-s : 0 < s) where
+  rank-below : (b : ℕ) → b < 256 → rankOrZero (rankByTable table b) < s
+  rank-below b byte = go (rankByTable table b) refl
+    where
+      go : (r : Option ℕ) → rankByTable table b ≡ r → rankOrZero r < s
+      go none e = some-s
+      go (some x) e = T .below b x byte e
+
+  pub ranks-below : (bytes : List ℕ) → Bytes bytes → Ranks s (ranksBy (rankByTable table) bytes)
+  unfolding ranksBy
+  ranks-below [] B = tt
+  ranks-below (b ∷ bs) B = (rank-below b (B .below 0 (omega arith)), ranks-below bs (tail-bytes B))
 
 module _ {letters table : List ℕ} (T : RankTable letters table) where
   same-first : {b : ℕ} {bs : List ℕ} → Bytes (b ∷ bs) → rankByTable table b ≡ rankIn letters b

@@ -20,10 +20,11 @@ use Rattle.sequence.specs.declared.kernels.Kernel.{Kernel}
 use Rattle.sequence.specs.declared.kernels.Coder.{Coder}
 use Rattle.sequence.specs.Windows.{windows}
 use Rattle.sequence.specs.Sequences.{sequenceGround, FillsCodes}
-use Rattle.settings.specs.RankTables.{rankByTable, RankTable}
-use Rattle.sequence.specs.Needs.{Fills, Powers, Takes, Coding, RanksBelow, codeBy}
+use Rattle.settings.specs.RankTables.{rankByTable, RankTable, RanksBelow}
+use Rattle.settings.proofs.RankTables.{table-below}
+use Rattle.sequence.specs.Needs.{Fills, Powers, Takes, Coding, codeBy}
 use Rattle.sequence.proofs.Windows.{length-windows}
-use Rattle.sequence.proofs.RankTables.{Bytes, table-below, codes-by-table}
+use Rattle.sequence.proofs.RankTables.{Bytes, codes-by-table}
 
 -- A call refused by its first grounds changes nothing, whatever grounds come after.
 refused-leaves : {A : Type 0} (f : Ground) (a : A) (g later : Option Ground) (places old : List ℕ) → refused f ≡ outcome g a
@@ -102,9 +103,7 @@ module _ (letters : List ℕ) (k m : ℕ) (good : settingsGround letters k m ≡
     coder-ready {powers} P = subst⁻¹ (λ (x : Settings). Coding (coderOf x) powers) is (ready (subst (λ (x : Settings). Powers (x .s) k powers) is P))
 
     pub ranks-ready : {table : List ℕ} → RankTable letters table → RanksBelow (st .s) table
-    ranks-ready {table} T =
-        let two = limits letters k m good .two in
-        subst⁻¹ (λ (s : ℕ). RanksBelow s table) s-is (table-below T (omega (arith, two)))
+    ranks-ready {table} T = subst⁻¹ (λ (s : ℕ). RanksBelow s table) s-is (table-below T)
 
     pub palindromes-fit : (2 * st .classes < 2 ^ 64) × (st .words ≤ 2 * st .classes)
     palindromes-fit =

@@ -3,7 +3,7 @@
 use mathlib.Core.Path.{_≡_}
 use mathlib.Core.Bool.{Bool, true, false, cond, _&&_}
 use mathlib.Core.List.{List, [], _∷_, _++_, map}
-use mathlib.Core.Option.{Option, some}
+use mathlib.Core.Option.{Option}
 use mathlib.Core.Logic.{_≢_}
 use Prim.Native.Nat.{ℕ, suc, _+_, _-_, _/_, _^_, _<_, _≤_, min, max}
 use lib.ListN.{length, getD, take, drop}
@@ -99,10 +99,6 @@ pub record Coding (c : Coder) (powers : List ℕ) : Type 0 where
   pub table : Powers (c .s) (c .k) powers
 
 -- ---- bytes
-
--- A table whose ranks are below s.
-pub record RanksBelow (s : ℕ) (table : List ℕ) : Type 0 where
-  pub below : (b : ℕ) → b < 256 → rankOrZero (rankByTable table b) < s
 
 -- The ranks of bytes by a function that gives each byte's rank, 0 for a byte that has none.
 unfoldable pub ranksBy : (ℕ → Option ℕ) → List ℕ → List ℕ

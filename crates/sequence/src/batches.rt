@@ -9,8 +9,8 @@ ghost use mathlib.Core.List.{map};
 ghost use Prim.Native.Nat.{_+_, _-_, _≤_, min};
 ghost use lib.ListN.{length};
 ghost use Rattle.sequence.specs.Windows.{windows};
-ghost use Rattle.settings.specs.RankTables.{rankByTable};
-ghost use Rattle.sequence.specs.Needs.{Fills, Coding, RanksBelow, codeBy};
+ghost use Rattle.settings.specs.RankTables.{rankByTable, RanksBelow};
+ghost use Rattle.sequence.specs.Needs.{Fills, Coding, codeBy};
 
 // Room for the ranks of a batch.
 fn no_ranks() -> [u8; 4096]

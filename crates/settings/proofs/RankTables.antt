@@ -1,5 +1,5 @@
--- The table of all bytes' ranks, filled from the front by the loop of `fill_rank_table`.
-use mathlib.Core.Path.{_≡_}
+-- The table of all bytes' ranks, filled from the front by the loop of `fill_rank_table`, and the ranks that it has.
+use mathlib.Core.Path.{_≡_, sym, _∙_}
 use mathlib.Core.Option.{some}
 use mathlib.Core.List.{List}
 use Prim.Native.Nat.{ℕ, _<_, _+_, _≤_}
@@ -8,8 +8,9 @@ use native.Mathlib.Omega.{arith}
 use borrow.Author.Tests.{ne-eqb}
 use lib.ListN.{length, set}
 use lib.Seq.{getD-set-same, getD-set-other}
-use Rattle.settings.specs.RankTables.{asRank, rankByTable, RankTable}
+use Rattle.settings.specs.RankTables.{asRank, rankByTable, RankTable, RanksBelow}
 use Rattle.settings.specs.Settings.{rankIn}
+use Rattle.settings.proofs.Ranks.{rank-below-count}
 
 pub as-some : (x : ℕ) → x < 255 → asRank x ≡ some x
 unfolding asRank
@@ -37,3 +38,9 @@ fill-none letters table b h = absurd (omega arith)
 pub fill-all : (letters table : List ℕ) (n : ℕ) → 256 ≤ n → Filled letters table n → RankTable letters table
 unfolding Filled
 fill-all letters table n h f = record { same = λ b g. f b (omega arith) }
+
+-- ---- its ranks
+
+-- A table of the letters' ranks has ranks below the number of letters.
+pub table-below : {letters table : List ℕ} → RankTable letters table → RanksBelow (length letters) table
+table-below {letters} T = record { below = λ b x h e. rank-below-count letters b x (sym e ∙ T .same b h) }

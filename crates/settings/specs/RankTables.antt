@@ -19,3 +19,7 @@ rankByTable table b = asRank (getD table b 0)
 -- A table that has the rank of every byte.
 pub record RankTable (letters table : List ℕ) : Type 0 where
   pub same : (b : ℕ) → b < 256 → rankByTable table b ≡ rankIn letters b
+
+-- A table whose ranks are all below s.
+pub record RanksBelow (s : ℕ) (table : List ℕ) : Type 0 where
+  pub below : (b x : ℕ) → b < 256 → rankByTable table b ≡ some x → x < s

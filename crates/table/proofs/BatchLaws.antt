@@ -16,7 +16,7 @@ use Rattle.fasta.specs.declared.Mode.{Mode}
 use Rattle.fasta.specs.declared.Mode.the-variants.{Start}
 use Rattle.fasta.specs.Items.{marks}
 use Rattle.fasta.specs.File.{items, itemsFrom, fileWindows}
-use Rattle.settings.specs.RankTables.{rankByTable}
+use Rattle.settings.specs.RankTables.{rankByTable, RanksBelow}
 use Rattle.fasta.proofs.Scans.{items-end}
 use Rattle.sequence.specs.declared.kernels.Coder.{Coder}
 use Rattle.laws.specs.Windows.{windows}
@@ -26,7 +26,7 @@ use Rattle.sequence.proofs.Windows.{length-codes}
 use Rattle.table.specs.declared.batches.Gathered.{Gathered}
 use Rattle.table.specs.Table.{bumps}
 use Rattle.laws.specs.Each.{Each}
-use Rattle.table.specs.Needs.{Below, Room, RanksUnder, codesBy, cut, cutFrom, cutAfter, Gathers, Carries}
+use Rattle.table.specs.Needs.{Below, Room, codesBy, cut, cutFrom, cutAfter, Gathers, Carries}
 use Rattle.table.proofs.Each.{each-map}
 use Rattle.table.proofs.Bumps.{length-bumps, bumps-append, room-after, less-room}
 use Rattle.table.proofs.FileWords.{word-windows}
@@ -156,14 +156,14 @@ module _ {c : Coder} {powers : List ℕ} (C : Coding c powers) where
           let m = length-map (windows (c .k) batch-letters) (code (c .s) (c .mirror) (c .k)) in
           less-room (omega (arith, ap length splits, length-append (windows (c .k) batch-letters) later, m)) (K .room)
 
-      pub batch-ranks : RanksUnder (c .s) table → Ranks (c .s) batch-letters
+      pub batch-ranks : RanksBelow (c .s) table → Ranks (c .s) batch-letters
       batch-ranks T = G .ranks (c .s) T (K .ranks)
 
-      kept-ranks : RanksUnder (c .s) table → (ended : Bool) → Ranks (c .s) (kept-letters ended)
+      kept-ranks : RanksBelow (c .s) table → (ended : Bool) → Ranks (c .s) (kept-letters ended)
       kept-ranks T true = tt
       kept-ranks T false = ranks-drop (c .s) (g .letters + 1 - c .k) batch-letters (batch-ranks T)
 
-      pub counts-batch : {counts₁ array₂ : List ℕ} {n₂ : ℕ} → RanksUnder (c .s) table → counts₁ ≡ bumps counts (codesBy c (windows (c .k) batch-letters))
+      pub counts-batch : {counts₁ array₂ : List ℕ} {n₂ : ℕ} → RanksBelow (c .s) table → counts₁ ≡ bumps counts (codesBy c (windows (c .k) batch-letters))
           → Carries array₁ (g .letters) (c .k) (g .ended) n₂ array₂
           → length array₂ ≡ length array₁
           → Counting c table file counts₀ counts₁ array₂ (g .at) (g .mode) n₂

@@ -17,13 +17,12 @@ use Rattle.fasta.specs.declared.Numbers.{Numbers}
 use Rattle.fasta.specs.File.{fileFault, fileNumbers, fileWindows}
 use Rattle.fasta.specs.Scan.{tooLong}
 use Rattle.settings.specs.RankTables.{rankByTable, RankTable}
-use Rattle.settings.proofs.Ranks.{rank-below-count}
 use Rattle.fasta.proofs.Ranks.{windows-by-table, numbers-by-table}
 use Rattle.fasta.proofs.Runs.{windows-fit}
 use Rattle.sequence.specs.declared.kernels.Kernel.{Kernel}
 use Rattle.sequence.specs.Needs.{Takes}
 use Rattle.table.specs.Table.{classCount, wins, places, bumps, full, tooMany, addGround, clearGround, unlessRefused, lateTable, tableGround, Added, Clears}
-use Rattle.table.specs.Needs.{Room, RanksUnder, CountedUnlessFull, AddedUnlessFull, CleanFile, ClearsPlaces}
+use Rattle.table.specs.Needs.{Room, CountedUnlessFull, AddedUnlessFull, CleanFile, ClearsPlaces}
 use Rattle.table.proofs.Bumps.{bumps-front}
 use Rattle.table.proofs.Full.{not-full}
 use Rattle.table.proofs.Classes.{places-below}
@@ -188,10 +187,6 @@ module _ (letters : List ℕ) (k m : ℕ) (t file : List ℕ) (good : settingsGr
       → CountedUnlessFull n ps (take cs t) answer counts′
       → AddedUnlessFull letters k m t file answer (counts′ ++ drop cs t)
   whole-table cs ps answer counts′ c e C = rw c (by-classes ps answer counts′ e (rw c at C))
-
--- A table of the settings' ranks has no other ranks.
-pub ranks-under : (letters table : List ℕ) (s : ℕ) → s ≡ length letters → RankTable letters table → RanksUnder s table
-ranks-under letters table s e T = record { under = λ b x h f. rw e (rank-below-count letters b x (sym f ∙ T .same b h)) }
 
 pub places-by-table : (letters : List ℕ) (k m : ℕ) (table file : List ℕ) (st : Settings) → st ≡ settingsOf letters k m → RankTable letters table
     → map (code (st .s) (st .mirror) k) (fileWindows (rankByTable table) k file) ≡ places letters k m file

@@ -18,11 +18,11 @@ use Rattle.fasta.specs.declared.Mode.{Mode}
 use Rattle.fasta.specs.declared.Mode.the-variants.{Start, Header, Sequence}
 use Rattle.fasta.specs.Items.{marks}
 use Rattle.fasta.specs.File.{isLetter, lfNext, lineItem, item, next, itemsFrom}
-use Rattle.settings.specs.RankTables.{rankByTable}
+use Rattle.settings.specs.RankTables.{rankByTable, RanksBelow}
 use Rattle.fasta.proofs.Scans.{items-step, items-end}
 use Rattle.laws.specs.Windows.{windows}
 use Rattle.table.specs.declared.batches.Mark.{Mark}
-use Rattle.table.specs.Needs.{RanksUnder, markOfRank, markOf, cut, cutFrom, Gathers}
+use Rattle.table.specs.Needs.{markOfRank, markOf, cut, cutFrom, Gathers}
 use Rattle.table.proofs.Cuts.{cut-item}
 
 -- ---- the mark of a byte
@@ -41,10 +41,10 @@ one-letter rank (Letter b) = by-rank (rank b)
 abbrev added : (ℕ → Option ℕ) → Item → List ℕ
 added rank it = take (markOf rank it .letters) (markOf rank it .rank ∷ [])
 
-module _ {s : ℕ} {table : List ℕ} (T : RanksUnder s table) (b : ℕ) (byte : b < 256) where
+module _ {s : ℕ} {table : List ℕ} (T : RanksBelow s table) (b : ℕ) (byte : b < 256) where
   letter-rank : (o : Option ℕ) → rankByTable table b ≡ o → Ranks s (take (markOfRank o .letters) (markOfRank o .rank ∷ []))
   letter-rank none e = tt
-  letter-rank (some x) e = (T .under b x byte e, tt)
+  letter-rank (some x) e = (T .below b x byte e, tt)
 
   line-rank : (lf : Bool) → Ranks s (added (rankByTable table) (lineItem b lf))
   unfolding lineItem
@@ -81,7 +81,7 @@ pub record Gathering (table r file : List ℕ) (start : Mode) (from letters : �
   pub untouched : at ≡ from → n ≡ letters
   pub inside : at ≤ length file
   pub fits : n ≤ length array
-  pub ranks : (s : ℕ) → RanksUnder s table → Ranks s r → Ranks s (take n array)
+  pub ranks : (s : ℕ) → RanksBelow s table → Ranks s r → Ranks s (take n array)
   pub left : (k : ℕ) → cutFrom (rankByTable table) k r file start from ≡ cutFrom (rankByTable table) k (take n array) file mode at
 
 pub gathering-none : {table file : List ℕ} {mode : Mode} {from letters : ℕ} {array : List ℕ} → from < length file → letters < length array
@@ -150,7 +150,7 @@ module _ {table r file : List ℕ} {start : Mode} {from letters : ℕ} {array : 
           whole = λ f. absurd (let z : _≡_ {A = ℕ} 0 1 = cc in omega arith);
         }
 
-    new-rank : getD file at 0 < 256 → (s : ℕ) → RanksUnder s table → Ranks s (take (mark .letters) (mark .rank ∷ []))
+    new-rank : getD file at 0 < 256 → (s : ℕ) → RanksBelow s table → Ranks s (take (mark .letters) (mark .rank ∷ []))
     new-rank byte s T = rw (mark-is, it-is) (item-rank T (getD file at 0) byte mode (lfNext (drop (at + 1) file)))
 
     -- One byte more.

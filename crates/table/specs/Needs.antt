@@ -15,7 +15,7 @@ use Rattle.fasta.specs.declared.Mode.{Mode}
 use Rattle.fasta.specs.Items.{marks}
 use Rattle.fasta.specs.declared.Numbers.{Numbers}
 use Rattle.fasta.specs.File.{itemsFrom, fileFault, fileNumbers}
-use Rattle.settings.specs.RankTables.{rankByTable}
+use Rattle.settings.specs.RankTables.{rankByTable, RanksBelow}
 use Rattle.sequence.specs.declared.kernels.Coder.{Coder}
 use Rattle.laws.specs.Windows.{windows}
 use Rattle.table.specs.Table.{bumps, places, full, tooMany, unlessRefused, lateTable}
@@ -36,10 +36,6 @@ highestOf [] = 0
 highestOf (c ∷ cs) = max c (highestOf cs)
 
 -- ---- a file's letters, batch by batch
-
--- A table of ranks, all of them below s.
-pub record RanksUnder (s : ℕ) (table : List ℕ) : Type 0 where
-  pub under : (b x : ℕ) → b < 256 → rankByTable table b ≡ some x → x < s
 
 -- What a letter does to a run, by its rank: it is the run's next letter, or ends the run.
 abbrev pub markOfRank : Option ℕ → Mark
@@ -77,7 +73,7 @@ pub record Gathers (table r file : List ℕ) (mode : Mode) (i : ℕ) (g : Gather
   pub on : i < g .at
   pub inside : _≤_ (g .at) (length file)
   pub fits : _≤_ (g .letters) (length array)
-  pub ranks : (s : ℕ) → RanksUnder s table → Ranks s r → Ranks s (take (g .letters) array)
+  pub ranks : (s : ℕ) → RanksBelow s table → Ranks s r → Ranks s (take (g .letters) array)
   pub windows-are : (k : ℕ)
       → cutFrom (rankByTable table) k r file mode i ≡ cutAfter (g .ended) (rankByTable table) k (take (g .letters) array) file (g .mode) (g .at)
   pub whole : g .ended ≡ false → g .letters ≡ length array

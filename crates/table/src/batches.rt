@@ -13,11 +13,11 @@ ghost use lib.ListN.{length, take, drop};
 ghost use Rattle.settings.specs.Settings.{classes};
 ghost use Rattle.encoding.specs.Words.{Ranks};
 ghost use Rattle.fasta.specs.File.{fileWindows};
-ghost use Rattle.settings.specs.RankTables.{asRank, rankByTable};
+ghost use Rattle.settings.specs.RankTables.{asRank, rankByTable, RanksBelow};
 ghost use Rattle.sequence.specs.Windows.{windowCodes};
 ghost use Rattle.sequence.specs.Needs.{Coding};
 ghost use Rattle.table.specs.Table.{bumps};
-ghost use Rattle.table.specs.Needs.{Room, RanksUnder, markOfRank, markOf, codesBy, Gathers, Carries};
+ghost use Rattle.table.specs.Needs.{Room, markOfRank, markOf, codesBy, Gathers, Carries};
 
 // What a byte does to the present run: how many letters it adds, 0 or 1, with the letter's rank; or that it ends the run.
 struct Mark {
@@ -183,7 +183,7 @@ fn no_ranks() -> [u8; 1024]
 // Counts every window of a file.
 pub fn count_file(counts: &mut [u32], file: &[u8], table: &[u8; 256], c: Coder, powers: &[u64; 64])
     requires { ⌜ Coding c (now powers) ⌝ }
-    requires { ⌜ RanksUnder (c .s) (now table) ⌝ }
+    requires { ⌜ RanksBelow (c .s) (now table) ⌝ }
     requires { ⌜ length (now counts) ≡ classes (c .s) (c .mirror) (c .k) ⌝ }
     requires { ⌜ Room (length (fileWindows (rankByTable (now table)) (c .k) (now file))) (now counts) ⌝ }
     ensures { λ _.

@@ -17,11 +17,11 @@ ghost use Prim.Native.Nat.{_-_, _<_, _≤_};
 ghost use lib.ListN.{length};
 ghost use Rattle.settings.specs.Settings.{classes, settingsGround, settingsOf};
 ghost use Rattle.fasta.specs.File.{fileWindows};
-ghost use Rattle.settings.specs.RankTables.{rankByTable, RankTable};
+ghost use Rattle.settings.specs.RankTables.{rankByTable, RankTable, RanksBelow};
 ghost use Rattle.sequence.specs.Needs.{Takes, Coding};
 ghost use Rattle.table.specs.Table.{classCount, Added, Clears};
 ghost use Rattle.table.specs.Calls.{ofCleared, ofAnswer, Surveyed};
-ghost use Rattle.table.specs.Needs.{RanksUnder, codesBy, CountedUnlessFull, AddedUnlessFull, CleanFile, ClearsPlaces};
+ghost use Rattle.table.specs.Needs.{codesBy, CountedUnlessFull, AddedUnlessFull, CleanFile, ClearsPlaces};
 
 // How many places a clearing set, or the refusal, which leaves the table unchanged.
 pub enum Cleared {
@@ -90,7 +90,7 @@ fn count_unless_full(
     n: Numbers,
 ) -> Answer
     requires { ⌜ Coding c (now powers) ⌝ }
-    requires { ⌜ RanksUnder (c .s) (now ranks) ⌝ }
+    requires { ⌜ RanksBelow (c .s) (now ranks) ⌝ }
     requires { ⌜ length (now counts) ≡ classes (c .s) (c .mirror) (c .k) ⌝ }
     requires { ⌜ n .windows ≡ length (fileWindows (rankByTable (now ranks)) (c .k) (now file)) ⌝ }
     requires { ⌜ _≤_ (n .windows) 16777216 ⌝ }

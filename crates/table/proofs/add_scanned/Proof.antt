@@ -1,5 +1,5 @@
 -- `table::add_scanned` meets its contract: what `count_unless_full` does to the first places is what the add does to the table.
-use Rattle.table.proofs.CallGrounds.{takes-letters, classes-of, ranks-under, places-by-table, n-windows-by-table, few-windows, whole-table}
+use Rattle.table.proofs.CallGrounds.{takes-letters, classes-of, places-by-table, n-windows-by-table, few-windows, whole-table}
 use mathlib.Core.Path.{sym, ap, _∙_}
 use native.Mathlib.Omega.{arith}
 use lib.ListN.{length}
@@ -8,7 +8,7 @@ use denote.Ref.{now}
 use Rattle.settings.specs.declared.Settings.{Settings}
 use Rattle.settings.specs.Settings.{mirrorOf}
 use Rattle.sequence.specs.Needs.{Takes}
-use Rattle.sequence.proofs.SequenceGrounds.{s-is, coder-ready, palindromes-fit, power-ready}
+use Rattle.sequence.proofs.SequenceGrounds.{coder-ready, ranks-ready, palindromes-fit, power-ready}
 use borrow.Author.Needs.{needs}
 use Rattle.table.proofs.add_scanned.Statement.{statement}
 use Rattle.table.proofs.add_scanned.Tie as tie
@@ -61,12 +61,12 @@ count-unless-full-requires c κs =
     let pre = start kernel .pre .1 .1 in
     let classes-are = ap (λ (x : Settings). x .classes) st-is in
     let coding = coder-ready _ _ _ good (kernel .kernel-for .result) (takes kernel) _ st-is (powers .power-table .ensures) in
-    let under = ranks-under _ _ _ (s-is _ _ _ good (kernel .kernel-for .result) (takes kernel) _ st-is) (pre .0) in
+    let below = ranks-ready _ _ _ good (kernel .kernel-for .result) (takes kernel) _ st-is (pre .0) in
     let a = start kernel .args in
     let n-taken = length-take-le (a .st .classes) (now (a .table)) (omega (arith, classes-are, pre .1 .1)) in
     let n-counts = n-taken ∙ classes-of (now (a .letters)) (a .k) (a .mirror) (a .st) st-is in
     let n-windows = n-windows-by-table _ _ _ _ (pre .1 .0) _ (pre .0) in
-    (coding, (under, (n-counts, (n-windows, few-windows _ _ _ _ (pre .1 .0) _ good))))
+    (coding, (below, (n-counts, (n-windows, few-windows _ _ _ _ (pre .1 .0) _ good))))
 
 same-length : tie.Need-same-length
 same-length c = search needs

@@ -1,7 +1,7 @@
 -- `sequence::batches::fill_batch` meets its contract. The ranks stand in the first places of the array.
 use mathlib.Core.Path.{sym, ap, _∙_, subst⁻¹}
 use mathlib.Core.List.{List}
-use Prim.Native.Nat.{ℕ}
+use Prim.Native.Nat.{ℕ, _<_}
 use native.Mathlib.Omega.{arith}
 use borrow.Author.Needs.{needs}
 use denote.Ref.{now}
@@ -50,7 +50,8 @@ fill-codes-requires c κs =
     let is = ranks-in-array rank bytes (c .before .before .before .before .before .no-ranks .result) _ (c .before .before .before .read-ranks .ensures .0) in
     let B : Bytes bytes = record { below = λ i h. omega (arith, at-shared-slice-known .shared-slice-known .given i) } in
     let n = ap length is ∙ length-ranks-by rank bytes in
-    (p .0, (subst⁻¹ (λ (l : List ℕ). Ranks (start .args .c .s) l) is (ranks-below (p .1 .0) bytes B), omega (arith, n, p .1 .1 .1)))
+    let some-s : 0 < start .args .c .s = omega (arith, p .0 .limits .two) in
+    (p .0, (subst⁻¹ (λ (l : List ℕ). Ranks (start .args .c .s) l) is (ranks-below (p .1 .0) some-s bytes B), omega (arith, n, p .1 .1 .1)))
 
 same-length : tie.Need-same-length
 same-length c = search needs
