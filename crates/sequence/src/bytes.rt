@@ -8,7 +8,7 @@ ghost use Rattle.sequence.specs.Sequences.{isRank};
 ghost use Rattle.settings.specs.RankTables.{asRank, rankByTable};
 ghost use Rattle.sequence.specs.Needs.{ranksBy, allRanked, Run, Blanked};
 
-// What the table has for a byte: its rank, or 255.
+// The table's entry for a byte: its rank, or 255 for a byte that is no letter of the settings.
 fn table_at(table: &[u8; 256], b: u8) -> u8
     ensures { λ r. ⌜ r ≡ getD (now (table .entry)) b 0 ⌝ }
 {
@@ -16,14 +16,15 @@ fn table_at(table: &[u8; 256], b: u8) -> u8
     table[i]
 }
 
-// A rank of the table, 0 for none: the windows of such a byte are blanked.
-fn rank_or_zero(r: u8) -> u8
+// The rank that stands for a byte in a list of ranks, from the table's entry r for it: r itself, or 0 where r is 255. A rank must stand there, since
+// the kernels take nothing else; the windows of such a byte are blanked afterwards.
+fn rank_of_entry(r: u8) -> u8
     ensures { λ q. ⌜ q ≡ rankOrZero (asRank r) ⌝ }
 {
     if r == 255 { 0 } else { r }
 }
 
-// Whether all bytes up to one were letters, given that of those before it.
+// Whether all bytes up to one were letters, given that of those before it and the table's entry r for that one.
 fn still_letters(all: bool, r: u8) -> bool
     ensures { λ q. ⌜ q ≡ (all && isRank (asRank r)) ⌝ }
 {
@@ -40,7 +41,7 @@ pub fn read_ranks(bytes: &[u8], table: &[u8; 256], ranks: &mut [u8]) -> bool
     let mut i: usize = 0;
     while i < bytes.len() {
         let r = table_at(table, bytes[i]);
-        let rank = rank_or_zero(r);
+        let rank = rank_of_entry(r);
         ranks[i] = rank;
         all = still_letters(all, r);
         i += 1;

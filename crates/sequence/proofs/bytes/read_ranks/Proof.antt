@@ -36,8 +36,8 @@ shared-slice-read-table-at c = omega arith
 table-at-requires : tie.Need-table-at-requires Inv-loop μ-loop
 table-at-requires c κs = search needs
 
-rank-or-zero-requires : tie.Need-rank-or-zero-requires Inv-loop μ-loop
-rank-or-zero-requires c κs = search needs
+rank-of-entry-requires : tie.Need-rank-of-entry-requires Inv-loop μ-loop
+rank-of-entry-requires c κs = search needs
 
 slice-write-ranks : tie.Need-slice-write-ranks Inv-loop μ-loop
 slice-write-ranks c = omega (
@@ -64,8 +64,8 @@ loop-again c =
     let bytes = now (start .args .bytes) in
     let rank = rankByTable (now (start .args .table)) in
     let r = c .before .before .table-at .ensures in (
-      written-next (at-loop .loop .inv .0) (c .before .rank-or-zero .result) (omega (arith, length-ranks-by rank bytes))
-          (c .before .rank-or-zero .ensures ∙ ap (λ (x : ℕ). rankOrZero (asRank x)) r ∙ sym (ranks-by-at rank bytes (at-loop .loop .i)
+      written-next (at-loop .loop .inv .0) (c .before .rank-of-entry .result) (omega (arith, length-ranks-by rank bytes))
+          (c .before .rank-of-entry .ensures ∙ ap (λ (x : ℕ). rankOrZero (asRank x)) r ∙ sym (ranks-by-at rank bytes (at-loop .loop .i)
           (at-loop-test .loop-test .taken))),
       rw (c .still-letters .ensures, r) (ranked-next rank bytes (at-loop .loop .i) (at-loop .loop .all) (at-loop-test .loop-test .taken)
           (at-loop .loop .inv .1)),
@@ -94,7 +94,7 @@ read-ranks-spec =
     loop-holds
     shared-slice-read-table-at
     table-at-requires
-    rank-or-zero-requires
+    rank-of-entry-requires
     slice-write-ranks
     still-letters-requires
     add-i
