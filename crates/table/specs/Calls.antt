@@ -4,21 +4,15 @@ use mathlib.Core.Option.{none}
 use mathlib.Core.List.{List, [], _∷_}
 use Prim.Native.Nat.{ℕ}
 use lib.ListN.{length}
-use Rattle.settings.specs.Grounds.{Outcome, given, refused, groundOf}
+use Rattle.settings.specs.Grounds.{Outcome, given, refused, groundOf, ofFilling}
 use Rattle.fasta.specs.declared.Numbers.{Numbers}
-use Rattle.table.specs.declared.Cleared.{Cleared}
-use Rattle.table.specs.declared.Cleared.the-variants.{Count, Uncleared}
 use Rattle.table.specs.declared.Answer.{Answer}
 use Rattle.table.specs.declared.Answer.the-variants.{Taken, Refused}
 use Rattle.table.specs.declared.Survey.{Survey}
 use Rattle.table.specs.Table.{clearGround, Clears}
 use Rattle.table.specs.Demand.{Adds, DemandThree}
 
--- The answers of the calls as this paper's values: how many places were set, the file's numbers, or the refusal's number and P.
-abbrev pub ofCleared : Cleared → Outcome ℕ
-ofCleared (Count n) = given n
-ofCleared (Uncleared f) = refused (groundOf f)
-
+-- The answer of an add as this paper's value: the file's numbers, or the refusal's number and P.
 abbrev pub ofAnswer : Answer → Outcome Numbers
 ofAnswer (Taken n) = given n
 ofAnswer (Refused f) = refused (groundOf f)
@@ -30,6 +24,6 @@ twoAnswers r = ofAnswer (r .first) ∷ ofAnswer (r .second) ∷ []
 -- A clearing of t₀ and two adds after it, each on the table that the call before left; demand 3 holds of them.
 pub record Surveyed (letters : List ℕ) (k mirror : ℕ) (t₀ one other : List ℕ) (r : Survey) (t : List ℕ) : Type 0 where
   pub cleared-table : List ℕ
-  pub clearing : Clears letters k mirror t₀ (ofCleared (r .cleared)) cleared-table
+  pub clearing : Clears letters k mirror t₀ (ofFilling (r .cleared)) cleared-table
   pub adds : Adds letters k mirror cleared-table (one ∷ other ∷ []) (twoAnswers r) t
   pub demand-three : clearGround letters k mirror (length t₀) ≡ none → DemandThree letters k mirror t₀ (one ∷ other ∷ []) (twoAnswers r) t

@@ -8,6 +8,7 @@ use fasta::Scanned;
 use sequence::kernels::Coder;
 use sequence::kernels::Kernel;
 use settings::Checked;
+use settings::Filling;
 use settings::Mirror;
 use settings::Refusal;
 use settings::Settings;
@@ -15,19 +16,14 @@ ghost use mathlib.Core.Path.{_≡_};
 ghost use mathlib.Core.Option.{none};
 ghost use Prim.Native.Nat.{_-_, _<_, _≤_};
 ghost use lib.ListN.{length};
+ghost use Rattle.settings.specs.Grounds.{ofFilling};
 ghost use Rattle.settings.specs.Settings.{classes, settingsGround, settingsOf};
 ghost use Rattle.fasta.specs.File.{fileWindows};
 ghost use Rattle.settings.specs.RankTables.{rankByTable, RankTable, RanksBelow};
 ghost use Rattle.sequence.specs.Needs.{Takes, Coding};
 ghost use Rattle.table.specs.Table.{classCount, Added, Clears};
-ghost use Rattle.table.specs.Calls.{ofCleared, ofAnswer, Surveyed};
+ghost use Rattle.table.specs.Calls.{ofAnswer, Surveyed};
 ghost use Rattle.table.specs.Needs.{codesBy, CountedUnlessFull, AddedUnlessFull, CleanFile, ClearsPlaces};
-
-// How many places a clearing set, or the refusal, which leaves the table unchanged.
-pub enum Cleared {
-    Count(usize),
-    Uncleared(Refusal),
-}
 
 // The numbers of a file that was taken in, or the refusal, which leaves the table unchanged.
 pub enum Answer {
@@ -37,31 +33,31 @@ pub enum Answer {
 
 // The answers of a clearing and of two adds after it.
 pub struct Survey {
-    pub cleared: Cleared,
+    pub cleared: Filling,
     pub first: Answer,
     pub second: Answer,
 }
 
-fn clear_places(table: &mut [u32], classes: u64) -> Cleared
-    ensures { λ r. ⌜ ClearsPlaces classes (now (table .entry)) (ofCleared r) (now (table .exit)) ⌝ }
+fn clear_places(table: &mut [u32], classes: u64) -> Filling
+    ensures { λ r. ⌜ ClearsPlaces classes (now (table .entry)) (ofFilling r) (now (table .exit)) ⌝ }
 {
     if classes > 16777216 {
-        return Cleared::Uncleared(Refusal::TooLarge);
+        return Filling::Unfilled(Refusal::TooLarge);
     }
     let n = classes as usize;
     if table.len() < n {
-        return Cleared::Uncleared(Refusal::ShortBuffer(n));
+        return Filling::Unfilled(Refusal::ShortBuffer(n));
     }
     counts::set_zero(table, n);
-    Cleared::Count(n)
+    Filling::Filled(n)
 }
 
 // Sets the first places, one a class, to 0. Refused on the grounds 1 to 4, 6 and 7.
-pub fn clear(letters: &[u8], k: usize, mirror: u64, table: &mut [u32]) -> Cleared
-    ensures { λ r. ⌜ Clears (now (letters .entry)) k mirror (now (table .entry)) (ofCleared r) (now (table .exit)) ⌝ }
+pub fn clear(letters: &[u8], k: usize, mirror: u64, table: &mut [u32]) -> Filling
+    ensures { λ r. ⌜ Clears (now (letters .entry)) k mirror (now (table .entry)) (ofFilling r) (now (table .exit)) ⌝ }
 {
     match settings::check(letters, k, mirror) {
-        Checked::Bad(f) => Cleared::Uncleared(f),
+        Checked::Bad(f) => Filling::Unfilled(f),
         Checked::Good(st) => clear_places(table, st.classes),
     }
 }
