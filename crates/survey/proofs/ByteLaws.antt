@@ -25,6 +25,10 @@ ByteOf Letters = LetterByte
 ByteOf K = Digit
 ByteOf Mirror = SmallLetter
 
+-- The bytes above the brackets are letters.
+pub letter-above : (b : ℕ) → 41 < b → LetterByte b
+letter-above b h = (λ e. omega arith, (λ e. omega arith, (λ e. omega arith, (λ e. omega arith, (λ e. omega arith, tt)))))
+
 -- The list of other bytes, test by test.
 not-in : (b : ℕ) (xs : List ℕ) → not (isIn b xs) ≡ true → Each (λ (x : ℕ). b ≢ x) xs
 unfolding isIn
