@@ -24,7 +24,7 @@ returns c =
     let args = ended .before .before .args in
     let tested = c .before in
     let refused = sym (tested .sized .ensures) ∙ not-true (tested .sized .result) (c .if1 .taken) in
-    form-refused (now (args .s)) (args .name) (args .from) _ (omega (arith, ended .value-end .ensures)) refused
+    form-refused (now (args .input)) (args .name) (args .from) _ (omega (arith, ended .value-end .ensures)) refused
 
 number-of-requires : tie.Need-number-of-requires
 number-of-requires c κs =
@@ -32,7 +32,7 @@ number-of-requires c κs =
     let args = ended .before .before .args in
     let tested = c .before in
     let good = sym (tested .sized .ensures) ∙ not-false (tested .sized .result) (c .if1 .left) in
-    (good, value-inside (now (args .s)) (args .name) (args .from) (ended .value-end .result - args .from) (omega (arith, ended .value-end .ensures)) good)
+    (good, value-inside (now (args .input)) (args .name) (args .from) (ended .value-end .result - args .from) (omega (arith, ended .value-end .ensures)) good)
 
 returns-2 : tie.Need-returns-2
 returns-2 c =
@@ -40,7 +40,7 @@ returns-2 c =
     let args = ended .before .before .args in
     let tested = c .before .before in
     let good = sym (tested .sized .ensures) ∙ not-false (tested .sized .result) (c .before .if1 .left) in
-    form-made (now (args .s)) (args .name) (args .from) (ended .value-end .result - args .from) (omega (arith, ended .value-end .ensures)) _ good
+    form-made (now (args .input)) (args .name) (args .from) (ended .value-end .result - args .from) (omega (arith, ended .value-end .ensures)) _ good
     (c .number-of .ensures)
 
 pub form-from-spec : {M : Type 1} → statement M
