@@ -81,16 +81,16 @@ module _ (u : List ℕ) (n : ℕ) where
 
 -- ---- digits, one at a time
 
-module _ (s : List ℕ) (from len v j : ℕ) where
-  pub spelt-turn : j < len → from + len ≤ length s → (d : ℕ) → d ≡ getD s (from + j) 0 - 48
-      → spelt v (take (len - j) (drop (from + j) s)) ≡ spelt (v * 10 + d) (take (len - (j + 1)) (drop (from + (j + 1)) s))
+module _ (t : List ℕ) (from len v j : ℕ) where
+  pub spelt-turn : j < len → from + len ≤ length t → (d : ℕ) → d ≡ getD t (from + j) 0 - 48
+      → spelt v (take (len - j) (drop (from + j) t)) ≡ spelt (v * 10 + d) (take (len - (j + 1)) (drop (from + (j + 1)) t))
   unfolding spelt
   spelt-turn h g d e =
       let left : len - j ≡ suc (len - (j + 1)) = omega arith in
       let next : from + (j + 1) ≡ suc (from + j) = omega arith in
-      rw (left, drop-cons s (from + j) 0 (omega arith), e, next)
+      rw (left, drop-cons t (from + j) 0 (omega arith), e, next)
 
-  pub spelt-done : len ≤ j → spelt v (take (len - j) (drop (from + j) s)) ≡ v
+  pub spelt-done : len ≤ j → spelt v (take (len - j) (drop (from + j) t)) ≡ v
   unfolding spelt
   spelt-done h = let none : len - j ≡ 0 = omega arith in rw none
 
