@@ -28,20 +28,25 @@ lines-length-requires c κs =
     let all = c .before .before .before .before .before .before .before .before .pre in
     (good-settings _ _ _ (all .good) .short-k, all .few)
 
--- The sum of the three lengths: it is the listing's, and too small to overflow.
+-- From the place where all three lengths are known: where the survey line was written, and where the function began.
+abbrev survey : tie.After-lines-length → tie.After-put-survey
+survey c = c .before .before .before .before .before
+
+abbrev start : tie.After-lines-length → tie.Start
+start c = survey c .before .before .before .before
+
+-- The sum of the lengths: it is the listing's, and too small to overflow.
 abbrev sum : tie.After-lines-length → ℕ
-sum c = let total = c .before .before in total .before .before .before .put-survey .result + c .lines-length .result + total .put-total .result
+sum c = survey c .put-survey .result + c .lines-length .result + c .before .before .put-total .result
 
 abbrev whole : tie.Start → ℕ
 whole c = let a = c .args in length (listingOf (now (a .letters)) (a .k) (a .mirror) (now (a .counts)))
 
-parts : (c : tie.After-lines-length) → (sum c ≡ whole (c .before .before .before .before .before .before .before .before .before)) × (sum c ≤ 1375731804)
+parts : (c : tie.After-lines-length) → (sum c ≡ whole (start c)) × (sum c ≤ 1375731804)
 parts c =
-    let total = c .before .before in
-    let survey = total .before .before .before in
-    let known = survey .before .before in
-    parts-are _ _ _ _ (known .before .before .pre) (λ i. omega (arith, known .shared-slice-known2 .given i)) (survey .put-survey .ensures)
-    (c .lines-length .ensures) (total .put-total .ensures)
+    let known = survey c .before .before in
+    parts-are _ _ _ _ (start c .pre) (λ i. omega (arith, known .shared-slice-known2 .given i)) (survey c .put-survey .ensures)
+    (c .lines-length .ensures) (c .before .before .put-total .ensures)
 
 add-result : tie.Need-add-result
 add-result c = omega (arith, parts c .1)
