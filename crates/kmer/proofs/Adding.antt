@@ -167,14 +167,21 @@ module _ (letters : List ℕ) (k m room : ℕ) (file : List ℕ) (r : Checked)
   pub ready-fits : (f : Refusal) → r ≡ Bad f → groundOf f .1 < 2 ^ 32
   ready-fits f g = omega (arith, ready-small letters k m room file (groundOf f) (ready-refuses f g))
 
--- Three grounds that do not apply leave the later ones.
-after-ready : (a b c later : Option Ground) → a orElse b orElse c ≡ none → a orElse b orElse c orElse later ≡ later
-after-ready none none none later e = refl
-after-ready none none (some f) later e = absurd (let z : _≡_ {A = ℕ} 0 1 = cc in omega arith)
-after-ready none (some f) c later e = absurd (let z : _≡_ {A = ℕ} 0 1 = cc in omega arith)
-after-ready (some f) b c later e = absurd (let z : _≡_ {A = ℕ} 0 1 = cc in omega arith)
+-- Grounds may be grouped.
+regrouped : (a b later : Option Ground) → (a orElse b) orElse later ≡ a orElse b orElse later
+regrouped none b later = refl
+regrouped (some f) b later = refl
 
 module _ (letters : List ℕ) (k m : ℕ) (t file old : List ℕ) where
+  -- With room for the answer, the grounds are those of `table::add`.
+  pub same-ground : 5 ≤ length old → addIntoGround letters k m t file (length old) ≡ tableGround letters k m t file
+  unfolding addIntoGround addGround readyGround
+  same-ground h =
+      let rest = fileFault file orElse ground 12 (lateTable letters k m t file) in
+      let g6 = ground 6 (tooLong file || tooMany (classCount letters k m)) in
+      let g7 = groundAt 7 (tooShort (length t) (classCount letters k m)) in
+      rw (le-ltb (length old) 5 h) (regrouped (settingsGround letters k m) (g6 orElse g7) rest ∙ ap (_orElse_ (settingsGround letters k m)) (regrouped g6 g7 rest))
+
   kept : (f : Ground) → addIntoGround letters k m t file (length old) ≡ some f → (x : ℕ) → x ≡ 2 ^ 63 + f .1 * 256 + f .0
       → AddsInto letters k m t file old x t old
   kept f e x h = record { returns = rw e h; table-left = rw e; answer-left = rw e }
@@ -188,15 +195,6 @@ module _ (letters : List ℕ) (k m : ℕ) (t file old : List ℕ) where
     pub into-short : length old < 5 → (x : ℕ) → x ≡ 2 ^ 63 + 5 * 256 + 7 → AddsInto letters k m t file old x t old
     unfolding addIntoGround
     into-short h x e = kept (7, 5) (rw (ready, lt-ltb (length old) 5 h)) x e
-
-    -- With room for the answer, the grounds are those of `table::add`.
-    same-ground : 5 ≤ length old → addIntoGround letters k m t file (length old) ≡ tableGround letters k m t file
-    unfolding addIntoGround addGround readyGround
-    same-ground h =
-        let rest = fileFault file orElse ground 12 (lateTable letters k m t file) in
-        let g6 = ground 6 (tooLong file || tooMany (classCount letters k m)) in
-        let g7 = groundAt 7 (tooShort (length t) (classCount letters k m)) in
-        rw (ready, le-ltb (length old) 5 h) (sym (after-ready (settingsGround letters k m) g6 g7 rest ready))
 
     module _ (room : 5 ≤ length old) (answer : Outcome Numbers) (t′ : List ℕ) (A : Added letters k m t file answer t′) where
       pub into-refused : (f : Refusal) → answer ≡ refused (groundOf f) → (x : ℕ) → x ≡ 2 ^ 63 + groundOf f .1 * 256 + groundOf f .0
