@@ -17,12 +17,12 @@ ghost use Rattle.sequence.specs.Sequences.{sequenceGround, sequenceCodes};
 use encoding::Code;
 use encoding::Coding;
 use encoding::Filling;
+use fasta::Answer;
 use fasta::Numbers;
 use listing::Listed;
 use sequence::Filled;
 use settings::Checked;
 use settings::Refusal;
-use table::Answer;
 use table::Cleared;
 
 // 2^63 plus the number.

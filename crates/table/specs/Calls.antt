@@ -6,22 +6,17 @@ use Prim.Native.Nat.{ℕ}
 use lib.ListN.{length}
 use Rattle.settings.specs.Grounds.{Outcome, given, refused, groundOf}
 use Rattle.fasta.specs.declared.Numbers.{Numbers}
+use Rattle.fasta.specs.Scan.{ofAnswer}
 use Rattle.table.specs.declared.Cleared.{Cleared}
 use Rattle.table.specs.declared.Cleared.the-variants.{Count, Uncleared}
-use Rattle.table.specs.declared.Answer.{Answer}
-use Rattle.table.specs.declared.Answer.the-variants.{Taken, Refused}
 use Rattle.table.specs.declared.Survey.{Survey}
 use Rattle.table.specs.Table.{clearGround, Clears}
 use Rattle.table.specs.Demand.{Adds, DemandThree}
 
--- The answers of the calls as this paper's values: how many places were set, the file's numbers, or the refusal's number and P.
+-- The answer of a clearing as this paper's values: how many places were set, or the refusal's number and P.
 abbrev pub ofCleared : Cleared → Outcome ℕ
 ofCleared (Count n) = given n
 ofCleared (Uncleared f) = refused (groundOf f)
-
-abbrev pub ofAnswer : Answer → Outcome Numbers
-ofAnswer (Taken n) = given n
-ofAnswer (Refused f) = refused (groundOf f)
 
 -- The answers of two adds.
 abbrev pub twoAnswers : Survey → List (Outcome Numbers)

@@ -3,8 +3,8 @@
 mod batches;
 mod counts;
 
+use fasta::Answer;
 use fasta::Numbers;
-use fasta::Scanned;
 use sequence::kernels::Coder;
 use sequence::kernels::Kernel;
 use settings::Checked;
@@ -17,22 +17,17 @@ ghost use Prim.Native.Nat.{_-_, _<_, _≤_};
 ghost use lib.ListN.{length};
 ghost use Rattle.settings.specs.Settings.{classes, settingsGround, settingsOf};
 ghost use Rattle.fasta.specs.File.{fileWindows};
+ghost use Rattle.fasta.specs.Scan.{ofAnswer};
 ghost use Rattle.settings.specs.RankTables.{rankByTable, RankTable, RanksBelow};
 ghost use Rattle.sequence.specs.Needs.{Takes, Coding};
 ghost use Rattle.table.specs.Table.{classCount, Added, Clears};
-ghost use Rattle.table.specs.Calls.{ofCleared, ofAnswer, Surveyed};
+ghost use Rattle.table.specs.Calls.{ofCleared, Surveyed};
 ghost use Rattle.table.specs.Needs.{codesBy, CountedUnlessFull, AddedUnlessFull, CleanFile, ClearsPlaces};
 
 // How many places a clearing set, or the refusal, which leaves the table unchanged.
 pub enum Cleared {
     Count(usize),
     Uncleared(Refusal),
-}
-
-// The numbers of a file that was taken in, or the refusal, which leaves the table unchanged.
-pub enum Answer {
-    Taken(Numbers),
-    Refused(Refusal),
 }
 
 // The answers of a clearing and of two adds after it.
@@ -162,8 +157,8 @@ fn add_checked(
     }
     let ranks = settings::rank_table(letters);
     match fasta::scan_file(file, &ranks, k) {
-        Scanned::Refused(f) => Answer::Refused(f),
-        Scanned::Taken(n) => add_scanned(letters, k, mirror, table, file, st, &ranks, n),
+        Answer::Refused(f) => Answer::Refused(f),
+        Answer::Taken(n) => add_scanned(letters, k, mirror, table, file, st, &ranks, n),
     }
 }
 

@@ -3,7 +3,7 @@ use mathlib.Core.Path.{_≡_, ap}
 use mathlib.Core.Option.{none}
 use lib.ListN.{length}
 use borrow.Author.Needs.{needs}
-use Rattle.table.specs.Calls.{ofAnswer}
+use Rattle.fasta.specs.Scan.{ofAnswer}
 use Rattle.kmer.specs.Adding.{readyGround}
 use Rattle.kmer.proofs.Adding.{add-fits, ready-none, ready-refuses, ready-fits, into-bad, into-short, into-refused, into-taken}
 use Rattle.kmer.proofs.kmer_add.Statement.{statement}

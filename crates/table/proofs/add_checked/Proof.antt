@@ -5,7 +5,7 @@ use Rattle.settings.specs.declared.Settings.{Settings}
 use Rattle.settings.proofs.SettingsGrounds.{good-settings}
 use denote.Ref.{now}
 use Rattle.fasta.specs.declared.Numbers.{Numbers}
-use Rattle.fasta.specs.Scan.{ofScanned}
+use Rattle.fasta.specs.Scan.{ofAnswer}
 use Rattle.table.specs.Table.{classCount}
 use Rattle.table.specs.Needs.{CleanFile}
 use Rattle.table.proofs.CallGrounds.{Addable, long-file, many-classes, short-table, faulty, clean, added}
@@ -77,7 +77,7 @@ clean-file : (c : tie.After-n) → CleanFrom (start (c .before .before .before .
 clean-file c =
     let scan = c .before .before in
     let table = scan .before .before in
-    let scanned = ap ofScanned (sym (c .n .given .1)) ∙ scan .scan-file .ensures in
+    let scanned = ap ofAnswer (sym (c .n .given .1)) ∙ scan .scan-file .ensures in
     clean _ _ _ _ (addable (table .before) .short) (table .rank-table .ensures) _ scanned
 
 add-scanned-requires : tie.Need-add-scanned-requires
@@ -92,7 +92,7 @@ returns-4 c =
     let told = c .before in
     let scan = told .before .before in
     let table = scan .before .before in
-    faulty (addable (table .before)) (table .rank-table .result) _ (ap ofScanned (sym (told .f .given .1)) ∙ scan .scan-file .ensures)
+    faulty (addable (table .before)) (table .rank-table .result) _ (ap ofAnswer (sym (told .f .given .1)) ∙ scan .scan-file .ensures)
 
 same-length : tie.Need-same-length
 same-length c = search needs
