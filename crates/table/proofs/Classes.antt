@@ -32,9 +32,10 @@ module _ (letters : List ℕ) (k m : ℕ) (good : settingsGround letters k m ≡
   pub place-below : (w : List ℕ) → IsWord (length letters) k w → placeOf letters k m w < classCount letters k m
   place-below w i = code-below-classes (length letters) (mirrorOf m) k within w i
 
-  -- Places and classes are one to one; two words share a place exactly when they are equal or mirrors.
-  pub one-place-a-class : OnePlaceAClass letters k m
-  one-place-a-class =
+  -- "Every place below the number of classes stands for just one class, every class has its place there, and two words share a place exactly when they
+  -- are equal or mirrors of each other."
+  pub places-and-classes : OnePlaceAClass letters k m
+  places-and-classes =
       record {
         every-class-has-its-place = place-below;
         every-place-stands-for-a-class = λ q h.

@@ -8,18 +8,18 @@ use mathlib.Core.List.{List}
 use lib.ListN.{length, take, drop, getD, length-map}
 use lib.Seq.{length-take-le, getD-take}
 use borrow.Author.Tests.{le-ltb}
-use Rattle.settings.specs.Grounds.{Ground, Outcome, given, refused, outcome}
+use Rattle.settings.specs.Grounds.{Ground, Outcome, given, refused, outcome, unlessRefused}
 use Rattle.settings.specs.Settings.{rankIn, mirrorOf, settingsGround}
 use Rattle.fasta.specs.declared.Numbers.{Numbers}
 use Rattle.fasta.specs.File.{fileNumbers}
-use Rattle.table.specs.Table.{classCount, placeOf, wins, places, bumps, addGround, unlessRefused, lateTable, tableGround, Added}
+use Rattle.table.specs.Table.{classCount, placeOf, wins, places, bumps, readyGround, addGround, lateTable, tableGround, Added}
 use Rattle.table.specs.Book.{Book, lateBook, canonicalOnes, allWords, bookGround, bookAnswer, bookAfter}
 use Rattle.table.specs.Demand.{sum, counts, Agrees}
 use Rattle.table.proofs.Bumps.{length-bumps, getD-bumps, drop-bumps, sum-bumps}
 use Rattle.table.proofs.Full.{bool-ext, full-at, full-where, full-of-member, full-member}
 use Rattle.table.proofs.WordLists.{listed, unlisted}
 use Rattle.table.proofs.FileWords.{windows-are-words}
-use Rattle.table.proofs.Classes.{place-below, one-place-a-class, occurrences-are-hits, places-below}
+use Rattle.table.proofs.Classes.{place-below, places-and-classes, occurrences-are-hits, places-below}
 
 -- How many windows a call takes in by its answer.
 abbrev pub taken : Outcome Numbers → ℕ → ℕ
@@ -46,7 +46,7 @@ module _ (letters : List ℕ) (k m : ℕ) (good : settingsGround letters k m ≡
       to e =
           let (i, l, g) = full-where n (take (classCount letters k m) t) e in
           let lt : i < classCount letters k m = omega (arith, length-take-le (classCount letters k m) t (A .one-place-a-class)) in
-          let (w, c, at) = one-place-a-class letters k m good .every-place-stands-for-a-class i lt in
+          let (w, c, at) = places-and-classes letters k m good .every-place-stands-for-a-class i lt in
           let same : getD (take (classCount letters k m) t) i 0 ≡ book w =
           getD-take (classCount letters k m) t i 0 lt ∙ ap (λ (j : ℕ). getD t j 0) (sym at) ∙ A .each-count-is-its-class's-tally w c in
           full-of-member n book (canonicalOnes (length letters) (mirrorOf m) (allWords (length letters) k)) w
@@ -65,7 +65,7 @@ module _ (letters : List ℕ) (k m : ℕ) (good : settingsGround letters k m ≡
   -- A table with a place for each class is long enough, as the book is.
   room-same : (room : ℕ) (late : Bool) (file : List ℕ) → classCount letters k m ≤ room
       → addGround letters k m room late file ≡ addGround letters k m (classCount letters k m) late file
-  unfolding addGround
+  unfolding addGround readyGround
   room-same room late file h = rw (le-ltb room (classCount letters k m) h, le-ltb (classCount letters k m) (classCount letters k m) (omega arith))
 
   ground-same : (t : List ℕ) (book : Book) (file : List ℕ) → Agrees letters k m t book → tableGround letters k m t file ≡ bookGround letters k m book file
