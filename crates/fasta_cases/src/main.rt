@@ -3,8 +3,8 @@
 //   read OFFSET FILE              record, with the offset and length of its header line and of what follows; or none; then the offset after
 //   # ..                          copied, to say what the next cases are about
 // FILE is the rest of the line: \n is LF, \r is CR, \xHH is any byte, and every other byte stands for itself.
-use fasta::Found;
 use fasta::Answer;
+use fasta::Found;
 use settings::Refusal;
 ghost use mathlib.Core.Path.{_≡_};
 ghost use Prim.Native.Nat.{_+_, _<_, _≤_};

@@ -12,7 +12,7 @@ use Rattle.encoding.specs.Calls.{inCapitals, wordBytes}
 use Rattle.fasta.specs.Items.{recordsIn, lettersIn, oneIfForeign, foreignIn, marks, onFirst, runs, edge, edgesOf, windowsOf}
 use Rattle.fasta.specs.File.{isLetter, lfNext, lineItem, item, next, itemsFrom, faultFrom}
 use Rattle.fasta.specs.Scan.{tooLong}
-use Rattle.table.specs.Table.{wins, bump, bumps, full, tooMany, addGround}
+use Rattle.table.specs.Table.{wins, bump, bumps, full, tooMany, readyGround, addGround}
 use Rattle.table.specs.Demand.{sum}
 use Rattle.texts.specs.Decimals.{decimalFrom, decimal}
 use Rattle.survey.specs.Grammar.{spelt}
@@ -32,7 +32,7 @@ refusals :
     × Prints "(survey (letters ACGT) (k 2) (mirror inverse))\n" "(refused 2 0)\n"
     × Prints "(survey (letters ACGTN) (k 2) (mirror complement))\n" "(refused 3 0)\n"
     × Prints "(survey (letters ACGT) (k 0) (mirror complement))\n" "(refused 4 0)\n"
-unfolding programText lineText surveyText refusedLine decimal decimalFrom addGround settingsGround goodLetters differentCapitals isCapital isIn
+unfolding programText lineText surveyText refusedLine decimal decimalFrom addGround readyGround settingsGround goodLetters differentCapitals isCapital isIn
     isOdd badSize reading.readLine reading.lineFrom reading.headOf reading.took reading.lineEnd reading.endAfter reading.nextForm reading.formAt
     reading.formFrom reading.formOf reading.numberOf reading.mirrorNumber reading.sized reading.valueByte reading.stretch
     reading.startsWith spelt
@@ -44,7 +44,7 @@ more-refusals :
     × Prints "(survey (letters ACGT) (k 8) (mirror complement))\n" "(refused 7 32896)\n"
     × Prints "(survey (letters ACGT) (k 2) (mirror complement))\n>a\nAC-GT\n" "(refused 10 5)\n"
     × Prints "(survey (letters ACGT) (k 2) (mirror complement))\n\nACGT\n" "(refused 11 1)\n"
-unfolding programText lineText surveyText refusedLine decimal decimalFrom addGround settingsGround goodLetters differentCapitals isCapital isIn
+unfolding programText lineText surveyText refusedLine decimal decimalFrom addGround readyGround settingsGround goodLetters differentCapitals isCapital isIn
     isOdd halfUp classes badSize tooLong tooMany faultFrom itemsFrom item next lineItem isLetter lfNext
     reading.readLine reading.lineFrom reading.headOf reading.took reading.lineEnd reading.endAfter reading.nextForm reading.formAt
     reading.formFrom reading.formOf reading.numberOf reading.mirrorNumber reading.sized reading.valueByte reading.stretch
@@ -57,7 +57,7 @@ worked-example :
     ++ bytes "(file (records 2) (letters 9) (foreign 1) (edge 2) (windows 6))\n"
 unfolding programText lineText surveyText fileLine clearedTable listingOf surveyLine countLines countLine totalLine sum decimal decimalFrom
     wordBytes inCapitals wordOf wordOfPlain pairOfRank middleOfCode mirrorRank
-    addGround settingsGround goodLetters differentCapitals isCapital isIn
+    addGround readyGround settingsGround goodLetters differentCapitals isCapital isIn
     isOdd halfUp classes badSize tooLong tooMany faultFrom itemsFrom item next lineItem isLetter lfNext
     recordsIn lettersIn foreignIn oneIfForeign marks runs onFirst windowsOf windows edgesOf edge placeFrom capitalOf wins full bump bumps
     code codeOfCanonical canonical plain mirror digits pairRank differingPair shift oddShift

@@ -30,7 +30,8 @@ module _ (letters : List ℕ) (k : ℕ) where
   unfolding allWins
   all-windows-are-words [] = tt
   all-windows-are-words (file ∷ files) =
-      each-append (IsWord (length letters) k) (wins letters k file) (allWins letters k files) (windows-are-words letters k file) (all-windows-are-words files)
+      each-append (IsWord (length letters) k) (wins letters k file) (allWins letters k files)
+      (windows-are-words letters k file) (all-windows-are-words files)
 
   -- One call more takes in the windows of its file, or none.
   pub taken-more : (answer : Outcome Numbers) (file : List ℕ) (files : List (List ℕ)) (answers : List (Outcome Numbers))
@@ -46,7 +47,8 @@ module _ (letters : List ℕ) (k : ℕ) where
   unfolding addedUp allWins wins
   added-up [] h = omega arith
   added-up (file ∷ files) h =
-      omega (arith, letters-are (rankIn letters) k file h, length-append (fileWindows (rankIn letters) k file) (allWins letters k files), added-up files h)
+      let both = length-append (fileWindows (rankIn letters) k file) (allWins letters k files) in
+      omega (arith, letters-are (rankIn letters) k file h, added-up files h)
 
   -- A tally is what it was, and the windows of the files taken in that are of its class.
   pub tally-is-hits : (m : ℕ) (book : Book) (files : List (List ℕ)) (w : List ℕ)

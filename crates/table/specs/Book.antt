@@ -7,11 +7,11 @@ use mathlib.Core.List.{List, [], _∷_, _++_, map}
 use Prim.Native.Nat.{ℕ, zero, suc, _+_}
 use lib.ListN.{length}
 use lib.Dec.{eqb}
-use Rattle.settings.specs.Grounds.{Ground, Outcome}
+use Rattle.settings.specs.Grounds.{Ground, Outcome, unlessRefused}
 use Rattle.settings.specs.Settings.{mirrorOf}
 use Rattle.encoding.specs.Words.{Mirror, IsWord, mirror, canonical}
 use Rattle.fasta.specs.declared.Numbers.{Numbers}
-use Rattle.table.specs.Table.{classCount, wins, full, addGround, addAnswer, unlessRefused}
+use Rattle.table.specs.Table.{classCount, wins, full, addGround, addAnswer}
 
 -- ---- words and classes
 

@@ -5,7 +5,7 @@ use mathlib.Core.Bool.{Bool, true, false, cond}
 use mathlib.Core.Option.{Option, none, some}
 use mathlib.Core.List.{List, [], _∷_, _++_, map}
 use lib.ListN.{length, getD, take, drop, replicate}
-use Rattle.settings.specs.Grounds.{Outcome, ground, groundAt, tooShort, outcome, Overwrites, _orElse_}
+use Rattle.settings.specs.Grounds.{Outcome, ground, groundAt, tooShort, outcome, unlessRefused, Overwrites, _orElse_}
 use Rattle.settings.specs.Settings.{rankIn}
 use Rattle.encoding.specs.Words.{Ranks}
 use Rattle.encoding.specs.Codes.{code}
@@ -18,7 +18,7 @@ use Rattle.fasta.specs.File.{itemsFrom, fileFault, fileNumbers}
 use Rattle.settings.specs.RankTables.{rankByTable, RanksBelow}
 use Rattle.sequence.specs.declared.kernels.Coder.{Coder}
 use Rattle.laws.specs.Windows.{windows}
-use Rattle.table.specs.Table.{bumps, places, full, tooMany, unlessRefused, lateTable}
+use Rattle.table.specs.Table.{bumps, places, full, tooMany, lateTable}
 use Rattle.table.specs.declared.batches.Mark.{Mark}
 use Rattle.table.specs.declared.batches.Gathered.{Gathered}
 

@@ -1,12 +1,12 @@
 -- Document 01, "Table" and "Grounds for refusing": what clearing and adding answer, and the table that they leave.
 use mathlib.Core.Path.{_≡_}
 use mathlib.Core.Bool.{Bool, false, _||_}
-use mathlib.Core.Option.{Option, none, some}
+use mathlib.Core.Option.{Option}
 use mathlib.Core.List.{List, [], _∷_, map}
 use Prim.Native.Nat.{ℕ, _+_, _-_}
 use lib.ListN.{length, take, getD, set, replicate}
 use lib.Dec.{ltb}
-use Rattle.settings.specs.Grounds.{Ground, Outcome, ground, groundAt, tooShort, outcome, Overwrites, _orElse_}
+use Rattle.settings.specs.Grounds.{Ground, Outcome, ground, groundAt, tooShort, outcome, unlessRefused, Overwrites, _orElse_}
 use Rattle.settings.specs.Settings.{rankIn, mirrorOf, classes, settingsGround}
 use Rattle.encoding.specs.Codes.{code}
 use Rattle.fasta.specs.declared.Numbers.{Numbers}
@@ -55,15 +55,18 @@ full n (c ∷ cs) = ltb (4294967295 - n) c || full n cs
 unfoldable pub tooMany : (classes : ℕ) → Bool
 tooMany n = ltb 16777216 n
 
--- The grounds for refusing an add, in number order: 1 to 4; 6, of the file or of the classes; 7, the table's room being shorter than the
--- classes; 10 or 11; 12, of which `late` says whether it applies: the table and the book each read it from their own counts.
-unfoldable pub addGround : (letters : List ℕ) (k mirror room : ℕ) (late : Bool) (file : List ℕ) → Option Ground
-addGround letters k m room late file =
+-- The grounds for refusing an add before its file is read: 1 to 4; 6, of the file or of the classes; 7, the table's room being shorter than
+-- the classes.
+unfoldable pub readyGround : (letters : List ℕ) (k mirror room : ℕ) (file : List ℕ) → Option Ground
+readyGround letters k m room file =
     settingsGround letters k m
     orElse ground 6 (tooLong file || tooMany (classCount letters k m))
     orElse groundAt 7 (tooShort room (classCount letters k m))
-    orElse fileFault file
-    orElse ground 12 late
+
+-- The grounds for refusing an add, in number order: those; 10 or 11; 12, of which `late` says whether it applies: the table and the book
+-- each read it from their own counts.
+unfoldable pub addGround : (letters : List ℕ) (k mirror room : ℕ) (late : Bool) (file : List ℕ) → Option Ground
+addGround letters k m room late file = readyGround letters k m room file orElse fileFault file orElse ground 12 late
 
 -- The grounds for refusing a clearing: 1 to 4, 6 and 7.
 unfoldable pub clearGround : (letters : List ℕ) (k mirror room : ℕ) → Option Ground
@@ -73,11 +76,6 @@ clearGround letters k m room =
     orElse groundAt 7 (tooShort room (classCount letters k m))
 
 -- ---- the calls
-
--- What a call leaves: something new where no ground applies, and else what was there: "all change no buffer".
-abbrev pub unlessRefused : {A : Type 0} → Option Ground → (new old : A) → A
-unlessRefused none new old = new
-unlessRefused (some g) new old = old
 
 -- "Each table call on a file answers with its records (header lines), letters (foreign ones too), foreign, and edge and windows over all
 -- runs", or with the first ground that applies. The table's answers and the book's are by this one definition.
