@@ -22,7 +22,7 @@ use Rattle.fasta.specs.declared.Mode.the-variants.{Start}
 use Rattle.fasta.specs.File.{items, faultFrom, fileFault, fileNumbers}
 use Rattle.fasta.specs.Scan.{tooLong}
 use Rattle.fasta.proofs.Runs.{items-length}
-use Rattle.table.specs.Table.{classCount, tooMany, readyGround, addGround, lateTable, tableGround, Added}
+use Rattle.table.specs.Table.{classCount, tooMany, readyGround, addGround, tableFull, tableGround, Added}
 use Rattle.table.proofs.CallGrounds.{classes-few, ready-file}
 use Rattle.kmer.proofs.Refusals.{refused-fits, sizes-small}
 use Rattle.kmer.specs.Adding.{addIntoGround, fiveNumbers, AddsInto}
@@ -43,19 +43,19 @@ unfolding readyGround
 ready-small letters k m room file =
     sizes-small letters k m (tooLong file || tooMany (classCount letters k m)) room (classCount letters k m) (λ _ e. classes-few letters k m file e)
 
-add-small : (letters : List ℕ) (k m room : ℕ) (late : Bool) (file : List ℕ) → Small 16777216 (addGround letters k m room late file)
+add-small : (letters : List ℕ) (k m room : ℕ) (isFull : Bool) (file : List ℕ) → Small 16777216 (addGround letters k m room isFull file)
 unfolding addGround
-add-small letters k m room late file =
-    then-small 16777216 (readyGround letters k m room file) (fileFault file orElse ground 12 late) (ready-small letters k m room file)
-    (λ ready. then-small 16777216 (fileFault file) (ground 12 late)
+add-small letters k m room isFull file =
+    then-small 16777216 (readyGround letters k m room file) (fileFault file orElse ground 12 isFull) (ready-small letters k m room file)
+    (λ ready. then-small 16777216 (fileFault file) (ground 12 isFull)
     (λ g f. omega (arith, fault-below false 0 (items file) g f, items-length Start file, ready-file letters k m room file ready))
-    (λ _. test-small 16777216 12 late))
+    (λ _. test-small 16777216 12 isFull))
 
 -- The P of a refused add fits.
 pub add-fits : (letters : List ℕ) (k m : ℕ) (t file t′ : List ℕ) (f : Refusal) (answer : Outcome Numbers) → Added letters k m t file answer t′
     → answer ≡ refused (groundOf f) → groundOf f .1 < 2 ^ 32
 add-fits letters k m t file t′ f answer A e =
-    let small = add-small letters k m (length t) (lateTable letters k m t file) file in
+    let small = add-small letters k m (length t) (tableFull letters k m t file) file in
     refused-fits f _ (tableGround letters k m t file) 16777216 small (omega arith) (sym e ∙ A .answers)
 
 -- ---- `kmer_add`

@@ -8,7 +8,7 @@ use Rattle.settings.specs.Grounds.{Ground, ground, groundAt, tooShort, outcome,
 use Rattle.settings.specs.Settings.{rankIn}
 use Rattle.fasta.specs.declared.Numbers.{Numbers}
 use Rattle.fasta.specs.File.{fileFault, fileNumbers}
-use Rattle.table.specs.Table.{places, bumps, readyGround, lateTable}
+use Rattle.table.specs.Table.{places, bumps, readyGround, tableFull}
 use Rattle.kmer.specs.Returned.{returnedWithPlace}
 
 -- "the table before others": the 7 of the list for the answer comes after that of the table, then 10 or 11, then 12.
@@ -17,7 +17,7 @@ addIntoGround letters k m t file room =
     readyGround letters k m (length t) file
     orElse groundAt 7 (tooShort room 5)
     orElse fileFault file
-    orElse ground 12 (lateTable letters k m t file)
+    orElse ground 12 (tableFull letters k m t file)
 
 -- "its records (header lines), letters (foreign ones too), foreign, and edge and windows over all runs"
 abbrev pub fiveNumbers : Numbers → List ℕ

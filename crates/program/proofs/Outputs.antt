@@ -11,7 +11,7 @@ use Rattle.settings.specs.Settings.{rankIn, settingsGround, settingsOf}
 use Rattle.settings.proofs.Outcomes.{passed, refused-on, first-none}
 use Rattle.fasta.specs.declared.Numbers.{Numbers}
 use Rattle.fasta.specs.File.{fileNumbers}
-use Rattle.table.specs.Table.{classCount, places, bumps, lateTable, readyGround, tableGround, addGround, addAnswer, Added}
+use Rattle.table.specs.Table.{classCount, places, bumps, tableFull, readyGround, tableGround, addGround, addAnswer, Added}
 use Rattle.table.proofs.CallGrounds.{ready-bad, ready-settings, ready-room}
 use Rattle.table.proofs.Bumps.{length-bumps}
 use Rattle.texts.proofs.Decimals.{decimal-length}
@@ -72,8 +72,8 @@ module _ (letters : List ℕ) (k m : ℕ) (file : List ℕ) where
   unfolding surveyText
   answered-text {t} cleared A =
       let e :
-      addAnswer letters k m (length t) (lateTable letters k m t file) file
-      ≡ addAnswer letters k m 16384 (lateTable letters k m clearedTable file) file =
+      addAnswer letters k m (length t) (tableFull letters k m t file) file
+      ≡ addAnswer letters k m 16384 (tableFull letters k m clearedTable file) file =
       rw (cleared, length-cleared) in
       ap (answerText letters k m file) (sym (A .answers ∙ e))
 

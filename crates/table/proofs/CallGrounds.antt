@@ -23,7 +23,7 @@ use Rattle.fasta.proofs.Ranks.{windows-by-table, numbers-by-table}
 use Rattle.fasta.proofs.Runs.{windows-fit}
 use Rattle.sequence.specs.declared.kernels.Kernel.{Kernel}
 use Rattle.sequence.specs.Needs.{Takes}
-use Rattle.table.specs.Table.{classCount, wins, places, bumps, full, tooMany, readyGround, addGround, clearGround, lateTable, tableGround, Added, Clears}
+use Rattle.table.specs.Table.{classCount, windowsOfFile, places, bumps, full, tooMany, readyGround, addGround, clearGround, tableFull, tableGround, Added, Clears}
 use Rattle.table.specs.Needs.{Room, CountedUnlessFull, AddedUnlessFull, CleanFile, ClearsPlaces}
 use Rattle.table.proofs.Bumps.{bumps-front}
 use Rattle.table.proofs.Full.{not-full}
@@ -160,7 +160,7 @@ module _ (letters : List ℕ) (k m : ℕ) (t file : List ℕ) where
 
   module _ (ready : readyGround letters k m (length t) file ≡ none) where
     -- What is left of the grounds: a fault of the file, and then ground 12.
-    grounds-left : tableGround letters k m t file ≡ fileFault file orElse ground 12 (lateTable letters k m t file)
+    grounds-left : tableGround letters k m t file ≡ fileFault file orElse ground 12 (tableFull letters k m t file)
     unfolding addGround
     grounds-left = rw ready
 
@@ -175,7 +175,7 @@ module _ (letters : List ℕ) (k m : ℕ) (t file : List ℕ) where
     pub added : (x : Numbers) (answer : Outcome Numbers) (t′ : List ℕ) → CleanFile letters k file x → AddedUnlessFull letters k m t file answer t′
         → Added letters k m t file answer t′
     added x answer t′ F A =
-        let e : tableGround letters k m t file ≡ ground 12 (lateTable letters k m t file) = grounds-left ∙ rw (F .no-fault) in
+        let e : tableGround letters k m t file ≡ ground 12 (tableFull letters k m t file) = grounds-left ∙ rw (F .no-fault) in
         record { answers = A .answers ∙ rw e; leaves = A .leaves ∙ rw e }
 
 -- ---- a file that was scanned without fault
@@ -188,16 +188,16 @@ clean letters k file ranks short T n e =
     record { no-fault = p .none-applies; numbers = p .value ∙ numbers-by-table letters ranks T k file; short = short }
 
 module _ (letters : List ℕ) (k : ℕ) (file : List ℕ) (n : Numbers) (F : CleanFile letters k file n) where
-  n-windows : n .windows ≡ length (wins letters k file)
-  unfolding wins
+  n-windows : n .windows ≡ length (windowsOfFile letters k file)
+  unfolding windowsOfFile
   n-windows = ap (λ (x : Numbers). x .windows) (F .numbers)
 
   pub n-windows-by-table : (ranks : List ℕ) → RankTable letters ranks → n .windows ≡ length (fileWindows (rankByTable ranks) k file)
-  unfolding wins
+  unfolding windowsOfFile
   n-windows-by-table ranks T = n-windows ∙ sym (ap length (windows-by-table letters ranks T k file))
 
   pub few-windows : (m : ℕ) → settingsGround letters k m ≡ none → _≤_ (n .windows) 16777216
-  unfolding wins
+  unfolding windowsOfFile
   few-windows m good =
       let some-k = good-settings letters k m good .some-k in
       omega (arith, n-windows, windows-fit (rankIn letters) k file (omega arith), F .short)
@@ -223,8 +223,8 @@ module _ (letters : List ℕ) (k m : ℕ) (t file : List ℕ) (good : settingsGr
         answers =
             C .answers
             ∙ ap (λ (w : ℕ). outcome (ground 12 (full w (take (classCount letters k m) t))) n) windows-are
-            ∙ ap (outcome (ground 12 (lateTable letters k m t file))) (F .numbers);
-        leaves = leaves-by (ground 12 (lateTable letters k m t file)) counts′ (C .leaves ∙ rw (windows-are, e));
+            ∙ ap (outcome (ground 12 (tableFull letters k m t file))) (F .numbers);
+        leaves = leaves-by (ground 12 (tableFull letters k m t file)) counts′ (C .leaves ∙ rw (windows-are, e));
       }
 
   pub whole-table : (cs : ℕ) (ps : List ℕ) (answer : Outcome Numbers) (counts′ : List ℕ) → cs ≡ classCount letters k m → ps ≡ places letters k m file
@@ -234,7 +234,7 @@ module _ (letters : List ℕ) (k m : ℕ) (t file : List ℕ) (good : settingsGr
 
 pub places-by-table : (letters : List ℕ) (k m : ℕ) (table file : List ℕ) (st : Settings) → st ≡ settingsOf letters k m → RankTable letters table
     → map (code (st .s) (st .mirror) k) (fileWindows (rankByTable table) k file) ≡ places letters k m file
-unfolding wins
+unfolding windowsOfFile
 places-by-table letters k m table file st is T =
     ap (λ (x : Settings). map (code (x .s) (x .mirror) k) (fileWindows (rankByTable table) k file)) is ∙ rw (windows-by-table letters table T k file)
 

@@ -13,7 +13,7 @@ use Rattle.encoding.specs.Words.{IsWord, canonical}
 use Rattle.encoding.specs.WordsOfCodes.{wordOf}
 use Rattle.encoding.proofs.Codes.{is-canonical, canonical-low}
 use Rattle.encoding.proofs.Theorems.{code-below-classes, same-code, word-of-code, word-of-own-code, canonical-is-one}
-use Rattle.table.specs.Table.{classCount, placeOf, wins, places}
+use Rattle.table.specs.Table.{classCount, placeOf, windowsOfFile, places}
 use Rattle.table.specs.Book.{sameClass, hits, CanonicalWord}
 use Rattle.table.specs.Demand.{OnePlaceAClass}
 use Rattle.laws.specs.Each.{Each}
@@ -69,7 +69,7 @@ module _ (letters : List ℕ) (k m : ℕ) (good : settingsGround letters k m ≡
   -- The places of a file's windows are below the number of classes.
   pub places-below : (file : List ℕ) → Each (Below (classCount letters k m)) (places letters k m file)
   places-below file =
-      each-map (IsWord (length letters) k) (Below (classCount letters k m)) (placeOf letters k m) (wins letters k file) place-below
+      each-map (IsWord (length letters) k) (Below (classCount letters k m)) (placeOf letters k m) (windowsOfFile letters k file) place-below
       (windows-are-words letters k file)
 
   -- The canonical word of a word, and its place.

@@ -15,7 +15,7 @@ use Rattle.fasta.specs.declared.Numbers.{Numbers}
 use Rattle.encoding.specs.Words.{IsWord, canonical}
 use Rattle.table.specs.Table.{classCount, placeOf, clearGround, Clears}
 use Rattle.table.specs.Book.{hits, Book, clearedBook, bookAfter, bookAnswers, bookAfterAll}
-use Rattle.table.specs.Demand.{Adds, takenIn, allWins, counts, Agrees, Kept, DemandThree, SameCountsExactlyWhen}
+use Rattle.table.specs.Demand.{Adds, takenIn, windowsOfFiles, counts, Agrees, Kept, DemandThree, SameCountsExactlyWhen}
 use Rattle.table.specs.Demand.Calls.{done, then}
 use Rattle.table.proofs.Classes.{place-below, places-and-classes, canonical-word, canonical-place, hits-of-canonical}
 use Rattle.table.proofs.Steps.{step}
@@ -28,7 +28,7 @@ module _ (letters : List ℕ) (k m : ℕ) (good : settingsGround letters k m ≡
   pub kept : (book : Book) {t t′ : List ℕ} {files : List (List ℕ)} {answers : List (Outcome Numbers)} → Agrees letters k m t book
       → Adds letters k m t files answers t′
       → Kept letters k m book t files answers t′
-  unfolding bookAnswers bookAfterAll takenIn allWins
+  unfolding bookAnswers bookAfterAll takenIn windowsOfFiles
   kept book A done =
       record {
         each-add-answered-what-the-book-did = refl;
@@ -53,7 +53,7 @@ module _ (letters : List ℕ) (k m : ℕ) (good : settingsGround letters k m ≡
   counted : {t t′ : List ℕ} {files : List (List ℕ)} {answers : List (Outcome Numbers)} → Agrees letters k m t clearedBook
       → Adds letters k m t files answers t′
       → (w : List ℕ) → IsWord (length letters) k w
-      → getD (counts letters k m t′) (placeOf letters k m w) 0 ≡ hits (length letters) (mirrorOf m) w (allWins letters k (takenIn files answers))
+      → getD (counts letters k m t′) (placeOf letters k m w) 0 ≡ hits (length letters) (mirrorOf m) w (windowsOfFiles letters k (takenIn files answers))
   counted {t′ = t′} {files = files} {answers = answers} A adds w i =
       let K = kept clearedBook A adds in
       let c = canonical (length letters) (mirrorOf m) w in
@@ -63,9 +63,9 @@ module _ (letters : List ℕ) (k m : ℕ) (good : settingsGround letters k m ≡
       ∙ ap (λ (q : ℕ). getD t′ q 0) (sym (canonical-place letters k m good w i))
       ∙ K .each-count-equals-its-class's-tally .each-count-is-its-class's-tally c (canonical-word letters k m good w i)
       ∙ tally-is-hits letters k m clearedBook files c
-      ∙ zero-add (hits (length letters) (mirrorOf m) c (allWins letters k (takenIn files (bookAnswers letters k m clearedBook files))))
-      ∙ ap (λ (fs : List (List ℕ)). hits (length letters) (mirrorOf m) c (allWins letters k fs)) same
-      ∙ hits-of-canonical letters k m good w (allWins letters k (takenIn files answers)) i (all-windows-are-words letters k (takenIn files answers))
+      ∙ zero-add (hits (length letters) (mirrorOf m) c (windowsOfFiles letters k (takenIn files (bookAnswers letters k m clearedBook files))))
+      ∙ ap (λ (fs : List (List ℕ)). hits (length letters) (mirrorOf m) c (windowsOfFiles letters k fs)) same
+      ∙ hits-of-canonical letters k m good w (windowsOfFiles letters k (takenIn files answers)) i (all-windows-are-words letters k (takenIn files answers))
 
   as-many : {t t′ : List ℕ} {files : List (List ℕ)} {answers : List (Outcome Numbers)} → Agrees letters k m t clearedBook → Adds letters k m t files answers t′
       → length (counts letters k m t′) ≡ classCount letters k m
