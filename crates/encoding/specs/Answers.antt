@@ -8,20 +8,14 @@ use denote.Ref.{RefT}
 use Rattle.settings.specs.Grounds.{Ground, Outcome, given, refused, groundOf}
 use Rattle.encoding.specs.declared.Coding.{Coding}
 use Rattle.encoding.specs.declared.Coding.the-variants.{Coded, Refused}
-use Rattle.encoding.specs.declared.Filling.{Filling}
-use Rattle.encoding.specs.declared.Filling.the-variants.{Filled, Unfilled}
 use Rattle.encoding.specs.declared.letters.Place.{Place}
 use Rattle.encoding.specs.declared.letters.Place.the-variants.{At, Nowhere}
 use Rattle.encoding.specs.Calls.{pickGround, firstPicked}
 
--- The answers of the calls as this paper's values: the code, how many bytes were set, or the refusal's number and P.
+-- The answer of coding as this paper's value: the code, or the refusal's number and P.
 abbrev pub ofCoding : Coding → Outcome ℕ
 ofCoding (Coded q) = given (q .0)
 ofCoding (Refused f) = refused (groundOf f)
-
-abbrev pub ofFilling : Filling → Outcome ℕ
-ofFilling (Filled n) = given n
-ofFilling (Unfilled f) = refused (groundOf f)
 
 -- The place of a byte that is no letter, or none.
 abbrev pub ofPlace : Place → Option ℕ

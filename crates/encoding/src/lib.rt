@@ -8,12 +8,13 @@ mod to_word; // from a code to its word
 
 ghost use mathlib.Core.Path.{_≡_};
 ghost use lib.ListN.{length};
-ghost use Rattle.settings.specs.Grounds.{Overwrites};
+ghost use Rattle.settings.specs.Grounds.{ofFilling, Overwrites};
 ghost use Rattle.encoding.specs.Calls.{codeGround, coding, readGround, wordBytes, mirrorGround, mirrorBytes};
-ghost use Rattle.encoding.specs.Answers.{ofCoding, ofFilling, Picked};
+ghost use Rattle.encoding.specs.Answers.{ofCoding, Picked};
 ghost use Rattle.encoding.specs.Needs.{noneApplies};
 use letters::Place;
 use settings::Checked;
+use settings::Filling;
 use settings::Refusal;
 
 // A plain rank counts all words, a code counts classes, and neither may pass for the other.
@@ -24,12 +25,6 @@ pub struct Code(pub u64);
 pub enum Coding {
     Coded(Code),
     Refused(Refusal),
-}
-
-// The answer of a call that overwrites a lent buffer from its start: how many bytes it set.
-pub enum Filling {
-    Filled(usize),
-    Unfilled(Refusal),
 }
 
 // The code of a word. Refused by the first of the grounds 1 to 5 and 9.

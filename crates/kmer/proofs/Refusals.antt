@@ -1,6 +1,6 @@
 -- What the calls that return P rest on: the number of a refusal is small, and so is the P of each call, so that one number holds both; and the
 -- answer and buffer of such a call, from those of the call below it.
-use mathlib.Core.Path.{_≡_, sym, ap, _∙_}
+use mathlib.Core.Path.{_≡_, refl, sym, ap, _∙_, subst⁻¹}
 use mathlib.Core.Bool.{Bool}
 use mathlib.Core.Option.{Option, none, some}
 use mathlib.Core.List.{List, [], _∷_}
@@ -23,6 +23,7 @@ use Rattle.sequence.specs.Sequences.{sequenceGround}
 use Rattle.sequence.proofs.Windows.{length-windows}
 use Rattle.table.specs.Table.{classCount, tooMany, clearGround}
 use Rattle.kmer.specs.Returned.{ReturnsPlaces}
+use Rattle.kmer.specs.Needs.{PlaceFits}
 
 -- No number of a refusal is above 14.
 pub number-small : (f : Refusal) → groundOf f .0 ≤ 14
@@ -51,12 +52,16 @@ refused-fits f a g n small h e = omega (arith, small (groundOf f) (refused-is (g
 -- From a call below that overwrote the buffer and answered a.
 module _ {g : Option Ground} {count : ℕ} {places old new : List ℕ} {a : Outcome ℕ} (W : Overwrites g count places old a new) where
   -- The answer as one number, and the buffer as the call below left it.
-  pub returns-answer : (number : Outcome ℕ → ℕ) (told : Outcome ℕ) → a ≡ told → (x : ℕ) → x ≡ number told → ReturnsPlaces number g count places old x new
-  returns-answer number told e x h = record { returns = h ∙ ap number (sym e ∙ W .answers); leaves = W .leaves }
+  pub returns-answer : (number : Outcome ℕ → ℕ) (x : ℕ) → x ≡ number a → ReturnsPlaces number g count places old x new
+  returns-answer number x h = record { returns = h ∙ ap number (W .answers); leaves = W .leaves }
 
-  -- The P of its refusal fits.
-  pub place-fits : (n : ℕ) → Small n g → n < 2 ^ 32 → (f : Refusal) → a ≡ refused (groundOf f) → groundOf f .1 < 2 ^ 32
-  place-fits n small h f e = refused-fits f count g n small h (sym e ∙ W .answers)
+  -- The P of its refusal fits, where the P of each ground is at most n.
+  pub place-fits : (n : ℕ) → Small n g → n < 2 ^ 32 → PlaceFits a
+  place-fits n small h = subst⁻¹ PlaceFits (W .answers) (go g small)
+    where
+      go : (o : Option Ground) → Small n o → PlaceFits (outcome o count)
+      go none s = tt
+      go (some f) s = omega (arith, s f refl)
 
 -- ---- the P of a refused mirroring is at most 62
 

@@ -4,25 +4,23 @@ ghost use mathlib.Core.Path.{_≡_};
 ghost use Prim.Native.Nat.{_+_, _*_, _^_, _<_, _≤_};
 ghost use mathlib.Core.List.{_++_};
 ghost use lib.ListN.{length, drop, replicate};
-ghost use Rattle.settings.specs.Grounds.{groundOf};
+ghost use Rattle.settings.specs.Grounds.{groundOf, ofFilling};
 ghost use Rattle.table.specs.Table.{classCount, clearGround};
 ghost use Rattle.kmer.specs.Adding.{fiveNumbers, AddsInto};
 ghost use Rattle.encoding.specs.Calls.{coding, readGround, wordBytes, mirrorGround, mirrorBytes};
 ghost use Rattle.kmer.specs.Returned.{returned, returnedWithPlace, ReturnsPlaces};
+ghost use Rattle.kmer.specs.Needs.{PlaceFits};
 ghost use Rattle.listing.specs.Listing.{listing, listingGround};
 ghost use Rattle.laws.specs.Text.{bytes};
 ghost use Rattle.laws.specs.Windows.{windows};
 ghost use Rattle.sequence.specs.Sequences.{sequenceGround, sequenceCodes};
 use encoding::Code;
 use encoding::Coding;
-use encoding::Filling;
 use fasta::Answer;
 use fasta::Numbers;
-use listing::Listed;
-use sequence::Filled;
 use settings::Checked;
+use settings::Filling;
 use settings::Refusal;
-use table::Cleared;
 
 // 2^63 plus the number.
 fn refused(f: Refusal) -> u64
@@ -37,6 +35,17 @@ fn refused_at(f: Refusal) -> u64
     ensures { λ r. ⌜ r ≡ 2 ^ 63 + groundOf f .1 * 256 + groundOf f .0 ⌝ }
 {
     9223372036854775808 + settings::place_of(f) * 256 + settings::number_of(f)
+}
+
+// The answer of a call that overwrites a lent buffer, as one number: how many places it set, or the refusal with its P.
+fn with_place(answer: Filling) -> u64
+    requires { ⌜ PlaceFits (ofFilling answer) ⌝ }
+    ensures { λ r. ⌜ r ≡ returnedWithPlace (ofFilling answer) ⌝ }
+{
+    match answer {
+        Filling::Filled(n) => n as u64,
+        Filling::Unfilled(f) => refused_at(f),
+    }
 }
 
 #[no_mangle]
@@ -73,10 +82,7 @@ pub extern "C" fn kmer_mirror(
         ⌜ ReturnsPlaces returnedWithPlace (mirrorGround (now (letters .entry)) k mirror (now (word .entry)) (length (now (out .entry)))) k
         (mirrorBytes (now (letters .entry)) mirror (now (word .entry))) (now (out .entry)) r (now (out .exit)) ⌝ }
 {
-    match encoding::mirror_of(letters, k, mirror, word, out) {
-        Filling::Filled(n) => n as u64,
-        Filling::Unfilled(f) => refused_at(f),
-    }
+    with_place(encoding::mirror_of(letters, k, mirror, word, out))
 }
 
 #[no_mangle]
@@ -92,10 +98,7 @@ pub extern "C" fn kmer_codes(
         (length (windows k (now (sequence .entry)))) (sequenceCodes (now (letters .entry)) k mirror (now (sequence .entry)))
         (now (codes .entry)) r (now (codes .exit)) ⌝ }
 {
-    match sequence::codes(letters, k, mirror, sequence, codes) {
-        Filled::Count(n) => n as u64,
-        Filled::Refused(f) => refused_at(f),
-    }
+    with_place(sequence::codes(letters, k, mirror, sequence, codes))
 }
 
 // For ACGT under complement, by two-bit numbers.
@@ -105,10 +108,7 @@ pub extern "C" fn kmer_codes_two_bit(k: usize, sequence: &[u8], codes: &mut [u64
         ⌜ ReturnsPlaces returnedWithPlace (sequenceGround (bytes "ACGT") k 1 (now (sequence .entry)) (length (now (codes .entry))))
         (length (windows k (now (sequence .entry)))) (sequenceCodes (bytes "ACGT") k 1 (now (sequence .entry))) (now (codes .entry)) r (now (codes .exit)) ⌝ }
 {
-    match sequence::codes_two_bit(k, sequence, codes) {
-        Filled::Count(n) => n as u64,
-        Filled::Refused(f) => refused_at(f),
-    }
+    with_place(sequence::codes_two_bit(k, sequence, codes))
 }
 
 #[no_mangle]
@@ -118,10 +118,7 @@ pub extern "C" fn kmer_clear(letters: &[u8], k: usize, mirror: u64, table: &mut 
         (classCount (now (letters .entry)) k mirror) (replicate (classCount (now (letters .entry)) k mirror) 0)
         (now (table .entry)) r (now (table .exit)) ⌝ }
 {
-    match table::clear(letters, k, mirror, table) {
-        Cleared::Count(n) => n as u64,
-        Cleared::Uncleared(f) => refused_at(f),
-    }
+    with_place(table::clear(letters, k, mirror, table))
 }
 
 fn write_numbers(n: Numbers, answer: &mut [u64])
@@ -177,8 +174,5 @@ pub extern "C" fn kmer_listing(
         (length (listing (now (letters .entry)) k mirror (now (table .entry)))) (listing (now (letters .entry)) k mirror (now (table .entry)))
         (now (text .entry)) r (now (text .exit)) ⌝ }
 {
-    match listing::list(letters, k, mirror, table, text) {
-        Listed::Bytes(n) => n as u64,
-        Listed::Refused(f) => refused_at(f),
-    }
+    with_place(listing::list(letters, k, mirror, table, text))
 }

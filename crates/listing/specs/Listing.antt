@@ -5,14 +5,12 @@ use mathlib.Core.Option.{Option}
 use mathlib.Core.List.{List, [], _∷_, _++_}
 use lib.ListN.{length}
 use Rattle.laws.specs.Text.{bytes}
-use Rattle.settings.specs.Grounds.{Ground, Outcome, given, refused, groundOf, groundAt, tooShort, Overwrites, _orElse_}
+use Rattle.settings.specs.Grounds.{Ground, Outcome, groundAt, tooShort, Overwrites, _orElse_}
 use Rattle.encoding.specs.Calls.{wordBytes}
 use Rattle.table.specs.Table.{clearGround}
 use Rattle.table.specs.Demand.{sum, counts}
 use Rattle.texts.specs.Decimals.{decimal}
 use Rattle.survey.specs.Line.{surveyLine}
-use Rattle.listing.specs.declared.Listed.{Listed}
-use Rattle.listing.specs.declared.Listed.the-variants.{Bytes, Refused}
 
 -- (count AC 2) and LF
 unfoldable pub countLine : (word : List ℕ) (n : ℕ) → List ℕ
@@ -45,11 +43,6 @@ listing letters k m table = listingOf letters k m (counts letters k m table)
 unfoldable pub listingGround : (letters : List ℕ) (k mirror : ℕ) (table : List ℕ) (room : ℕ) → Option Ground
 listingGround letters k m table room =
     clearGround letters k m (length table) orElse groundAt 7 (tooShort room (length (listing letters k m table)))
-
--- The answer of the call as this paper's value: how many bytes were set, or the refusal's number and P.
-abbrev pub ofListed : Listed → Outcome ℕ
-ofListed (Bytes n) = given n
-ofListed (Refused f) = refused (groundOf f)
 
 -- The contract of the listing: "The library writes the listing whole into a lent byte buffer"; it answers how many bytes it wrote.
 abbrev pub Lists : (letters : List ℕ) (k mirror : ℕ) (table old : List ℕ) (answer : Outcome ℕ) (new : List ℕ) → Type 0

@@ -1,6 +1,7 @@
 // The listing of a table: the survey line, a line for each class with a count, the total; written whole into a lent buffer.
 use encoding::Code;
 use settings::Checked;
+use settings::Filling;
 use settings::Refusal;
 ghost use mathlib.Core.Path.{_≡_};
 ghost use mathlib.Core.Option.{none};
@@ -8,20 +9,15 @@ ghost use mathlib.Core.List.{_++_};
 ghost use Prim.Native.Nat.{_+_, _*_, _<_, _≤_};
 ghost use lib.ListN.{length};
 ghost use Rattle.laws.specs.Text.{bytes};
+ghost use Rattle.settings.specs.Grounds.{ofFilling};
 ghost use Rattle.settings.specs.Settings.{settingsGround};
 ghost use Rattle.encoding.specs.Calls.{wordBytes};
 ghost use Rattle.table.specs.Table.{classCount};
 ghost use Rattle.table.specs.Demand.{sum};
 ghost use Rattle.texts.specs.Needs.{Puts};
 ghost use Rattle.survey.specs.Line.{mirrorName, surveyLine};
-ghost use Rattle.listing.specs.Listing.{countLine, classLine, countLines, totalLine, listingOf, ofListed, Lists};
+ghost use Rattle.listing.specs.Listing.{countLine, classLine, countLines, totalLine, listingOf, Lists};
 ghost use Rattle.listing.specs.Needs.{AllCounts, ListsCounts, lineLength, linesLength};
-
-// How many bytes of the lent buffer hold the listing, or the refusal, which leaves the buffer unchanged.
-pub enum Listed {
-    Bytes(usize),
-    Refused(Refusal),
-}
 
 // The survey line's last form, with what stands before and after it.
 fn put_mirror(out: &mut [u8], at: usize, mirror: u64) -> usize
@@ -164,33 +160,33 @@ fn listing_length(letters: &[u8], k: usize, mirror: u64, counts: &[u32]) -> usiz
 }
 
 // The listing of the counts of all classes, whole or, where the buffer is too short for it, not at all.
-fn list_counts(letters: &[u8], k: usize, mirror: u64, counts: &[u32], text: &mut [u8]) -> Listed
+fn list_counts(letters: &[u8], k: usize, mirror: u64, counts: &[u32], text: &mut [u8]) -> Filling
     requires { ⌜ AllCounts (now letters) k mirror (now counts) ⌝ }
     ensures { λ r.
-        ⌜ ListsCounts (listingOf (now (letters .entry)) k mirror (now (counts .entry))) (now (text .entry)) (ofListed r) (now (text .exit)) ⌝ }
+        ⌜ ListsCounts (listingOf (now (letters .entry)) k mirror (now (counts .entry))) (now (text .entry)) (ofFilling r) (now (text .exit)) ⌝ }
 {
     let needed = listing_length(letters, k, mirror, counts);
     if text.len() < needed {
-        return Listed::Refused(Refusal::ShortBuffer(needed));
+        return Filling::Unfilled(Refusal::ShortBuffer(needed));
     }
     put_listing(text, letters, k, mirror, counts);
-    Listed::Bytes(needed)
+    Filling::Filled(needed)
 }
 
 // Writes the listing of a table to the start of the text's buffer. Refused by the first of the grounds 1 to 4, 6 and 7.
-pub fn list(letters: &[u8], k: usize, mirror: u64, table: &[u32], text: &mut [u8]) -> Listed
+pub fn list(letters: &[u8], k: usize, mirror: u64, table: &[u32], text: &mut [u8]) -> Filling
     ensures { λ r.
-        ⌜ Lists (now (letters .entry)) k mirror (now (table .entry)) (now (text .entry)) (ofListed r) (now (text .exit)) ⌝ }
+        ⌜ Lists (now (letters .entry)) k mirror (now (table .entry)) (now (text .entry)) (ofFilling r) (now (text .exit)) ⌝ }
 {
     match settings::check(letters, k, mirror) {
-        Checked::Bad(f) => Listed::Refused(f),
+        Checked::Bad(f) => Filling::Unfilled(f),
         Checked::Good(st) => {
             if st.classes > 16777216 {
-                return Listed::Refused(Refusal::TooLarge);
+                return Filling::Unfilled(Refusal::TooLarge);
             }
             let classes = st.classes as usize;
             if table.len() < classes {
-                return Listed::Refused(Refusal::ShortBuffer(classes));
+                return Filling::Unfilled(Refusal::ShortBuffer(classes));
             }
             list_counts(letters, k, mirror, &table[..classes], text)
         }

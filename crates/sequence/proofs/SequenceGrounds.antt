@@ -15,7 +15,7 @@ use Rattle.settings.proofs.Outcomes.{refused-on, refused-leaves}
 use Rattle.settings.proofs.SettingsGrounds.{good-settings, limits}
 use Rattle.encoding.specs.Needs.{palindromes}
 use Rattle.encoding.proofs.ClassNumbers.{twice-classes, palindromes-le}
-use Rattle.sequence.specs.declared.Filled.the-variants.{Count, Refused}
+use Rattle.settings.specs.declared.Filling.the-variants.{Filled, Unfilled}
 use Rattle.sequence.specs.declared.kernels.Kernel.{Kernel}
 use Rattle.sequence.specs.declared.kernels.Coder.{Coder}
 use Rattle.sequence.specs.Windows.{windows}
@@ -29,7 +29,7 @@ use Rattle.sequence.proofs.RankTables.{Bytes, codes-by-table}
 module _ (letters : List ℕ) (k m : ℕ) (sequence old : List ℕ) where
   -- Bad settings.
   pub settings-refused : (f : Refusal) → refused (groundOf f) ≡ outcome (settingsGround letters k m) (settingsOf letters k m)
-      → FillsCodes letters k m sequence old (Refused f) old
+      → FillsCodes letters k m sequence old (Unfilled f) old
   unfolding sequenceGround
   settings-refused f e =
       record {
@@ -41,7 +41,7 @@ module _ (letters : List ℕ) (k m : ℕ) (sequence old : List ℕ) where
     some-k : 1 ≤ k
     some-k = let ne = good-settings letters k m good .some-k in omega (arith, ne)
 
-    pub too-large : 16777216 < length sequence → FillsCodes letters k m sequence old (Refused TooLarge) old
+    pub too-large : 16777216 < length sequence → FillsCodes letters k m sequence old (Unfilled TooLarge) old
     unfolding sequenceGround
     too-large h = record { answers = rw (good, lt-ltb 16777216 (length sequence) h); leaves = rw (good, lt-ltb 16777216 (length sequence) h) }
 
@@ -49,7 +49,7 @@ module _ (letters : List ℕ) (k m : ℕ) (sequence old : List ℕ) where
       needed-is : length (windows k sequence) ≡ needed
       needed-is = length-windows k some-k sequence ∙ sym is
 
-      pub too-short : length old < needed → FillsCodes letters k m sequence old (Refused (ShortBuffer needed)) old
+      pub too-short : length old < needed → FillsCodes letters k m sequence old (Unfilled (ShortBuffer needed)) old
       unfolding sequenceGround
       too-short h =
           record {
@@ -59,7 +59,7 @@ module _ (letters : List ℕ) (k m : ℕ) (sequence old : List ℕ) where
 
       pub all-filled : {table new : List ℕ} → needed ≤ length old → RankTable letters table → Bytes sequence
           → Fills (map (codeBy (rankByTable table) (length letters) (mirrorOf m) k) (windows k sequence)) old new
-          → FillsCodes letters k m sequence old (Count needed) new
+          → FillsCodes letters k m sequence old (Filled needed) new
       unfolding sequenceGround
       all-filled h T B F =
           record {

@@ -35,6 +35,10 @@ pub record Fills (places old new : List ℕ) : Type 0 where
 pub record Powers (s k : ℕ) (table : List ℕ) : Type 0 where
   pub at : (i : ℕ) → i ≤ k → getD table i 0 ≡ s ^ i
 
+-- n is the number of palindromes of k letters.
+abbrev pub CountsPalindromes : ℕ → Mirror → ℕ → ℕ → Type 0
+CountsPalindromes s m k n = n ≡ palindromes s m k
+
 -- Settings within the limits, their powers, and a list of ranks.
 pub record Input (s : ℕ) (m : Mirror) (k : ℕ) (powers d : List ℕ) : Type 0 where
   pub limits : Limits s m k

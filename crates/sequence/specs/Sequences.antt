@@ -5,12 +5,11 @@ use mathlib.Core.Option.{Option, none, some}
 use mathlib.Core.List.{List, [], _∷_, map}
 use lib.ListN.{length}
 use lib.Dec.{ltb}
-use Rattle.settings.specs.Grounds.{Ground, Outcome, given, refused, groundOf, ground, groundAt, tooShort, _orElse_, Overwrites}
+use Rattle.settings.specs.declared.Filling.{Filling}
+use Rattle.settings.specs.Grounds.{Ground, ground, groundAt, tooShort, _orElse_, ofFilling, Overwrites}
 use Rattle.settings.specs.Settings.{rankIn, mirrorOf, settingsGround}
 use Rattle.encoding.specs.Codes.{code}
 use Rattle.encoding.specs.Calls.{ranksOf}
-use Rattle.sequence.specs.declared.Filled.{Filled}
-use Rattle.sequence.specs.declared.Filled.the-variants.{Count, Refused}
 use Rattle.sequence.specs.Windows.{windows}
 
 -- "18,446,744,073,709,551,615 if one of them is not a letter of the settings": 2^64 - 1, which is no code, since codes are below 2^62.
@@ -41,12 +40,8 @@ sequenceGround letters k m sequence room =
     orElse ground 6 (ltb 16777216 (length sequence))
     orElse groundAt 7 (tooShort room (length (windows k sequence)))
 
--- How the answer is read: "the answer is how many were filled".
-abbrev pub ofFilled : Filled → Outcome ℕ
-ofFilled (Count n) = given n
-ofFilled (Refused f) = refused (groundOf f)
-
--- The contract of both paths: the answer, and the lent list, of which "later places keep their numbers"; a refused call changes no place.
-abbrev pub FillsCodes : (letters : List ℕ) (k mirror : ℕ) (sequence old : List ℕ) → Filled → (new : List ℕ) → Type 0
+-- The contract of both paths: "the answer is how many were filled", and the lent list, of which "later places keep their numbers"; a refused call
+-- changes no place.
+abbrev pub FillsCodes : (letters : List ℕ) (k mirror : ℕ) (sequence old : List ℕ) → Filling → (new : List ℕ) → Type 0
 FillsCodes letters k m sequence old r new =
-    Overwrites (sequenceGround letters k m sequence (length old)) (length (windows k sequence)) (sequenceCodes letters k m sequence) old (ofFilled r) new
+    Overwrites (sequenceGround letters k m sequence (length old)) (length (windows k sequence)) (sequenceCodes letters k m sequence) old (ofFilling r) new

@@ -15,9 +15,8 @@ ghost use lib.ListN.{length, getD};
 ghost use Rattle.settings.specs.Limits.{EvenUnder};
 ghost use Rattle.encoding.specs.Words.{Ranks, mirrorRank};
 ghost use Rattle.encoding.specs.Codes.{code};
-ghost use Rattle.encoding.specs.Needs.{palindromes};
 ghost use Rattle.sequence.specs.Windows.{windowCodes};
-ghost use Rattle.sequence.specs.Needs.{Powers, part, Input, Window, OuterPair, Fills};
+ghost use Rattle.sequence.specs.Needs.{Powers, part, CountsPalindromes, Input, Window, OuterPair, Fills};
 
 // Of a window: the number of palindromes of its length, and the plain ranks of the letters between its first and last and of their mirror.
 pub struct Inner {
@@ -76,8 +75,12 @@ fn middle_code(s: u64, m: Mirror, x: u64) -> u64
     match m {
         Mirror::Reversal => x,
         Mirror::Complement => {
-            let h = s / 2;
-            if x < h { h - 1 - x } else { x - (s - h) }
+            let half = s / 2;
+            if x < half {
+                half - 1 - x
+            } else {
+                x - (s - half)
+            }
         }
     }
 }
@@ -93,73 +96,73 @@ fn power_at(powers: &[u64; 64], s: u64, k: usize, i: usize) -> u64
 }
 
 // The rank at place i, as the mirror shows it.
-fn mirror_rank_at(d: &[u8], i: usize, s: u64, m: Mirror) -> u64
-    requires { ⌜ i < length (now d) ⌝ }
-    requires { ⌜ Ranks s (now d) ⌝ }
-    ensures { λ r. ⌜ r ≡ mirrorRank s m (getD (now (d .entry)) i 0) ⌝ }
+fn mirror_rank_at(ranks: &[u8], i: usize, s: u64, m: Mirror) -> u64
+    requires { ⌜ i < length (now ranks) ⌝ }
+    requires { ⌜ Ranks s (now ranks) ⌝ }
+    ensures { λ r. ⌜ r ≡ mirrorRank s m (getD (now (ranks .entry)) i 0) ⌝ }
 {
-    mirror_rank(s, m, rank_at(d, i))
+    mirror_rank(s, m, rank_at(ranks, i))
 }
 
 // The code of the window at j, whose outer letters l and r (as the mirror shows it) differ.
 fn differing_code(
-    d: &[u8],
+    ranks: &[u8],
     j: usize,
     k: usize,
     s: u64,
     m: Mirror,
     powers: &[u64; 64],
-    t: Inner,
+    inner: Inner,
     l: u64,
     r: u64,
 ) -> u64
-    requires { ⌜ Window s m k (now powers) (now d) j t ⌝ }
-    requires { ⌜ OuterPair s m k (now d) j l r ⌝ }
+    requires { ⌜ Window s m k (now powers) (now ranks) j inner ⌝ }
+    requires { ⌜ OuterPair s m k (now ranks) j l r ⌝ }
     requires { ⌜ l ≢ r ⌝ }
-    ensures { λ q. ⌜ q ≡ code s m k (part j k (now (d .entry))) ⌝ }
+    ensures { λ q. ⌜ q ≡ code s m k (part j k (now (ranks .entry))) ⌝ }
 {
-    let w = by_order(l, r, t.forward, t.back);
+    let between = by_order(l, r, inner.forward, inner.back);
     let top = power_at(powers, s, k, k - 1);
     let low = power_at(powers, s, k, k - 2);
-    let q = pair_rank(s, lower(l, r), higher(l, r));
-    (top + t.palindromes) / 2 + q * low + w
+    let pair = pair_rank(s, lower(l, r), higher(l, r));
+    (top + inner.palindromes) / 2 + pair * low + between
 }
 
 // What is kept of the window within, two letters shorter.
 fn inner_window(
-    d: &[u8],
+    ranks: &[u8],
     j: usize,
     k: usize,
     s: u64,
     m: Mirror,
     powers: &[u64; 64],
-    t: Inner,
+    inner: Inner,
 ) -> Inner
-    requires { ⌜ Window s m k (now powers) (now d) j t ⌝ }
+    requires { ⌜ Window s m k (now powers) (now ranks) j inner ⌝ }
     requires { ⌜ 2 ≤ k ⌝ }
-    ensures { λ r. ⌜ Window s m (k - 2) (now (powers .entry)) (now (d .entry)) (j + 1) r ⌝ }
+    ensures { λ r. ⌜ Window s m (k - 2) (now (powers .entry)) (now (ranks .entry)) (j + 1) r ⌝ }
 {
-    let e = divided(t.palindromes, s);
+    let palindromes = divided(inner.palindromes, s);
     if k < 4 {
         return Inner {
-            palindromes: e,
+            palindromes,
             forward: 0,
             back: 0,
         };
     }
-    let q = power_at(powers, s, k, k - 3);
-    let f = rank_at(d, j + 1) * q;
-    let g = mirror_rank_at(d, j + k - 2, s, m) * q;
+    let power = power_at(powers, s, k, k - 3);
+    let first = rank_at(ranks, j + 1) * power;
+    let last = mirror_rank_at(ranks, j + k - 2, s, m) * power;
     Inner {
-        palindromes: e,
-        forward: divided(t.forward - f, s),
-        back: divided(t.back - g, s),
+        palindromes,
+        forward: divided(inner.forward - first, s),
+        back: divided(inner.back - last, s),
     }
 }
 
 // The code of the window at j, by a scan of its pairs from the outside inwards.
 fn scanned_code(
-    d: &[u8],
+    ranks: &[u8],
     j: usize,
     k: usize,
     s: u64,
@@ -167,48 +170,56 @@ fn scanned_code(
     powers: &[u64; 64],
     outer: Inner,
 ) -> u64
-    requires { ⌜ Window s m k (now powers) (now d) j outer ⌝ }
-    ensures { λ r. ⌜ r ≡ code s m k (part j k (now (d .entry))) ⌝ }
+    requires { ⌜ Window s m k (now powers) (now ranks) j outer ⌝ }
+    ensures { λ r. ⌜ r ≡ code s m k (part j k (now (ranks .entry))) ⌝ }
 {
-    let mut t = outer;
+    let mut inner = outer;
     let mut a = j;
     let mut n = k;
     let mut closing: u64 = 0;
     let mut scale: u64 = 1;
     while 2 <= n {
-        let l = rank_at(d, a);
-        let r = mirror_rank_at(d, a + n - 1, s, m);
+        let l = rank_at(ranks, a);
+        let r = mirror_rank_at(ranks, a + n - 1, s, m);
         if l != r {
-            return closing + scale * differing_code(d, a, n, s, m, powers, t, l, r);
+            return closing + scale * differing_code(ranks, a, n, s, m, powers, inner, l, r);
         }
         closing = closing + scale * l;
-        t = inner_window(d, a, n, s, m, powers, t);
+        inner = inner_window(ranks, a, n, s, m, powers, inner);
         scale = scale * s;
         a += 1;
         n -= 2;
     }
     if n == 1 {
-        closing + scale * middle_code(s, m, rank_at(d, a))
+        closing + scale * middle_code(s, m, rank_at(ranks, a))
     } else {
         closing
     }
 }
 
 // The code of the window at j: at once where its outer letters differ.
-fn window_code(d: &[u8], j: usize, k: usize, s: u64, m: Mirror, powers: &[u64; 64], t: Inner) -> u64
-    requires { ⌜ Window s m k (now powers) (now d) j t ⌝ }
+fn window_code(
+    ranks: &[u8],
+    j: usize,
+    k: usize,
+    s: u64,
+    m: Mirror,
+    powers: &[u64; 64],
+    inner: Inner,
+) -> u64
+    requires { ⌜ Window s m k (now powers) (now ranks) j inner ⌝ }
     requires { ⌜ 1 ≤ k ⌝ }
-    ensures { λ r. ⌜ r ≡ code s m k (part j k (now (d .entry))) ⌝ }
+    ensures { λ r. ⌜ r ≡ code s m k (part j k (now (ranks .entry))) ⌝ }
 {
     if k == 1 {
-        return scanned_code(d, j, k, s, m, powers, t);
+        return scanned_code(ranks, j, k, s, m, powers, inner);
     }
-    let l = rank_at(d, j);
-    let r = mirror_rank_at(d, j + k - 1, s, m);
+    let l = rank_at(ranks, j);
+    let r = mirror_rank_at(ranks, j + k - 1, s, m);
     if l != r {
-        return differing_code(d, j, k, s, m, powers, t, l, r);
+        return differing_code(ranks, j, k, s, m, powers, inner, l, r);
     }
-    scanned_code(d, j, k, s, m, powers, t)
+    scanned_code(ranks, j, k, s, m, powers, inner)
 }
 
 // How many letters stand between the first and the last of k.
@@ -218,79 +229,95 @@ fn inner_length(k: usize) -> usize
     if k < 2 { 0 } else { k - 2 }
 }
 
-// What is kept of the window at 0, letter by letter; e is the number of palindromes.
-fn first_window(d: &[u8], k: usize, s: u64, m: Mirror, powers: &[u64; 64], e: u64) -> Inner
-    requires { ⌜ Input s m k (now powers) (now d) ⌝ }
-    requires { ⌜ k ≤ length (now d) ⌝ }
-    requires { ⌜ e ≡ palindromes s m k ⌝ }
-    ensures { λ r. ⌜ Window s m k (now (powers .entry)) (now (d .entry)) 0 r ⌝ }
+// What is kept of the window at 0, letter by letter.
+fn first_window(
+    ranks: &[u8],
+    k: usize,
+    s: u64,
+    m: Mirror,
+    powers: &[u64; 64],
+    palindromes: u64,
+) -> Inner
+    requires { ⌜ Input s m k (now powers) (now ranks) ⌝ }
+    requires { ⌜ k ≤ length (now ranks) ⌝ }
+    requires { ⌜ CountsPalindromes s m k palindromes ⌝ }
+    ensures { λ r. ⌜ Window s m k (now (powers .entry)) (now (ranks .entry)) 0 r ⌝ }
 {
     let n = inner_length(k);
-    let mut u: u64 = 0;
-    let mut v: u64 = 0;
+    let mut forward: u64 = 0;
+    let mut back: u64 = 0;
     let mut i: usize = 0;
     while i < n {
-        let x = rank_at(d, i + 1);
-        u = u * s + x;
-        v = v + mirror_rank(s, m, x) * power_at(powers, s, k, i);
+        let x = rank_at(ranks, i + 1);
+        forward = forward * s + x;
+        back = back + mirror_rank(s, m, x) * power_at(powers, s, k, i);
         i += 1;
     }
     Inner {
-        palindromes: e,
-        forward: u,
-        back: v,
+        palindromes,
+        forward,
+        back,
     }
 }
 
-// From the window at j to the next one: a letter more at the end, the first one less.
+// From the window at j to the next one: of the letters between the first and the last, one leaves in front and one enters at the end, `shown` as
+// the mirror shows it.
 fn next_window(
-    d: &[u8],
+    ranks: &[u8],
     j: usize,
     k: usize,
     s: u64,
     m: Mirror,
     powers: &[u64; 64],
-    t: Inner,
+    inner: Inner,
 ) -> Inner
-    requires { ⌜ Window s m k (now powers) (now d) j t ⌝ }
+    requires { ⌜ Window s m k (now powers) (now ranks) j inner ⌝ }
     requires { ⌜ 1 ≤ k ⌝ }
-    requires { ⌜ j + k < length (now d) ⌝ }
-    ensures { λ r. ⌜ Window s m k (now (powers .entry)) (now (d .entry)) (j + 1) r ⌝ }
+    requires { ⌜ j + k < length (now ranks) ⌝ }
+    ensures { λ r. ⌜ Window s m k (now (powers .entry)) (now (ranks .entry)) (j + 1) r ⌝ }
 {
     let n = inner_length(k);
-    let q = power_at(powers, s, k, n);
-    let f = rank_at(d, j + 1);
-    let g = rank_at(d, j + 1 + n);
-    let h = mirror_rank(s, m, g);
-    let e = t.palindromes;
-    let u = t.forward * s + g - f * q;
-    let v = divided(t.back + h * q, s);
+    let power = power_at(powers, s, k, n);
+    let leaving = rank_at(ranks, j + 1);
+    let entering = rank_at(ranks, j + 1 + n);
+    let shown = mirror_rank(s, m, entering);
+    let palindromes = inner.palindromes;
+    let forward = inner.forward * s + entering - leaving * power;
+    let back = divided(inner.back + shown * power, s);
     Inner {
-        palindromes: e,
-        forward: u,
-        back: v,
+        palindromes,
+        forward,
+        back,
     }
 }
 
 // The codes of all windows of a list of ranks, from the start of a lent list.
-pub fn fill(d: &[u8], k: usize, s: u64, m: Mirror, powers: &[u64; 64], e: u64, out: &mut [u64])
-    requires { ⌜ Input s m k (now powers) (now d) ⌝ }
+pub fn fill(
+    ranks: &[u8],
+    k: usize,
+    s: u64,
+    m: Mirror,
+    powers: &[u64; 64],
+    palindromes: u64,
+    out: &mut [u64],
+)
+    requires { ⌜ Input s m k (now powers) (now ranks) ⌝ }
     requires { ⌜ 1 ≤ k ⌝ }
-    requires { ⌜ e ≡ palindromes s m k ⌝ }
-    requires { ⌜ length (now d) + 1 - k ≤ length (now out) ⌝ }
-    ensures { λ _. ⌜ Fills (windowCodes s m k (now (d .entry))) (now (out .entry)) (now (out .exit)) ⌝ }
+    requires { ⌜ CountsPalindromes s m k palindromes ⌝ }
+    requires { ⌜ length (now ranks) + 1 - k ≤ length (now out) ⌝ }
+    ensures { λ _. ⌜ Fills (windowCodes s m k (now (ranks .entry))) (now (out .entry)) (now (out .exit)) ⌝ }
 {
-    if d.len() < k {
+    if ranks.len() < k {
         return;
     }
-    let mut t = first_window(d, k, s, m, powers, e);
-    let first = window_code(d, 0, k, s, m, powers, t);
+    let mut inner = first_window(ranks, k, s, m, powers, palindromes);
+    let first = window_code(ranks, 0, k, s, m, powers, inner);
     out[0] = first;
     let mut i: usize = 0;
-    while i + k < d.len() {
-        t = next_window(d, i, k, s, m, powers, t);
+    while i + k < ranks.len() {
+        inner = next_window(ranks, i, k, s, m, powers, inner);
         i += 1;
-        let c = window_code(d, i, k, s, m, powers, t);
+        let c = window_code(ranks, i, k, s, m, powers, inner);
         out[i] = c;
     }
 }

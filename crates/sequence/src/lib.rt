@@ -10,6 +10,7 @@ mod two_bit;
 use kernels::Coder;
 use kernels::Kernel;
 use settings::Checked;
+use settings::Filling;
 use settings::Refusal;
 use settings::Settings;
 ghost use mathlib.Core.Path.{_≡_};
@@ -20,12 +21,6 @@ ghost use Rattle.laws.specs.Text.{bytes};
 ghost use Rattle.settings.specs.Settings.{mirrorOf, settingsGround, settingsOf};
 ghost use Rattle.sequence.specs.Sequences.{FillsCodes};
 ghost use Rattle.sequence.specs.Needs.{Takes};
-
-// How many places of the list were filled, or the refusal.
-pub enum Filled {
-    Count(usize),
-    Refused(Refusal),
-}
 
 // How many windows of k bytes a sequence of n bytes has.
 pub fn window_count(n: usize, k: usize) -> usize
@@ -44,18 +39,18 @@ fn fill_checked(
     kernel: Kernel,
     sequence: &[u8],
     list: &mut [u64],
-) -> Filled
+) -> Filling
     requires { ⌜ settingsGround (now letters) k mirror ≡ none ⌝ }
     requires { ⌜ st ≡ settingsOf (now letters) k mirror ⌝ }
     requires { ⌜ Takes kernel (length (now letters)) (mirrorOf mirror) ⌝ }
     ensures { λ r. ⌜ FillsCodes (now (letters .entry)) k mirror (now (sequence .entry)) (now (list .entry)) r (now (list .exit)) ⌝ }
 {
     if sequence.len() > 16777216 {
-        return Filled::Refused(Refusal::TooLarge);
+        return Filling::Unfilled(Refusal::TooLarge);
     }
     let needed = window_count(sequence.len(), k);
     if list.len() < needed {
-        return Filled::Refused(Refusal::ShortBuffer(needed));
+        return Filling::Unfilled(Refusal::ShortBuffer(needed));
     }
     let table = settings::rank_table(letters);
     let powers = kernels::power_table(st.s, k);
@@ -68,7 +63,7 @@ fn fill_checked(
         palindromes: 2 * st.classes - st.words,
     };
     batches::fill_sequence(sequence, &table, c, &powers, list);
-    Filled::Count(needed)
+    Filling::Filled(needed)
 }
 
 // Both paths, under settings as they are.
@@ -79,25 +74,25 @@ fn fill_list(
     kernel: Kernel,
     sequence: &[u8],
     list: &mut [u64],
-) -> Filled
+) -> Filling
     requires { ⌜ Takes kernel (length (now letters)) (mirrorOf mirror) ⌝ }
     ensures { λ r. ⌜ FillsCodes (now (letters .entry)) k mirror (now (sequence .entry)) (now (list .entry)) r (now (list .exit)) ⌝ }
 {
     match settings::check(letters, k, mirror) {
         Checked::Good(st) => fill_checked(letters, k, mirror, st, kernel, sequence, list),
-        Checked::Bad(f) => Filled::Refused(f),
+        Checked::Bad(f) => Filling::Unfilled(f),
     }
 }
 
 // The general path: every alphabet and both mirrors.
-pub fn codes(letters: &[u8], k: usize, mirror: u64, sequence: &[u8], list: &mut [u64]) -> Filled
+pub fn codes(letters: &[u8], k: usize, mirror: u64, sequence: &[u8], list: &mut [u64]) -> Filling
     ensures { λ r. ⌜ FillsCodes (now (letters .entry)) k mirror (now (sequence .entry)) (now (list .entry)) r (now (list .exit)) ⌝ }
 {
     fill_list(letters, k, mirror, Kernel::AnyAlphabet, sequence, list)
 }
 
 // The two-bit path: ACGT under complement.
-pub fn codes_two_bit(k: usize, sequence: &[u8], list: &mut [u64]) -> Filled
+pub fn codes_two_bit(k: usize, sequence: &[u8], list: &mut [u64]) -> Filling
     ensures { λ r. ⌜ FillsCodes (bytes "ACGT") k 1 (now (sequence .entry)) (now (list .entry)) r (now (list .exit)) ⌝ }
 {
     fill_list(b"ACGT", k, 1, Kernel::TwoBit, sequence, list)

@@ -18,9 +18,9 @@ pub fn higher(a: u64, b: u64) -> u64
 }
 
 // The rank at place i.
-pub fn rank_at(d: &[u8], i: usize) -> u64
-    requires { ⌜ i < length (now d) ⌝ }
-    ensures { λ r. ⌜ r ≡ getD (now (d .entry)) i 0 ⌝ }
+pub fn rank_at(ranks: &[u8], i: usize) -> u64
+    requires { ⌜ i < length (now ranks) ⌝ }
+    ensures { λ r. ⌜ r ≡ getD (now (ranks .entry)) i 0 ⌝ }
 {
-    d[i] as u64
+    ranks[i] as u64
 }

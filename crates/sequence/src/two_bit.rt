@@ -59,23 +59,34 @@ fn differing_letters(a: u64, b: u64) -> u64
     (65 - z) / 2
 }
 
-// The code of the window at j where a pair of two letters differs, a and b being its lower and its higher strand.
-fn pair_code(d: &[u8], j: usize, k: u64, e: u64, x: u64, y: u64, a: u64, b: u64, q: u64) -> u64
-    requires { ⌜ TwoBitWindow k e (now d) j x y ⌝ }
-    requires { ⌜ Ordered x y a b q ⌝ }
-    requires { ⌜ k + 2 ≤ 2 * q ⌝ }
-    ensures { λ r. ⌜ r ≡ code 4 Complement k (part j k (now (d .entry))) ⌝ }
+// The code of the window at j where a pair of two letters differs. a and b are its lower and its higher strand, and their `differing` lowest letters
+// reach up to the highest one that differs; as many letters as are above it, `equal`, agree at either end.
+fn pair_code(
+    ranks: &[u8],
+    j: usize,
+    k: u64,
+    palindromes: u64,
+    x: u64,
+    y: u64,
+    a: u64,
+    b: u64,
+    differing: u64,
+) -> u64
+    requires { ⌜ TwoBitWindow k palindromes (now ranks) j x y ⌝ }
+    requires { ⌜ Ordered x y a b differing ⌝ }
+    requires { ⌜ k + 2 ≤ 2 * differing ⌝ }
+    ensures { λ r. ⌜ r ≡ code 4 Complement k (part j k (now (ranks .entry))) ⌝ }
 {
-    let p = k - q;
-    let l = without_low(a, q - 1);
-    let r = without_low(b, q - 1);
-    let h = pair_rank(4, l % 4, r % 4);
-    let top = power_of_four(q - 1);
-    let low = power_of_four(q - 2);
-    let inner = letters_between(a / 4, p, q - 2);
-    let one = power_of_four(p);
-    let rest = low_letters(a, p);
-    (top + e) / 2 + h * low + inner + (one - 1 - rest)
+    let equal = k - differing;
+    let l = without_low(a, differing - 1);
+    let r = without_low(b, differing - 1);
+    let pair = pair_rank(4, l % 4, r % 4);
+    let top = power_of_four(differing - 1);
+    let low = power_of_four(differing - 2);
+    let inner = letters_between(a / 4, equal, differing - 2);
+    let one = power_of_four(equal);
+    let rest = low_letters(a, equal);
+    (top + palindromes) / 2 + pair * low + inner + (one - 1 - rest)
 }
 
 // The digit of a middle letter l, 3 - l, less the odd-k subtraction, which is 2 at this place. In a canonical word l is 0 or 1.
@@ -86,94 +97,101 @@ fn middle_digit(l: u64) -> u64
 }
 
 // The code of the window at j where no pair of two letters differs.
-fn middle_code(d: &[u8], j: usize, k: u64, e: u64, x: u64, y: u64, a: u64, b: u64, q: u64) -> u64
-    requires { ⌜ TwoBitWindow k e (now d) j x y ⌝ }
-    requires { ⌜ Ordered x y a b q ⌝ }
-    requires { ⌜ 2 * q < k + 2 ⌝ }
-    ensures { λ r. ⌜ r ≡ code 4 Complement k (part j k (now (d .entry))) ⌝ }
+fn middle_code(
+    ranks: &[u8],
+    j: usize,
+    k: u64,
+    palindromes: u64,
+    x: u64,
+    y: u64,
+    a: u64,
+    b: u64,
+    differing: u64,
+) -> u64
+    requires { ⌜ TwoBitWindow k palindromes (now ranks) j x y ⌝ }
+    requires { ⌜ Ordered x y a b differing ⌝ }
+    requires { ⌜ 2 * differing < k + 2 ⌝ }
+    ensures { λ r. ⌜ r ≡ code 4 Complement k (part j k (now (ranks .entry))) ⌝ }
 {
-    let p = k / 2;
-    let one = power_of_four(p);
-    let rest = low_letters(a, p);
+    let half = k / 2;
+    let one = power_of_four(half);
+    let rest = low_letters(a, half);
     if k % 2 == 0 {
         return one - 1 - rest;
     }
-    let l = without_low(a, p) % 4;
-    let m = middle_digit(l);
-    m * one + (one - 1 - rest)
+    let l = without_low(a, half) % 4;
+    let middle = middle_digit(l);
+    middle * one + (one - 1 - rest)
 }
 
 // The code of the window at j, from its plain rank and its mirror's.
-fn window_code(d: &[u8], j: usize, k: u64, e: u64, x: u64, y: u64) -> u64
-    requires { ⌜ TwoBitWindow k e (now d) j x y ⌝ }
-    ensures { λ r. ⌜ r ≡ code 4 Complement k (part j k (now (d .entry))) ⌝ }
+fn window_code(ranks: &[u8], j: usize, k: u64, palindromes: u64, x: u64, y: u64) -> u64
+    requires { ⌜ TwoBitWindow k palindromes (now ranks) j x y ⌝ }
+    ensures { λ r. ⌜ r ≡ code 4 Complement k (part j k (now (ranks .entry))) ⌝ }
 {
     let a = lower(x, y);
     let b = higher(x, y);
-    let q = differing_letters(a, b);
-    if k + 2 <= 2 * q {
-        return pair_code(d, j, k, e, x, y, a, b, q);
+    let differing = differing_letters(a, b);
+    if k + 2 <= 2 * differing {
+        return pair_code(ranks, j, k, palindromes, x, y, a, b, differing);
     }
-    middle_code(d, j, k, e, x, y, a, b, q)
+    middle_code(ranks, j, k, palindromes, x, y, a, b, differing)
 }
 
 // The plain rank of the window at 0 and its mirror's, letter by letter.
-fn first_strands(d: &[u8], k: u64, e: u64) -> Strands
-    requires { ⌜ TwoBitInput k e (now d) ⌝ }
-    requires { ⌜ k ≤ length (now d) ⌝ }
-    ensures { λ r. ⌜ TwoBitWindow k e (now (d .entry)) 0 (r .forward) (r .back) ⌝ }
+fn first_strands(ranks: &[u8], k: u64, palindromes: u64) -> Strands
+    requires { ⌜ TwoBitInput k palindromes (now ranks) ⌝ }
+    requires { ⌜ k ≤ length (now ranks) ⌝ }
+    ensures { λ r. ⌜ TwoBitWindow k palindromes (now (ranks .entry)) 0 (r .forward) (r .back) ⌝ }
 {
     let n = k as usize;
-    let mut x: u64 = 0;
-    let mut y: u64 = 0;
+    let mut forward: u64 = 0;
+    let mut back: u64 = 0;
     let mut i: usize = 0;
     while i < n {
-        let c = rank_at(d, i);
-        x = x * 4 + c;
-        y = y + (3 - c) * power_of_four(i as u64);
+        let rank = rank_at(ranks, i);
+        forward = forward * 4 + rank;
+        back = back + (3 - rank) * power_of_four(i as u64);
         i += 1;
     }
-    Strands {
-        forward: x,
-        back: y,
-    }
+    Strands { forward, back }
 }
 
 // From the window at j to the next one.
-fn next_strands(d: &[u8], j: usize, k: u64, e: u64, t: Strands) -> Strands
-    requires { ⌜ TwoBitWindow k e (now d) j (t .forward) (t .back) ⌝ }
-    requires { ⌜ j + k < length (now d) ⌝ }
-    ensures { λ r. ⌜ TwoBitWindow k e (now (d .entry)) (j + 1) (r .forward) (r .back) ⌝ }
+fn next_strands(ranks: &[u8], j: usize, k: u64, palindromes: u64, strands: Strands) -> Strands
+    requires { ⌜ TwoBitWindow k palindromes (now ranks) j (strands .forward) (strands .back) ⌝ }
+    requires { ⌜ j + k < length (now ranks) ⌝ }
+    ensures { λ r. ⌜ TwoBitWindow k palindromes (now (ranks .entry)) (j + 1) (r .forward) (r .back) ⌝ }
 {
     let n = k as usize;
-    let c = rank_at(d, j + n);
-    let low = low_letters(t.forward, k - 1);
+    let rank = rank_at(ranks, j + n);
+    let low = low_letters(strands.forward, k - 1);
     let top = power_of_four(k - 1);
-    let y = t.back / 4 + (3 - c) * top;
+    let back = strands.back / 4 + (3 - rank) * top;
     Strands {
-        forward: low * 4 + c,
-        back: y,
+        forward: low * 4 + rank,
+        back,
     }
 }
 
 // The codes of all windows of a list of ranks below 4, under complement, from the start of a lent list.
-pub fn fill(d: &[u8], k: u64, e: u64, out: &mut [u64])
-    requires { ⌜ TwoBitInput k e (now d) ⌝ }
-    requires { ⌜ length (now d) + 1 - k ≤ length (now out) ⌝ }
-    ensures { λ _. ⌜ Fills (windowCodes 4 Complement k (now (d .entry))) (now (out .entry)) (now (out .exit)) ⌝ }
+pub fn fill(ranks: &[u8], k: u64, palindromes: u64, out: &mut [u64])
+    requires { ⌜ TwoBitInput k palindromes (now ranks) ⌝ }
+    requires { ⌜ length (now ranks) + 1 - k ≤ length (now out) ⌝ }
+    ensures { λ _. ⌜ Fills (windowCodes 4 Complement k (now (ranks .entry))) (now (out .entry)) (now (out .exit)) ⌝ }
 {
     let n = k as usize;
-    if d.len() < n {
+    if ranks.len() < n {
         return;
     }
-    let mut t = first_strands(d, k, e);
-    let first = window_code(d, 0, k, e, t.forward, t.back);
+    let mut strands = first_strands(ranks, k, palindromes);
+    let first = window_code(ranks, 0, k, palindromes, strands.forward, strands.back);
     out[0] = first;
     let mut i: usize = 0;
-    while i + n < d.len() {
-        t = next_strands(d, i, k, e, t);
+    while i + n < ranks.len() {
+        strands = next_strands(ranks, i, k, palindromes, strands);
         i += 1;
-        let c = window_code(d, i, k, e, t.forward, t.back);
+        let c = window_code(ranks, i, k, palindromes, strands.forward, strands.back);
         out[i] = c;
     }
 }

@@ -6,6 +6,8 @@ use mathlib.Core.Option.{Option, none, some}
 use mathlib.Core.List.{List, _++_}
 use lib.ListN.{length, drop}
 use lib.Dec.{ltb}
+use Rattle.settings.specs.declared.Filling.{Filling}
+use Rattle.settings.specs.declared.Filling.the-variants.{Filled, Unfilled}
 use Rattle.settings.specs.declared.Refusal.{Refusal}
 use Rattle.settings.specs.declared.Refusal.the-variants.{BadLetters, BadMirror, OddComplement, BadK, WrongLength, TooLarge, ShortBuffer, NoSuchCode, ForeignByte, StrayByte, EarlyLetter, CountsFull, NoSurveyLine, LongInput}
 
@@ -68,6 +70,11 @@ unlessRefused (some g) new old = old
 -- A lent buffer after a call that overwrites it from its start: the new places and then the old ones; all as before where the call is refused.
 abbrev pub overwritten : Option Ground → (places old : List ℕ) → List ℕ
 overwritten g places old = unlessRefused g (places ++ drop (length places) old) old
+
+-- Its answer as this paper's value: how many places it set, or the refusal's number and P.
+abbrev pub ofFilling : Filling → Outcome ℕ
+ofFilling (Filled n) = given n
+ofFilling (Unfilled f) = refused (groundOf f)
 
 -- "A call that overwrites a lent buffer from its start .. answers how many places it set, and changes no later one."
 pub record Overwrites (g : Option Ground) (count : ℕ) (places old : List ℕ) (answer : Outcome ℕ) (new : List ℕ) : Type 0 where

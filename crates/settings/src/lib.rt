@@ -31,6 +31,12 @@ pub enum Refusal {
     LongInput,
 }
 
+// The answer of a call that overwrites a lent buffer from its start: how many places it set, or the refusal, which leaves the buffer unchanged.
+pub enum Filling {
+    Filled(usize),
+    Unfilled(Refusal),
+}
+
 // The number of a refusal.
 pub fn number_of(f: Refusal) -> u64
     ensures { λ r. ⌜ r ≡ groundOf f .0 ⌝ }

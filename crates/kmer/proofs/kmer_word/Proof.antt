@@ -1,10 +1,10 @@
 -- `kmer::kmer_word` meets its contract: what `encoding::word_of` answered, as one number without P, and the buffer as that call left it.
-use mathlib.Core.Path.{refl, ap}
-use Rattle.encoding.specs.Answers.{ofFilling}
+use mathlib.Core.Path.{sym, ap, _∙_}
+use Rattle.settings.specs.declared.Filling.{Filling}
 use Rattle.kmer.specs.Returned.{returned}
 use Rattle.kmer.proofs.Refusals.{returns-answer}
 use borrow.Author.Needs.{needs}
-use Rattle.settings.specs.Grounds.{given, refused}
+use Rattle.settings.specs.Grounds.{ofFilling}
 use Rattle.kmer.proofs.kmer_word.Statement.{statement}
 use Rattle.kmer.proofs.kmer_word.Tie as tie
 
@@ -27,7 +27,7 @@ returns : tie.Need-returns
 returns c =
     let n = c .before in
     let made = n .before .before .before .before in
-    returns-answer (made .word-of .ensures) returned (given _) (ap ofFilling (n .n .given .1)) _ refl
+    returns-answer (made .word-of .ensures) returned _ (sym (ap (λ (a : Filling). returned (ofFilling a)) (n .n .given .1)))
 
 same-length-2 : tie.Need-same-length-2
 same-length-2 c = search needs
@@ -36,7 +36,7 @@ returns-2 : tie.Need-returns-2
 returns-2 c =
     let f = c .before .before in
     let made = f .before .before .before .before in
-    returns-answer (made .word-of .ensures) returned (refused _) (ap ofFilling (f .f .given .1)) _ (c .refused .ensures)
+    returns-answer (made .word-of .ensures) returned _ (c .refused .ensures ∙ sym (ap (λ (a : Filling). returned (ofFilling a)) (f .f .given .1)))
 
 pub kmer-word-spec : {M : Type 1} → statement M
 kmer-word-spec =

@@ -9,10 +9,10 @@ use Rattle.sequence.proofs.general.fill.Statement.{statement}
 use Rattle.sequence.proofs.general.fill.Tie as tie
 
 abbrev Inv-loop : tie.InvT-loop
-Inv-loop d k s m powers e out₀ t₀ first i₀ out t i = Window s m k powers d i t × Filling s m k d out₀ out i
+Inv-loop ranks k s m powers palindromes out₀ inner₀ first i₀ out inner i = Window s m k powers ranks i inner × Filling s m k ranks out₀ out i
 
 abbrev μ-loop : tie.MeasureT-loop
-μ-loop d k s m powers e out₀ t₀ first i₀ out t i = length d - i
+μ-loop ranks k s m powers palindromes out₀ inner₀ first i₀ out inner i = length ranks - i
 
 returns : tie.Need-returns Inv-loop μ-loop
 returns c = fills-none _ _ _ _ _ (c .if1 .taken)

@@ -7,10 +7,10 @@ use Rattle.sequence.proofs.general.first_window.Statement.{statement}
 use Rattle.sequence.proofs.general.first_window.Tie as tie
 
 abbrev Inv-loop : tie.InvT-loop
-Inv-loop d k s m powers e n u₀ v₀ i₀ u v i = Opened s m d n u v i
+Inv-loop ranks k s m powers palindromes n forward₀ back₀ i₀ forward back i = Opened s m ranks n forward back i
 
 abbrev μ-loop : tie.MeasureT-loop
-μ-loop d k s m powers e n u₀ v₀ i₀ u v i = n - i
+μ-loop ranks k s m powers palindromes n forward₀ back₀ i₀ forward back i = n - i
 
 inner-length-requires : tie.Need-inner-length-requires Inv-loop μ-loop
 inner-length-requires c κs = search needs
@@ -24,8 +24,8 @@ add-rank-at c = omega arith
 rank-at-requires : tie.Need-rank-at-requires Inv-loop μ-loop
 rank-at-requires c κs = omega (arith, c .before .before .inner-length .ensures, c .before .before .before .before .pre .1 .0)
 
-add-u : tie.Need-add-u Inv-loop μ-loop
-add-u c =
+add-forward : tie.Need-add-forward Inv-loop μ-loop
+add-forward c =
     let start = c .before .before .before .before .before in
     let p = start .pre in
     omega (
@@ -34,8 +34,8 @@ add-u c =
           (c .before .loop-test .taken) (c .rank-at .ensures),
     )
 
-mul-u : tie.Need-mul-u Inv-loop μ-loop
-mul-u c = omega (arith, add-u c)
+mul-forward : tie.Need-mul-forward Inv-loop μ-loop
+mul-forward c = omega (arith, add-forward c)
 
 mirror-rank-requires : tie.Need-mirror-rank-requires Inv-loop μ-loop
 mirror-rank-requires c κs =
@@ -50,8 +50,8 @@ power-at-requires c κs =
     let I = start .pre .0 in
     (I .table, (omega (arith, c .before .before .before .before .inner-length .ensures), k-lt I))
 
-add-v : tie.Need-add-v Inv-loop μ-loop
-add-v c =
+add-back : tie.Need-add-back Inv-loop μ-loop
+add-back c =
     let start = c .before .before .before .before .before .before .before in
     let p = start .pre in
     omega (
@@ -61,8 +61,8 @@ add-v c =
           (c .before .mirror-rank .ensures) (c .power-at .ensures),
     )
 
-mul-v : tie.Need-mul-v Inv-loop μ-loop
-mul-v c = omega (arith, add-v c)
+mul-back : tie.Need-mul-back Inv-loop μ-loop
+mul-back c = omega (arith, add-back c)
 
 add-i : tie.Need-add-i Inv-loop μ-loop
 add-i c = omega (arith, c .before .before .before .before .before .inner-length .ok)
@@ -93,12 +93,12 @@ first-window-spec =
     loop-holds
     add-rank-at
     rank-at-requires
-    mul-u
-    add-u
+    mul-forward
+    add-forward
     mirror-rank-requires
     power-at-requires
-    mul-v
-    add-v
+    mul-back
+    add-back
     add-i
     loop-less
     loop-again

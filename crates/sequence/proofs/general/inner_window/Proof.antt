@@ -24,8 +24,8 @@ add-rank-at c = search needs
 rank-at-requires : tie.Need-rank-at-requires
 rank-at-requires c κs = search needs
 
-mul-f : tie.Need-mul-f
-mul-f c =
+mul-first : tie.Need-mul-first
+mul-first c =
     let start = c .before .before .before .before .before in
     let W = start .pre .0 in
     let four = c .before .before .if1 .left in
@@ -43,8 +43,8 @@ sub-mirror-rank-at c = search needs
 mirror-rank-at-requires : tie.Need-mirror-rank-at-requires
 mirror-rank-at-requires c κs = search needs
 
-mul-g : tie.Need-mul-g
-mul-g c =
+mul-last : tie.Need-mul-last
+mul-last c =
     let start = c .before .before .before .before .before .before in
     let at-power-at = c .before .before in
     let W = start .pre .0 in
@@ -94,11 +94,11 @@ inner-window-spec =
     power-at-requires
     add-rank-at
     rank-at-requires
-    mul-f
+    mul-first
     add-mirror-rank-at
     sub-mirror-rank-at
     mirror-rank-at-requires
-    mul-g
+    mul-last
     sub-divided
     divided-requires-2
     sub-divided-2

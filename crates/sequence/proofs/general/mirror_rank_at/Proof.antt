@@ -10,7 +10,7 @@ rank-at-requires : tie.Need-rank-at-requires
 rank-at-requires c κs = search needs
 
 mirror-rank-requires : tie.Need-mirror-rank-requires
-mirror-rank-requires c κs = let a = c .before .before in rw (c .rank-at .ensures) (ranks-at (a .args .s) (now (a .args .d)) (a .args .i) (a .pre .1)
+mirror-rank-requires c κs = let a = c .before .before in rw (c .rank-at .ensures) (ranks-at (a .args .s) (now (a .args .ranks)) (a .args .i) (a .pre .1)
     (a .pre .0))
 
 returns : tie.Need-returns

@@ -33,8 +33,8 @@ mirror-rank-requires c κs =
     let p = start .pre in
     entering-lt (p .0) (p .1 .1) (c .before .before .before .inner-length .ensures) (c .rank-at2 .ensures) (p .1 .0)
 
-add-u : tie.Need-add-u
-add-u c =
+add-forward : tie.Need-add-forward
+add-forward c =
     let start = c .before .before .before .before .before .before .before in
     let p = start .pre in
     omega (
@@ -44,19 +44,19 @@ add-u c =
           (c .before .mirror-rank .ensures) .0,
     )
 
-mul-u : tie.Need-mul-u
-mul-u c = omega (arith, add-u c)
+mul-forward : tie.Need-mul-forward
+mul-forward c = omega (arith, add-forward c)
 
-sub-u : tie.Need-sub-u
-sub-u c =
+sub-forward : tie.Need-sub-forward
+sub-forward c =
     let start = c .before .before .before .before .before .before .before in
     let p = start .pre in
     ahead-fits (p .0) (p .1 .0) (p .1 .1) (c .before .before .before .before .before .inner-length .ensures)
     (c .before .before .before .before .power-at .ensures) (c .before .before .before .rank-at .ensures) (c .before .before .rank-at2 .ensures)
     (c .before .mirror-rank .ensures) .1
 
-mul-u-2 : tie.Need-mul-u-2
-mul-u-2 c = omega (arith, add-u c, sub-u c)
+mul-forward-2 : tie.Need-mul-forward-2
+mul-forward-2 c = omega (arith, add-forward c, sub-forward c)
 
 mul-divided : tie.Need-mul-divided
 mul-divided c =
@@ -106,10 +106,10 @@ next-window-spec =
     add-rank-at-3
     rank-at-requires-2
     mirror-rank-requires
-    mul-u
-    add-u
-    mul-u-2
-    sub-u
+    mul-forward
+    add-forward
+    mul-forward-2
+    sub-forward
     mul-divided
     add-divided
     divided-requires

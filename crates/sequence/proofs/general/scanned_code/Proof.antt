@@ -7,10 +7,10 @@ use Rattle.sequence.proofs.general.scanned_code.Statement.{statement}
 use Rattle.sequence.proofs.general.scanned_code.Tie as tie
 
 abbrev Inv-loop : tie.InvT-loop
-Inv-loop d j k s m powers t₀ a₀ n₀ closing₀ scale₀ t a n closing scale = Scan s m k powers d j t a n closing scale
+Inv-loop ranks j k s m powers inner₀ a₀ n₀ closing₀ scale₀ inner a n closing scale = Scan s m k powers ranks j inner a n closing scale
 
 abbrev μ-loop : tie.MeasureT-loop
-μ-loop d j k s m powers t₀ a₀ n₀ closing₀ scale₀ t a n closing scale = n
+μ-loop ranks j k s m powers inner₀ a₀ n₀ closing₀ scale₀ inner a n closing scale = n
 
 loop-holds : tie.Need-loop-holds Inv-loop μ-loop
 loop-holds c = scan-start (c .before .pre)

@@ -11,10 +11,11 @@ use Rattle.sequence.proofs.two_bit.fill.Statement.{statement}
 use Rattle.sequence.proofs.two_bit.fill.Tie as tie
 
 abbrev Inv-loop : tie.InvT-loop
-Inv-loop d k e out₀ n t₀ first i₀ out t i = TwoBitWindow k e d i (t .forward) (t .back) × Filling 4 Complement k d out₀ out i × (n ≡ k)
+Inv-loop ranks k palindromes out₀ n strands₀ first i₀ out strands i =
+    TwoBitWindow k palindromes ranks i (strands .forward) (strands .back) × Filling 4 Complement k ranks out₀ out i × (n ≡ k)
 
 abbrev μ-loop : tie.MeasureT-loop
-μ-loop d k e out₀ n t₀ first i₀ out t i = length d - i
+μ-loop ranks k palindromes out₀ n strands₀ first i₀ out strands i = length ranks - i
 
 returns : tie.Need-returns Inv-loop μ-loop
 returns c = fills-none _ _ _ _ _ (c .if1 .taken)

@@ -7,10 +7,10 @@ use Rattle.sequence.proofs.two_bit.first_strands.Statement.{statement}
 use Rattle.sequence.proofs.two_bit.first_strands.Tie as tie
 
 abbrev Inv-loop : tie.InvT-loop
-Inv-loop d k e n x₀ y₀ i₀ x y i = Opened k d x y i × (n ≡ k)
+Inv-loop ranks k palindromes n forward₀ back₀ i₀ forward back i = Opened k ranks forward back i × (n ≡ k)
 
 abbrev μ-loop : tie.MeasureT-loop
-μ-loop d k e n x₀ y₀ i₀ x y i = n - i
+μ-loop ranks k palindromes n forward₀ back₀ i₀ forward back i = n - i
 
 loop-holds : tie.Need-loop-holds Inv-loop μ-loop
 loop-holds c = (open-none _ _, refl)
@@ -18,17 +18,17 @@ loop-holds c = (open-none _ _, refl)
 rank-at-requires : tie.Need-rank-at-requires Inv-loop μ-loop
 rank-at-requires c κs = omega (arith, c .before .before .before .pre .1)
 
-add-x : tie.Need-add-x Inv-loop μ-loop
-add-x c =
+add-forward : tie.Need-add-forward Inv-loop μ-loop
+add-forward c =
     let start = c .before .before .before .before in
     let p = start .pre in
     omega (arith, open-ahead (p .0) (p .1) (c .before .before .loop .inv .0) (c .before .loop-test .taken) (c .rank-at .ensures))
 
-mul-x : tie.Need-mul-x Inv-loop μ-loop
-mul-x c = omega (arith, add-x c)
+mul-forward : tie.Need-mul-forward Inv-loop μ-loop
+mul-forward c = omega (arith, add-forward c)
 
-sub-y : tie.Need-sub-y Inv-loop μ-loop
-sub-y c =
+sub-back : tie.Need-sub-back Inv-loop μ-loop
+sub-back c =
     let start = c .before .before .before .before in
     let p = start .pre in
     omega (arith, open-lt (p .0) (p .1) (c .before .before .loop .inv .0) (c .before .loop-test .taken) (c .rank-at .ensures))
@@ -36,8 +36,8 @@ sub-y c =
 power-of-four-requires : tie.Need-power-of-four-requires Inv-loop μ-loop
 power-of-four-requires c κs = omega (arith, c .before .before .before .before .pre .0 .small)
 
-add-y : tie.Need-add-y Inv-loop μ-loop
-add-y c =
+add-back : tie.Need-add-back Inv-loop μ-loop
+add-back c =
     let start = c .before .before .before .before .before in
     let p = start .pre in
     omega (
@@ -46,8 +46,8 @@ add-y c =
           (c .power-of-four .ensures),
     )
 
-mul-y : tie.Need-mul-y Inv-loop μ-loop
-mul-y c = omega (arith, add-y c)
+mul-back : tie.Need-mul-back Inv-loop μ-loop
+mul-back c = omega (arith, add-back c)
 
 add-i : tie.Need-add-i Inv-loop μ-loop
 add-i c = omega (arith, c .before .before .before .before .before .pre .0 .small)
@@ -76,12 +76,12 @@ first-strands-spec =
     μ-loop
     loop-holds
     rank-at-requires
-    mul-x
-    add-x
-    sub-y
+    mul-forward
+    add-forward
+    sub-back
     power-of-four-requires
-    mul-y
-    add-y
+    mul-back
+    add-back
     add-i
     loop-less
     loop-again

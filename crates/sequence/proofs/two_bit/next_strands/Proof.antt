@@ -23,11 +23,11 @@ sub-power-of-four c = search needs
 power-of-four-requires : tie.Need-power-of-four-requires
 power-of-four-requires c κs = search needs
 
-sub-y : tie.Need-sub-y
-sub-y c = let p = c .before .before .before .before .before .pre in omega (arith, next-lt (p .0) (p .1) (c .before .before .before .rank-at .ensures))
+sub-back : tie.Need-sub-back
+sub-back c = let p = c .before .before .before .before .before .pre in omega (arith, next-lt (p .0) (p .1) (c .before .before .before .rank-at .ensures))
 
-add-y : tie.Need-add-y
-add-y c =
+add-back : tie.Need-add-back
+add-back c =
     let start = c .before .before .before .before .before in
     let p = start .pre in
     omega (
@@ -36,8 +36,8 @@ add-y c =
           (c .before .power-of-four .ensures),
     )
 
-mul-y : tie.Need-mul-y
-mul-y c = omega (arith, add-y c)
+mul-back : tie.Need-mul-back
+mul-back c = omega (arith, add-back c)
 
 add-t14 : tie.Need-add-t14
 add-t14 c =
@@ -68,9 +68,9 @@ next-strands-spec =
     low-letters-requires
     sub-power-of-four
     power-of-four-requires
-    sub-y
-    mul-y
-    add-y
+    sub-back
+    mul-back
+    add-back
     mul-t12
     add-t14
     returns)

@@ -18,8 +18,8 @@ returns c =
     (c .before .power-of-four3 .ensures)
     (c .low-letters .ensures)
 
-sub-p : tie.Need-sub-p
-sub-p c = let p = c .before .pre in pair-in (p .0) (p .1 .0) (p .1 .1)
+sub-equal : tie.Need-sub-equal
+sub-equal c = let p = c .before .pre in pair-in (p .0) (p .1 .0) (p .1 .1)
 
 sub-without-low : tie.Need-sub-without-low
 sub-without-low c = search needs
@@ -104,7 +104,7 @@ pub pair-code-spec : {M : Type 1} → statement M
 pair-code-spec =
     tie.close
     (tie.spec
-    sub-p
+    sub-equal
     sub-without-low
     without-low-requires
     sub-without-low-2
