@@ -8,8 +8,8 @@ use lib.Dec.{ltb}
 use Rattle.settings.specs.Grounds.{Ground, Outcome, given, refused, groundOf, ground, _orElse_}
 use Rattle.settings.specs.Settings.{settingsGround}
 use Rattle.fasta.specs.declared.Numbers.{Numbers}
-use Rattle.fasta.specs.declared.Scanned.{Scanned}
-use Rattle.fasta.specs.declared.Scanned.the-variants.{Taken, Refused}
+use Rattle.fasta.specs.declared.Answer.{Answer}
+use Rattle.fasta.specs.declared.Answer.the-variants.{Taken, Refused}
 use Rattle.fasta.specs.File.{fileFault}
 
 -- Ground 6: "sequence file .. above 16,777,216 bytes"
@@ -20,7 +20,7 @@ tooLong file = ltb 16777216 (length file)
 unfoldable pub scanGround : List ℕ → ℕ → ℕ → List ℕ → Option Ground
 scanGround letters k mirror file = settingsGround letters k mirror orElse ground 6 (tooLong file) orElse fileFault file
 
--- How a scan's answer is read.
-abbrev pub ofScanned : Scanned → Outcome Numbers
-ofScanned (Taken n) = given n
-ofScanned (Refused f) = refused (groundOf f)
+-- The answer of a scan or of an add as this paper's values: the file's numbers, or the refusal's number and P.
+abbrev pub ofAnswer : Answer → Outcome Numbers
+ofAnswer (Taken n) = given n
+ofAnswer (Refused f) = refused (groundOf f)

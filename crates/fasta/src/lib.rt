@@ -14,7 +14,7 @@ ghost use Rattle.settings.specs.Grounds.{outcome};
 ghost use Rattle.settings.specs.Settings.{rankIn};
 ghost use Rattle.settings.specs.RankTables.{asRank, rankByTable};
 ghost use Rattle.fasta.specs.File.{lfNext, lineItem, item, next, fileFault, fileNumbers};
-ghost use Rattle.fasta.specs.Scan.{scanGround, ofScanned};
+ghost use Rattle.fasta.specs.Scan.{scanGround, ofAnswer};
 ghost use Rattle.fasta.specs.Needs.{withLetter, took, Small};
 
 // Where in its line a byte stands.
@@ -41,7 +41,8 @@ pub struct Numbers {
     pub windows: usize,
 }
 
-pub enum Scanned {
+// What a scan of a file answers, or an add: the numbers of a file that was taken, or the refusal.
+pub enum Answer {
     Taken(Numbers),
     Refused(Refusal),
 }
@@ -191,10 +192,10 @@ fn take_item(t: Tally, it: Item, ranks: &[u8; 256], k: usize) -> Step
 }
 
 // One pass over a file that is not too long, for settings that were checked: its numbers, or its first fault.
-pub fn scan_file(file: &[u8], ranks: &[u8; 256], k: usize) -> Scanned
+pub fn scan_file(file: &[u8], ranks: &[u8; 256], k: usize) -> Answer
     requires { ⌜ (length (now file) ≤ 16777216) × (1 ≤ k) ⌝ }
     ensures { λ r.
-        ⌜ ofScanned r ≡ outcome (fileFault (now (file .entry))) (fileNumbers (rankByTable (now (ranks .entry))) k (now (file .entry))) ⌝ }
+        ⌜ ofAnswer r ≡ outcome (fileFault (now (file .entry))) (fileNumbers (rankByTable (now (ranks .entry))) k (now (file .entry))) ⌝ }
 {
     let mut mode = Mode::Start;
     let mut t = Tally {
@@ -209,14 +210,14 @@ pub fn scan_file(file: &[u8], ranks: &[u8; 256], k: usize) -> Scanned
     while i < file.len() {
         let it = item_at(file, i, mode);
         match take_item(t, it, ranks, k) {
-            Step::AtStray => return Scanned::Refused(Refusal::StrayByte(i)),
-            Step::AtEarly => return Scanned::Refused(Refusal::EarlyLetter(i)),
+            Step::AtStray => return Answer::Refused(Refusal::StrayByte(i)),
+            Step::AtEarly => return Answer::Refused(Refusal::EarlyLetter(i)),
             Step::On(u) => t = u,
         }
         mode = next_mode(mode, file[i]);
         i += 1;
     }
-    Scanned::Taken(Numbers {
+    Answer::Taken(Numbers {
         records: t.records,
         letters: t.letters,
         foreign: t.foreign,
@@ -226,17 +227,17 @@ pub fn scan_file(file: &[u8], ranks: &[u8; 256], k: usize) -> Scanned
 }
 
 // A file's five numbers, or the first ground that applies: 1 to 4, then 6, then 10 or 11.
-pub fn scan(file: &[u8], letters: &[u8], k: usize, mirror: u64) -> Scanned
+pub fn scan(file: &[u8], letters: &[u8], k: usize, mirror: u64) -> Answer
     ensures { λ r.
-        ⌜ ofScanned r
+        ⌜ ofAnswer r
         ≡ outcome (scanGround (now (letters .entry)) k mirror (now (file .entry)))
         (fileNumbers (rankIn (now (letters .entry))) k (now (file .entry))) ⌝ }
 {
     match settings::check(letters, k, mirror) {
-        Checked::Bad(f) => Scanned::Refused(f),
+        Checked::Bad(f) => Answer::Refused(f),
         Checked::Good(_) => {
             if file.len() > 16777216 {
-                return Scanned::Refused(Refusal::TooLarge);
+                return Answer::Refused(Refusal::TooLarge);
             }
             let ranks = settings::rank_table(letters);
             scan_file(file, &ranks, k)

@@ -3,8 +3,8 @@
 //   read OFFSET FILE              record, with the offset and length of its header line and of what follows; or none; then the offset after
 //   # ..                          copied, to say what the next cases are about
 // FILE is the rest of the line: \n is LF, \r is CR, \xHH is any byte, and every other byte stands for itself.
+use fasta::Answer;
 use fasta::Found;
-use fasta::Scanned;
 use settings::Refusal;
 ghost use mathlib.Core.Path.{_≡_};
 ghost use Prim.Native.Nat.{_+_, _<_, _≤_};
@@ -145,9 +145,9 @@ fn place_of(f: Refusal) -> usize {
     }
 }
 
-fn put_scanned(r: Scanned) {
+fn put_scanned(r: Answer) {
     match r {
-        Scanned::Taken(n) => {
+        Answer::Taken(n) => {
             io::write_all(1, b"taken");
             put(n.records);
             put(n.letters);
@@ -155,7 +155,7 @@ fn put_scanned(r: Scanned) {
             put(n.edge);
             put(n.windows);
         }
-        Scanned::Refused(f) => {
+        Answer::Refused(f) => {
             io::write_all(1, b"refused");
             put(number_of(f));
             put(place_of(f));

@@ -2,3 +2,4 @@
 pub mod Refusals
 pub mod Adding
 pub mod Listings
+pub mod DemandThree

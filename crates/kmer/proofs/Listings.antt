@@ -9,7 +9,7 @@ use Rattle.table.specs.Table.{clearGround}
 use Rattle.listing.specs.Listing.{listing, listingGround}
 use Rattle.listing.proofs.Lengths.{Small as SmallCounts}
 use Rattle.listing.proofs.ListingAnswers.{listing-fits}
-use Rattle.kmer.proofs.Adding.{clear-small}
+use Rattle.kmer.proofs.Refusals.{clear-small}
 
 -- The P of a refused listing is at most 1,375,731,804, where each count is a 32-bit number.
 pub listing-small : (letters : List ℕ) (k m : ℕ) (table : List ℕ) (room : ℕ) → SmallCounts table → Small 1375731804 (listingGround letters k m table room)

@@ -1,6 +1,7 @@
 -- What the calls that return P rest on: the number of a refusal is small, and so is the P of each call, so that one number holds both; and the
 -- answer and buffer of such a call, from those of the call below it.
 use mathlib.Core.Path.{_≡_, refl, sym, ap, _∙_, subst⁻¹}
+use mathlib.Core.Bool.{Bool}
 use mathlib.Core.Option.{Option, none, some}
 use mathlib.Core.List.{List, [], _∷_}
 use Prim.Native.Nat.{ℕ, suc, _+_, _^_, _<_, _≤_}
@@ -20,6 +21,7 @@ use Rattle.settings.proofs.Places.{Small, test-small, place-small, then-small, 
 use Rattle.encoding.specs.Calls.{hereOr, foreignFrom, wrongLength, mirrorGround}
 use Rattle.sequence.specs.Sequences.{sequenceGround}
 use Rattle.sequence.proofs.Windows.{length-windows}
+use Rattle.table.specs.Table.{classCount, tooMany, clearGround}
 use Rattle.kmer.specs.Returned.{ReturnsPlaces}
 use Rattle.kmer.specs.Needs.{PlaceFits}
 
@@ -89,16 +91,29 @@ mirror-small letters k m word room =
     then-small 62 g7 g9 (place-small 62 7 (tooShort room k) (λ p e. omega (arith, room-small room k p e)))
     (λ _. place-small 62 9 (foreignFrom letters 0 word) (λ p e. omega (arith, foreign-small letters 0 word p e)))))
 
--- ---- the P of a refused call along a sequence is at most 16,777,216
+-- ---- the P of a refused call along a sequence, and of a refused clearing, is at most 16,777,216
+
+-- After the settings' grounds come ground 6 by some test, and ground 7, where what is needed is at most 16,777,216 if the test fails.
+pub sizes-small : (letters : List ℕ) (k m : ℕ) (large : Bool) (room needed : ℕ)
+    → (settingsGround letters k m ≡ none → ground 6 large ≡ none → needed ≤ 16777216)
+    → Small 16777216 (settingsGround letters k m orElse ground 6 large orElse groundAt 7 (tooShort room needed))
+sizes-small letters k m large room needed fits =
+    let g7 = groundAt 7 (tooShort room needed) in
+    then-small 16777216 (settingsGround letters k m) (ground 6 large orElse g7) (settings-small letters k m 16777216)
+    (λ passed. then-small 16777216 (ground 6 large) g7 (test-small 16777216 6 large)
+    (λ few. place-small 16777216 7 (tooShort room needed) (λ p e. omega (arith, room-small room needed p e, fits passed few))))
 
 pub sequence-small : (letters : List ℕ) (k m : ℕ) (sequence : List ℕ) (room : ℕ) → Small 16777216 (sequenceGround letters k m sequence room)
 unfolding sequenceGround
 sequence-small letters k m sequence room =
-    let g6 = ground 6 (ltb 16777216 (length sequence)) in
-    let needed = length (windows k sequence) in
-    then-small 16777216 (settingsGround letters k m) (g6 orElse groundAt 7 (tooShort room needed)) (settings-small letters k m 16777216)
-    (λ passed. then-small 16777216 g6 (groundAt 7 (tooShort room needed)) (test-small 16777216 6 (ltb 16777216 (length sequence)))
-    (λ short.
+    sizes-small letters k m (ltb 16777216 (length sequence)) room (length (windows k sequence))
+    (λ passed short.
     let some-k : 1 ≤ k = omega (arith, good-settings letters k m passed .some-k) in
     let within = ltb-false 16777216 (length sequence) (test-fails 6 (ltb 16777216 (length sequence)) short) in
-    place-small 16777216 7 (tooShort room needed) (λ p e. omega (arith, room-small room needed p e, length-windows k some-k sequence, within))))
+    omega (arith, length-windows k some-k sequence, within))
+
+pub clear-small : (letters : List ℕ) (k m room : ℕ) → Small 16777216 (clearGround letters k m room)
+unfolding clearGround tooMany
+clear-small letters k m room =
+    sizes-small letters k m (ltb 16777216 (classCount letters k m)) room (classCount letters k m)
+    (λ _ few. ltb-false 16777216 (classCount letters k m) (test-fails 6 (ltb 16777216 (classCount letters k m)) few))

@@ -1,24 +1,15 @@
 -- What adding a file through the C call returns and leaves: the file's five numbers go into a lent list of 64-bit numbers.
 use mathlib.Core.Path.{_≡_}
-use mathlib.Core.Bool.{_||_}
 use mathlib.Core.Option.{Option}
 use mathlib.Core.List.{List, [], _∷_}
 use Prim.Native.Nat.{ℕ}
 use lib.ListN.{length}
-use Rattle.settings.specs.Grounds.{Ground, ground, groundAt, tooShort, outcome, overwritten, _orElse_}
-use Rattle.settings.specs.Settings.{rankIn, settingsGround}
+use Rattle.settings.specs.Grounds.{Ground, ground, groundAt, tooShort, outcome, unlessRefused, overwritten, _orElse_}
+use Rattle.settings.specs.Settings.{rankIn}
 use Rattle.fasta.specs.declared.Numbers.{Numbers}
 use Rattle.fasta.specs.File.{fileFault, fileNumbers}
-use Rattle.fasta.specs.Scan.{tooLong}
-use Rattle.table.specs.Table.{classCount, places, bumps, tooMany, unlessRefused, lateTable}
+use Rattle.table.specs.Table.{places, bumps, readyGround, tableFull}
 use Rattle.kmer.specs.Returned.{returnedWithPlace}
-
--- The grounds that do not depend on what the file holds: 1 to 4, 6, and 7 of the table.
-unfoldable pub readyGround : (letters : List ℕ) (k mirror room : ℕ) (file : List ℕ) → Option Ground
-readyGround letters k m room file =
-    settingsGround letters k m
-    orElse ground 6 (tooLong file || tooMany (classCount letters k m))
-    orElse groundAt 7 (tooShort room (classCount letters k m))
 
 -- "the table before others": the 7 of the list for the answer comes after that of the table, then 10 or 11, then 12.
 unfoldable pub addIntoGround : (letters : List ℕ) (k mirror : ℕ) (t file : List ℕ) (room : ℕ) → Option Ground
@@ -26,7 +17,7 @@ addIntoGround letters k m t file room =
     readyGround letters k m (length t) file
     orElse groundAt 7 (tooShort room 5)
     orElse fileFault file
-    orElse ground 12 (lateTable letters k m t file)
+    orElse ground 12 (tableFull letters k m t file)
 
 -- "its records (header lines), letters (foreign ones too), foreign, and edge and windows over all runs"
 abbrev pub fiveNumbers : Numbers → List ℕ

@@ -4,10 +4,9 @@ ghost use mathlib.Core.Path.{_≡_};
 ghost use Prim.Native.Nat.{_+_, _*_, _^_, _<_, _≤_};
 ghost use mathlib.Core.List.{_++_};
 ghost use lib.ListN.{length, drop, replicate};
-ghost use Rattle.settings.specs.Grounds.{groundOf, outcome, ofFilling};
-ghost use Rattle.settings.specs.Settings.{ofChecked, settingsOf};
+ghost use Rattle.settings.specs.Grounds.{groundOf, ofFilling};
 ghost use Rattle.table.specs.Table.{classCount, clearGround};
-ghost use Rattle.kmer.specs.Adding.{readyGround, fiveNumbers, AddsInto};
+ghost use Rattle.kmer.specs.Adding.{fiveNumbers, AddsInto};
 ghost use Rattle.encoding.specs.Calls.{coding, readGround, wordBytes, mirrorGround, mirrorBytes};
 ghost use Rattle.kmer.specs.Returned.{returned, returnedWithPlace, ReturnsPlaces};
 ghost use Rattle.kmer.specs.Needs.{PlaceFits};
@@ -17,11 +16,11 @@ ghost use Rattle.laws.specs.Windows.{windows};
 ghost use Rattle.sequence.specs.Sequences.{sequenceGround, sequenceCodes};
 use encoding::Code;
 use encoding::Coding;
+use fasta::Answer;
 use fasta::Numbers;
 use settings::Checked;
 use settings::Filling;
 use settings::Refusal;
-use table::Answer;
 
 // 2^63 plus the number.
 fn refused(f: Refusal) -> u64
@@ -122,29 +121,6 @@ pub extern "C" fn kmer_clear(letters: &[u8], k: usize, mirror: u64, table: &mut 
     with_place(table::clear(letters, k, mirror, table))
 }
 
-// Whether a file may be read for an add: the settings, the sizes and the table's room.
-fn ready(letters: &[u8], k: usize, mirror: u64, room: usize, file: &[u8]) -> Checked
-    ensures { λ r.
-        ⌜ ofChecked r ≡ outcome (readyGround (now (letters .entry)) k mirror room (now (file .entry))) (settingsOf (now (letters .entry)) k mirror) ⌝ }
-{
-    match settings::check(letters, k, mirror) {
-        Checked::Bad(f) => Checked::Bad(f),
-        Checked::Good(st) => {
-            if file.len() > 16777216 {
-                return Checked::Bad(Refusal::TooLarge);
-            }
-            if st.classes > 16777216 {
-                return Checked::Bad(Refusal::TooLarge);
-            }
-            let classes = st.classes as usize;
-            if room < classes {
-                return Checked::Bad(Refusal::ShortBuffer(classes));
-            }
-            Checked::Good(st)
-        }
-    }
-}
-
 fn write_numbers(n: Numbers, answer: &mut [u64])
     requires { ⌜ 5 ≤ length (now answer) ⌝ }
     ensures { λ _. ⌜ now (answer .exit) ≡ fiveNumbers n ++ drop 5 (now (answer .entry)) ⌝ }
@@ -168,7 +144,7 @@ pub extern "C" fn kmer_add(
     ensures { λ r.
         ⌜ AddsInto (now (letters .entry)) k mirror (now (table .entry)) (now (file .entry)) (now (answer .entry)) r (now (table .exit)) (now (answer .exit)) ⌝ }
 {
-    match ready(letters, k, mirror, table.len(), file) {
+    match table::ready(letters, k, mirror, table.len(), file) {
         Checked::Bad(f) => refused_at(f),
         Checked::Good(_) => {
             if answer.len() < 5 {

@@ -13,7 +13,7 @@ use Rattle.encoding.specs.Calls.{inCapitals, wordBytes}
 use Rattle.fasta.specs.Items.{recordsIn, lettersIn, oneIfForeign, foreignIn, marks, onFirst, runs, edge, edgesOf, windowsOf}
 use Rattle.fasta.specs.File.{isLetter, lfNext, lineItem, item, next, itemsFrom, faultFrom}
 use Rattle.fasta.specs.Scan.{tooLong}
-use Rattle.table.specs.Table.{wins, bump, bumps, full, tooMany, addGround}
+use Rattle.table.specs.Table.{windowsOfFile, bump, bumps, full, tooMany, readyGround, addGround}
 use Rattle.table.specs.Demand.{sum}
 use Rattle.texts.specs.Decimals.{decimalFrom, decimal}
 use Rattle.survey.specs.Grammar.{spelt}
@@ -26,9 +26,9 @@ use Rattle.program.specs.Program.{fileLine, refusedLine, clearedTable, s
 unfoldable outputOf : String → List ℕ
 unfolding programText lineText surveyText refusedLine fileLine clearedTable listingOf surveyLine countLines countLine totalLine sum decimal decimalFrom
     wordBytes inCapitals wordOf wordOfPlain pairOfRank middleOfCode mirrorRank
-    addGround settingsGround goodLetters differentCapitals isCapital isIn
+    addGround readyGround settingsGround goodLetters differentCapitals isCapital isIn
     isOdd halfUp classes badSize tooLong tooMany faultFrom itemsFrom item next lineItem isLetter lfNext
-    recordsIn lettersIn foreignIn oneIfForeign marks runs onFirst windowsOf windows edgesOf edge placeFrom capitalOf wins full bump bumps
+    recordsIn lettersIn foreignIn oneIfForeign marks runs onFirst windowsOf windows edgesOf edge placeFrom capitalOf windowsOfFile full bump bumps
     code codeOfCanonical canonical plain mirror digits pairRank differingPair shift oddShift
     reading.readLine reading.lineFrom reading.headOf reading.took reading.lineEnd reading.endAfter reading.nextForm reading.formAt
     reading.formFrom reading.formOf reading.numberOf reading.mirrorNumber reading.sized reading.valueByte reading.stretch

@@ -2,18 +2,17 @@
 use mathlib.Core.Path.{_≡_, sym, ap, _∙_}
 use Prim.Native.Nat.{ℕ, _+_, _-_, _*_, _<_, _≤_}
 use native.Mathlib.Omega.{arith}
-use mathlib.Core.Bool.{_||_}
 use mathlib.Core.List.{List, _++_}
 use borrow.Author.Tests.{lt-ltb, le-ltb}
 use lib.ListN.{length, take, drop, length-append, length-replicate}
 use lib.Seq.{length-take-le}
-use Rattle.settings.specs.Grounds.{Ground, Outcome, given, refused, ground, groundAt, tooShort, outcome}
+use Rattle.settings.specs.Grounds.{Ground, Outcome, given, refused, outcome}
 use Rattle.settings.specs.Settings.{rankIn, settingsGround, settingsOf}
-use Rattle.settings.proofs.Outcomes.{passed, refused-on, first-none, later-none, nowhere-met, room-enough}
+use Rattle.settings.proofs.Outcomes.{passed, refused-on, first-none}
 use Rattle.fasta.specs.declared.Numbers.{Numbers}
 use Rattle.fasta.specs.File.{fileNumbers}
-use Rattle.fasta.specs.Scan.{tooLong}
-use Rattle.table.specs.Table.{classCount, tooMany, places, bumps, lateTable, tableGround, addGround, addAnswer, Added}
+use Rattle.table.specs.Table.{classCount, places, bumps, tableFull, readyGround, tableGround, addGround, addAnswer, Added}
+use Rattle.table.proofs.CallGrounds.{ready-bad, ready-settings, ready-room}
 use Rattle.table.proofs.Bumps.{length-bumps}
 use Rattle.texts.proofs.Decimals.{decimal-length}
 use Rattle.texts.specs.Needs.{Puts}
@@ -65,15 +64,16 @@ module _ (letters : List ℕ) (k m : ℕ) (file : List ℕ) where
   unfolding surveyText addGround
   settings-text f e =
       ap (answerText letters k m file)
-      (sym (refused-on f (settingsOf letters k m) (fileNumbers (rankIn letters) k file) (settingsGround letters k m) _ e))
+      (sym (refused-on f (settingsOf letters k m) (fileNumbers (rankIn letters) k file) (readyGround letters k m 16384 file) _
+      (ready-bad letters k m 16384 file f e)))
 
   answered-text : {t t′ : List ℕ} {answer : Outcome Numbers} → t ≡ clearedTable → Added letters k m t file answer t′
       → surveyText letters k m file ≡ answerText letters k m file answer
   unfolding surveyText
   answered-text {t} cleared A =
       let e :
-      addAnswer letters k m (length t) (lateTable letters k m t file) file
-      ≡ addAnswer letters k m 16384 (lateTable letters k m clearedTable file) file =
+      addAnswer letters k m (length t) (tableFull letters k m t file) file
+      ≡ addAnswer letters k m 16384 (tableFull letters k m clearedTable file) file =
       rw (cleared, length-cleared) in
       ap (answerText letters k m file) (sym (A .answers ∙ e))
 
@@ -94,11 +94,9 @@ module _ (letters : List ℕ) (k m : ℕ) (file : List ℕ) where
     unfolding addGround
     taken-in =
         let no-ground = passed (fileNumbers (rankIn letters) k file) (tableGround letters k m t file) (sym e ∙ A .answers) .none-applies in
-        let good = first-none (settingsGround letters k m) _ no-ground in
-        let sizes = later-none (settingsGround letters k m) _ no-ground in
-        let rooms = later-none (ground 6 (tooLong file || tooMany (classCount letters k m))) _ sizes in
-        let g7 = first-none (groundAt 7 (tooShort (length t) (classCount letters k m))) _ rooms in
-        let room = room-enough (length t) (classCount letters k m) (nowhere-met 7 _ g7) in
+        let ready = first-none (readyGround letters k m (length t) file) _ no-ground in
+        let good = ready-settings letters k m (length t) file ready in
+        let room = ready-room letters k m (length t) file ready in
         let grown : t′ ≡ bumps clearedTable (places letters k m file) = A .leaves ∙ (rw (no-ground, cleared)) in
         let same : length t′ ≡ 16384 = ap length grown ∙ length-bumps (places letters k m file) clearedTable ∙ length-cleared in
         let few : q ≤ 16384 = omega (arith, room, q-is, ap length cleared, length-cleared) in

@@ -9,7 +9,7 @@ use lib.Seq.{sets}
 use Rattle.laws.specs.Text.{bytes}
 use Rattle.settings.specs.Grounds.{Ground, Outcome, given, refused}
 use Rattle.fasta.specs.declared.Numbers.{Numbers}
-use Rattle.table.specs.Table.{places, bumps, lateTable, addAnswer}
+use Rattle.table.specs.Table.{places, bumps, tableFull, addAnswer}
 use Rattle.texts.specs.Decimals.{decimal}
 use Rattle.survey.specs.declared.Head.{Head}
 use Rattle.survey.specs.declared.Head.the-variants.{Survey, NoSurvey}
@@ -37,7 +37,7 @@ answerText letters k m file (refused g) = refusedLine g
 
 -- What is printed for settings and a file: the add to a cleared table of 16,384 places answers it.
 unfoldable pub surveyText : (letters : List ℕ) (k mirror : ℕ) (file : List ℕ) → List ℕ
-surveyText letters k m file = answerText letters k m file (addAnswer letters k m 16384 (lateTable letters k m clearedTable file) file)
+surveyText letters k m file = answerText letters k m file (addAnswer letters k m 16384 (tableFull letters k m clearedTable file) file)
 
 -- "a survey line, then a sequence file"; 13: "standard input's first line is no survey line".
 unfoldable pub lineText : (input : List ℕ) → Head → List ℕ

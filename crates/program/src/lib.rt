@@ -1,10 +1,10 @@
 // The counter program as one function, from the bytes of its input to those of its output.
+use fasta::Answer;
 use fasta::Numbers;
 use settings::Checked;
 use settings::Refusal;
 use settings::Settings;
 use survey::Head;
-use table::Answer;
 ghost use mathlib.Core.Path.{_≡_};
 ghost use mathlib.Core.Option.{none};
 ghost use Prim.Native.Nat.{_-_, _≤_};

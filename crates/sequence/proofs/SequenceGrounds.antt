@@ -1,7 +1,7 @@
 -- The grounds of the calls along a sequence one after the other, as the calls meet them, and what the kernels ask under good settings.
 use mathlib.Core.Path.{_≡_, refl, sym, ap, _∙_, subst, subst⁻¹}
 use mathlib.Core.List.{List, map}
-use mathlib.Core.Option.{Option, none, some}
+use mathlib.Core.Option.{none}
 use Prim.Native.Nat.{ℕ, _+_, _-_, _*_, _^_, _<_, _≤_}
 use native.Mathlib.Omega.{arith}
 use borrow.Author.Tests.{lt-ltb, le-ltb}
@@ -9,9 +9,9 @@ use lib.ListN.{length}
 use Rattle.settings.specs.declared.Refusal.{Refusal}
 use Rattle.settings.specs.declared.Refusal.the-variants.{TooLarge, ShortBuffer}
 use Rattle.settings.specs.declared.Settings.{Settings}
-use Rattle.settings.specs.Grounds.{Ground, refused, groundOf, _orElse_, outcome, overwritten}
+use Rattle.settings.specs.Grounds.{refused, groundOf, outcome}
 use Rattle.settings.specs.Settings.{mirrorOf, classes, settingsGround, settingsOf}
-use Rattle.settings.proofs.Outcomes.{refused-on}
+use Rattle.settings.proofs.Outcomes.{refused-on, refused-leaves}
 use Rattle.settings.proofs.SettingsGrounds.{good-settings, limits}
 use Rattle.encoding.specs.Needs.{palindromes}
 use Rattle.encoding.proofs.ClassNumbers.{twice-classes, palindromes-le}
@@ -25,12 +25,6 @@ use Rattle.settings.proofs.RankTables.{table-below}
 use Rattle.sequence.specs.Needs.{Fills, Powers, Takes, Coding, codeBy}
 use Rattle.sequence.proofs.Windows.{length-windows}
 use Rattle.sequence.proofs.RankTables.{Bytes, codes-by-table}
-
--- A call refused by its first grounds changes nothing, whatever grounds come after.
-refused-leaves : {A : Type 0} (f : Ground) (a : A) (g later : Option Ground) (places old : List ℕ) → refused f ≡ outcome g a
-    → old ≡ overwritten (g orElse later) places old
-refused-leaves f a none later places old e = absurd (let z : _≡_ {A = ℕ} 0 1 = cc in omega arith)
-refused-leaves f a (some g) later places old e = refl
 
 module _ (letters : List ℕ) (k m : ℕ) (sequence old : List ℕ) where
   -- Bad settings.

@@ -23,7 +23,7 @@ ghost use Rattle.sequence.specs.Sequences.{FillsCodes};
 ghost use Rattle.sequence.specs.Needs.{Takes};
 
 // How many windows of k bytes a sequence of n bytes has.
-fn window_count(n: usize, k: usize) -> usize
+pub fn window_count(n: usize, k: usize) -> usize
     requires { ⌜ n ≤ 16777216 ⌝ }
     ensures { λ r. ⌜ r ≡ n + 1 - k ⌝ }
 {

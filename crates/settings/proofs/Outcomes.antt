@@ -9,7 +9,7 @@ use native.Mathlib.Omega.{arith}
 use lib.ListN.{drop, length}
 use lib.Dec.{ltb}
 use borrow.Author.Tests.{ltb-false}
-use Rattle.settings.specs.Grounds.{refused, Ground, outcome, _orElse_, given, ground, groundAt, tooShort, Overwrites}
+use Rattle.settings.specs.Grounds.{refused, Ground, outcome, _orElse_, given, ground, groundAt, tooShort, unlessRefused, Overwrites}
 
 -- A call refused by the grounds g is refused alike by g with more grounds after it, whatever value is at stake.
 pub refused-on : {A B : Type 0} (f : Ground) (a : A) (b : B) (g later : Option Ground) → refused f ≡ outcome g a → refused f ≡ outcome (g orElse later) b
@@ -71,6 +71,14 @@ refused-by f a g e = rw e
 pub given-by : {A : Type 0} (x a : A) (g : Option Ground) → g ≡ none → x ≡ a → given x ≡ outcome g a
 given-by x a g e h = rw (e, h)
 
+-- ---- what a refused call leaves
+
+-- A call refused by its first grounds g leaves what was there, whatever grounds come after.
+pub refused-leaves : {A B : Type 0} (f : Ground) (a : A) (g later : Option Ground) (new old : B) → refused f ≡ outcome g a
+    → old ≡ unlessRefused (g orElse later) new old
+refused-leaves f a none later new old e = absurd (let z : _≡_ {A = ℕ} 0 1 = cc in omega arith)
+refused-leaves f a (some g) later new old e = refl
+
 -- ---- calls that overwrite a lent buffer from its start
 
 module _ (g : Option Ground) (count : ℕ) (places old : List ℕ) where
@@ -85,5 +93,5 @@ module _ (g : Option Ground) (count : ℕ) (places old : List ℕ) where
 -- Refused by the first grounds g, whatever grounds come after.
 pub kept-on : {A : Type 0} (f : Ground) (a : A) (g later : Option Ground) (count : ℕ) (places old : List ℕ) → refused f ≡ outcome g a
     → Overwrites (g orElse later) count places old (refused f) old
-kept-on f a none later count places old e = absurd (let z : _≡_ {A = ℕ} 0 1 = cc in omega arith)
-kept-on f a (some g) later count places old e = let same : f ≡ g = cc in record { answers = ap refused same; leaves = refl }
+kept-on f a g later count places old e =
+    record { answers = refused-on f a count g later e; leaves = refused-leaves f a g later (places ++ drop (length places) old) old e }

@@ -62,10 +62,14 @@ outcome (some g) a = refused g
 abbrev pub tooShort : (room needed : ℕ) → Option ℕ
 tooShort room needed = cond (ltb room needed) (some needed) none
 
+-- What a call leaves: something new where no ground applies, and else what was there: "all change no buffer".
+abbrev pub unlessRefused : {A : Type 0} → Option Ground → (new old : A) → A
+unlessRefused none new old = new
+unlessRefused (some g) new old = old
+
 -- A lent buffer after a call that overwrites it from its start: the new places and then the old ones; all as before where the call is refused.
 abbrev pub overwritten : Option Ground → (places old : List ℕ) → List ℕ
-overwritten none places old = places ++ drop (length places) old
-overwritten (some g) places old = old
+overwritten g places old = unlessRefused g (places ++ drop (length places) old) old
 
 -- Its answer as this paper's value: how many places it set, or the refusal's number and P.
 abbrev pub ofFilling : Filling → Outcome ℕ

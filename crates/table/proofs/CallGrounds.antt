@@ -2,16 +2,18 @@
 use mathlib.Core.Path.{_≡_, refl, sym, ap, _∙_, subst}
 use Prim.Native.Nat.{ℕ, _<_, _≤_}
 use native.Mathlib.Omega.{arith}
-use mathlib.Core.Bool.{true, false}
+use mathlib.Core.Bool.{true, false, _||_}
 use mathlib.Core.Option.{Option, none, some}
 use mathlib.Core.List.{List, _++_, map}
 use lib.ListN.{length, take, drop, replicate, length-replicate, take-append-drop}
-use borrow.Author.Tests.{lt-ltb, le-ltb}
+use borrow.Author.Tests.{lt-ltb, le-ltb, ltb-false}
 use Rattle.settings.specs.declared.Settings.{Settings}
-use Rattle.settings.specs.Grounds.{Ground, Outcome, given, refused, ground, outcome, _orElse_}
-use Rattle.settings.specs.Settings.{rankIn, mirrorOf, classes, settingsGround, settingsOf}
-use Rattle.settings.proofs.Outcomes.{refused-on, passed, kept-by, set-by, kept-on}
-use Rattle.settings.proofs.SettingsGrounds.{known, good-settings}
+use Rattle.settings.specs.declared.Checked.{Checked}
+use Rattle.settings.specs.declared.Checked.the-variants.{Good}
+use Rattle.settings.specs.Grounds.{Ground, Outcome, given, refused, ground, groundAt, tooShort, outcome, unlessRefused, _orElse_}
+use Rattle.settings.specs.Settings.{rankIn, mirrorOf, classes, settingsGround, settingsOf, ofChecked}
+use Rattle.settings.proofs.Outcomes.{refused-on, refused-leaves, Passed, passed, first-none, later-none, test-fails, both-fail, nowhere-met, room-enough, kept-by, set-by, kept-on}
+use Rattle.settings.proofs.SettingsGrounds.{Known, known, good-settings}
 use Rattle.encoding.specs.Codes.{code}
 use Rattle.fasta.specs.declared.Numbers.{Numbers}
 use Rattle.fasta.specs.File.{fileFault, fileNumbers, fileWindows}
@@ -21,7 +23,7 @@ use Rattle.fasta.proofs.Ranks.{windows-by-table, numbers-by-table}
 use Rattle.fasta.proofs.Runs.{windows-fit}
 use Rattle.sequence.specs.declared.kernels.Kernel.{Kernel}
 use Rattle.sequence.specs.Needs.{Takes}
-use Rattle.table.specs.Table.{classCount, wins, places, bumps, full, tooMany, addGround, clearGround, unlessRefused, lateTable, tableGround, Added, Clears}
+use Rattle.table.specs.Table.{classCount, windowsOfFile, places, bumps, full, tooMany, readyGround, addGround, clearGround, tableFull, tableGround, Added, Clears}
 use Rattle.table.specs.Needs.{Room, CountedUnlessFull, AddedUnlessFull, CleanFile, ClearsPlaces}
 use Rattle.table.proofs.Bumps.{bumps-front}
 use Rattle.table.proofs.Full.{not-full}
@@ -68,71 +70,113 @@ module _ (n : Numbers) (ps counts : List ℕ) where
   pub counts-grown : (counts′ : List ℕ) → false ≡ full (n .windows) counts → counts′ ≡ bumps counts ps → CountedUnlessFull n ps counts (given n) counts′
   counts-grown counts′ e c = record { answers = rw (← e); leaves = c ∙ rw (← e) }
 
--- ---- adding
+-- ---- before the file of an add is read
 
-refused-leaves : {A B : Type 0} (f : Ground) (a : A) (g later : Option Ground) (new old : B) → refused f ≡ outcome g a
-    → old ≡ unlessRefused (g orElse later) new old
-refused-leaves f a none later new old e = absurd (let z : _≡_ {A = ℕ} 0 1 = cc in omega arith)
-refused-leaves f a (some g) later new old e = refl
+-- Where ground 6 does not apply, the file is short enough and the classes are few enough.
+module _ (letters : List ℕ) (k m : ℕ) (file : List ℕ) (e : ground 6 (tooLong file || tooMany (classCount letters k m)) ≡ none) where
+  neither : (tooLong file ≡ false) × (tooMany (classCount letters k m) ≡ false)
+  neither = both-fail (tooLong file) (tooMany (classCount letters k m)) (test-fails 6 (tooLong file || tooMany (classCount letters k m)) e)
+
+  pub file-short : length file ≤ 16777216
+  unfolding tooLong
+  file-short = ltb-false 16777216 (length file) (neither .0)
+
+  pub classes-few : classCount letters k m ≤ 16777216
+  unfolding tooMany
+  classes-few = ltb-false 16777216 (classCount letters k m) (neither .1)
+
+module _ (letters : List ℕ) (k m room : ℕ) (file : List ℕ) where
+  -- What `ready` answers at each of its tests.
+  pub ready-bad : (f : Ground) → refused f ≡ outcome (settingsGround letters k m) (settingsOf letters k m)
+      → refused f ≡ outcome (readyGround letters k m room file) (settingsOf letters k m)
+  unfolding readyGround
+  ready-bad f e = refused-on f (settingsOf letters k m) _ (settingsGround letters k m) _ e
+
+  module _ (st : Settings) (e : given st ≡ outcome (settingsGround letters k m) (settingsOf letters k m)) where
+    good : Known letters k m st
+    good = known letters k m st e
+
+    pub ready-long : 16777216 < length file → refused (6, 0) ≡ outcome (readyGround letters k m room file) (settingsOf letters k m)
+    unfolding readyGround tooLong
+    ready-long h = rw (good .none-applies, lt-ltb 16777216 (length file) h)
+
+    module _ (h : length file ≤ 16777216) where
+      pub ready-many : 16777216 < st .classes → refused (6, 0) ≡ outcome (readyGround letters k m room file) (settingsOf letters k m)
+      unfolding readyGround tooLong tooMany
+      ready-many g =
+          let n : 16777216 < classCount letters k m = omega (arith, good .classes-are) in
+          rw (good .none-applies, le-ltb 16777216 (length file) h, lt-ltb 16777216 (classCount letters k m) n)
+
+      module _ (g : st .classes ≤ 16777216) where
+        few : classCount letters k m ≤ 16777216
+        few = omega (arith, good .classes-are)
+
+        pub ready-short : room < st .classes → refused (7, st .classes) ≡ outcome (readyGround letters k m room file) (settingsOf letters k m)
+        unfolding readyGround tooLong tooMany
+        ready-short r =
+            let n : room < classCount letters k m = omega (arith, good .classes-are) in
+            rw (good .none-applies, le-ltb 16777216 (length file) h, le-ltb 16777216 _ few, lt-ltb room _ n, good .classes-are)
+
+        pub ready-given : st .classes ≤ room → given st ≡ outcome (readyGround letters k m room file) (settingsOf letters k m)
+        unfolding readyGround tooLong tooMany
+        ready-given r =
+            let n : classCount letters k m ≤ room = omega (arith, good .classes-are) in
+            rw (good .none-applies, le-ltb 16777216 (length file) h, le-ltb 16777216 _ few, le-ltb room _ n)
+            (ap given (passed (settingsOf letters k m) (settingsGround letters k m) e .value))
+
+  -- Settings that `ready` gives are under none of these grounds.
+  pub ready-passed : (r : Checked) → ofChecked r ≡ outcome (readyGround letters k m room file) (settingsOf letters k m) → (st : Settings) → r ≡ Good st
+      → Passed (readyGround letters k m room file) st (settingsOf letters k m)
+  ready-passed r e st g = passed (settingsOf letters k m) (readyGround letters k m room file) (sym (ap ofChecked g) ∙ e)
+
+  -- What an add knows where none of them applies.
+  module _ (ready : readyGround letters k m room file ≡ none) where
+    pub ready-settings : settingsGround letters k m ≡ none
+    unfolding readyGround
+    ready-settings = first-none (settingsGround letters k m) _ ready
+
+    sizes : ground 6 (tooLong file || tooMany (classCount letters k m)) orElse groundAt 7 (tooShort room (classCount letters k m)) ≡ none
+    unfolding readyGround
+    sizes = later-none (settingsGround letters k m) _ ready
+
+    pub ready-file : length file ≤ 16777216
+    ready-file = file-short letters k m file (first-none _ (groundAt 7 (tooShort room (classCount letters k m))) sizes)
+
+    pub ready-room : classCount letters k m ≤ room
+    ready-room =
+        let g7 = later-none (ground 6 (tooLong file || tooMany (classCount letters k m))) _ sizes in
+        room-enough room (classCount letters k m) (nowhere-met 7 _ g7)
 
 module _ (letters : List ℕ) (k m : ℕ) (t file : List ℕ) where
-  refused-at : (f : Ground) → tableGround letters k m t file ≡ some f → Added letters k m t file (refused f) t
-  refused-at f e = record { answers = rw e; leaves = rw e }
-
-  pub settings-refused : (f : Ground) → refused f ≡ outcome (settingsGround letters k m) (settingsOf letters k m) → Added letters k m t file (refused f) t
-  unfolding addGround
-  settings-refused f e =
-      record {
-        answers = refused-on f (settingsOf letters k m) (fileNumbers (rankIn letters) k file) (settingsGround letters k m) _ e;
-        leaves = refused-leaves f (settingsOf letters k m) (settingsGround letters k m) _ (bumps t (places letters k m file)) t e;
-      }
-
-  -- n is the number of classes.
-  module _ (good : settingsGround letters k m ≡ none) (n : ℕ) (n-is : n ≡ classCount letters k m) where
-    pub long-file : 16777216 < length file → Added letters k m t file (refused (6, 0)) t
-    unfolding addGround tooLong
-    long-file h = refused-at (6, 0) (rw (good, lt-ltb 16777216 (length file) h))
-
-    module _ (short : length file ≤ 16777216) where
-      pub many-classes : 16777216 < n → Added letters k m t file (refused (6, 0)) t
-      unfolding addGround tooLong tooMany
-      many-classes h = refused-at (6, 0) (rw (good, le-ltb 16777216 (length file) short, ← n-is, lt-ltb 16777216 n h))
-
-      module _ (few : n ≤ 16777216) where
-        pub short-table : length t < n → Added letters k m t file (refused (7, n)) t
-        unfolding addGround tooLong tooMany
-        short-table h = refused-at (7, n) (simp (good, le-ltb 16777216 (length file) short, sym n-is, le-ltb 16777216 n few, lt-ltb (length t) n h))
-
--- What an add knows once no ground up to 7 applies, n being the number of classes.
-pub record Addable (letters : List ℕ) (k m : ℕ) (t file : List ℕ) (n : ℕ) : Type 0 where
-  pub good : settingsGround letters k m ≡ none
-  pub n-is : n ≡ classCount letters k m
-  pub short : length file ≤ 16777216
-  pub few : n ≤ 16777216
-  pub long : n ≤ length t
-
-module _ {letters : List ℕ} {k m : ℕ} {t file : List ℕ} {n : ℕ} (P : Addable letters k m t file n) where
-  -- What is left of the grounds: a fault of the file, and then ground 12.
-  grounds-left : tableGround letters k m t file ≡ fileFault file orElse ground 12 (lateTable letters k m t file)
-  unfolding addGround tooLong tooMany
-  grounds-left =
-      let fits : classCount letters k m ≤ 16777216 = omega (arith, P .n-is, P .few) in
-      let room : classCount letters k m ≤ length t = omega (arith, P .n-is, P .long) in
-      rw (P .good, le-ltb 16777216 (length file) (P .short), le-ltb 16777216 (classCount letters k m) fits, le-ltb (length t) (classCount letters k m) room)
-
-  pub faulty : (ranks : List ℕ) (f : Ground) → refused f ≡ outcome (fileFault file) (fileNumbers (rankByTable ranks) k file)
+  -- Refused before the file is read.
+  pub not-ready : (f : Ground) → refused f ≡ outcome (readyGround letters k m (length t) file) (settingsOf letters k m)
       → Added letters k m t file (refused f) t
-  faulty ranks f e =
+  unfolding addGround
+  not-ready f e =
       record {
-        answers = rw grounds-left (refused-on f (fileNumbers (rankByTable ranks) k file) (fileNumbers (rankIn letters) k file) (fileFault file) _ e);
-        leaves = rw grounds-left (refused-leaves f (fileNumbers (rankByTable ranks) k file) (fileFault file) _ (bumps t (places letters k m file)) t e);
+        answers = refused-on f (settingsOf letters k m) (fileNumbers (rankIn letters) k file) (readyGround letters k m (length t) file) _ e;
+        leaves = refused-leaves f (settingsOf letters k m) (readyGround letters k m (length t) file) _ (bumps t (places letters k m file)) t e;
       }
 
-  pub added : (x : Numbers) (answer : Outcome Numbers) (t′ : List ℕ) → CleanFile letters k file x → AddedUnlessFull letters k m t file answer t′
-      → Added letters k m t file answer t′
-  added x answer t′ F A =
-      let e : tableGround letters k m t file ≡ ground 12 (lateTable letters k m t file) = grounds-left ∙ rw (F .no-fault) in
-      record { answers = A .answers ∙ rw e; leaves = A .leaves ∙ rw e }
+  module _ (ready : readyGround letters k m (length t) file ≡ none) where
+    -- What is left of the grounds: a fault of the file, and then ground 12.
+    grounds-left : tableGround letters k m t file ≡ fileFault file orElse ground 12 (tableFull letters k m t file)
+    unfolding addGround
+    grounds-left = rw ready
+
+    pub faulty : (ranks : List ℕ) (f : Ground) → refused f ≡ outcome (fileFault file) (fileNumbers (rankByTable ranks) k file)
+        → Added letters k m t file (refused f) t
+    faulty ranks f e =
+        record {
+          answers = rw grounds-left (refused-on f (fileNumbers (rankByTable ranks) k file) (fileNumbers (rankIn letters) k file) (fileFault file) _ e);
+          leaves = rw grounds-left (refused-leaves f (fileNumbers (rankByTable ranks) k file) (fileFault file) _ (bumps t (places letters k m file)) t e);
+        }
+
+    pub added : (x : Numbers) (answer : Outcome Numbers) (t′ : List ℕ) → CleanFile letters k file x → AddedUnlessFull letters k m t file answer t′
+        → Added letters k m t file answer t′
+    added x answer t′ F A =
+        let e : tableGround letters k m t file ≡ ground 12 (tableFull letters k m t file) = grounds-left ∙ rw (F .no-fault) in
+        record { answers = A .answers ∙ rw e; leaves = A .leaves ∙ rw e }
 
 -- ---- a file that was scanned without fault
 
@@ -144,16 +188,16 @@ clean letters k file ranks short T n e =
     record { no-fault = p .none-applies; numbers = p .value ∙ numbers-by-table letters ranks T k file; short = short }
 
 module _ (letters : List ℕ) (k : ℕ) (file : List ℕ) (n : Numbers) (F : CleanFile letters k file n) where
-  n-windows : n .windows ≡ length (wins letters k file)
-  unfolding wins
+  n-windows : n .windows ≡ length (windowsOfFile letters k file)
+  unfolding windowsOfFile
   n-windows = ap (λ (x : Numbers). x .windows) (F .numbers)
 
   pub n-windows-by-table : (ranks : List ℕ) → RankTable letters ranks → n .windows ≡ length (fileWindows (rankByTable ranks) k file)
-  unfolding wins
+  unfolding windowsOfFile
   n-windows-by-table ranks T = n-windows ∙ sym (ap length (windows-by-table letters ranks T k file))
 
   pub few-windows : (m : ℕ) → settingsGround letters k m ≡ none → _≤_ (n .windows) 16777216
-  unfolding wins
+  unfolding windowsOfFile
   few-windows m good =
       let some-k = good-settings letters k m good .some-k in
       omega (arith, n-windows, windows-fit (rankIn letters) k file (omega arith), F .short)
@@ -179,8 +223,8 @@ module _ (letters : List ℕ) (k m : ℕ) (t file : List ℕ) (good : settingsGr
         answers =
             C .answers
             ∙ ap (λ (w : ℕ). outcome (ground 12 (full w (take (classCount letters k m) t))) n) windows-are
-            ∙ ap (outcome (ground 12 (lateTable letters k m t file))) (F .numbers);
-        leaves = leaves-by (ground 12 (lateTable letters k m t file)) counts′ (C .leaves ∙ rw (windows-are, e));
+            ∙ ap (outcome (ground 12 (tableFull letters k m t file))) (F .numbers);
+        leaves = leaves-by (ground 12 (tableFull letters k m t file)) counts′ (C .leaves ∙ rw (windows-are, e));
       }
 
   pub whole-table : (cs : ℕ) (ps : List ℕ) (answer : Outcome Numbers) (counts′ : List ℕ) → cs ≡ classCount letters k m → ps ≡ places letters k m file
@@ -190,7 +234,7 @@ module _ (letters : List ℕ) (k m : ℕ) (t file : List ℕ) (good : settingsGr
 
 pub places-by-table : (letters : List ℕ) (k m : ℕ) (table file : List ℕ) (st : Settings) → st ≡ settingsOf letters k m → RankTable letters table
     → map (code (st .s) (st .mirror) k) (fileWindows (rankByTable table) k file) ≡ places letters k m file
-unfolding wins
+unfolding windowsOfFile
 places-by-table letters k m table file st is T =
     ap (λ (x : Settings). map (code (x .s) (x .mirror) k) (fileWindows (rankByTable table) k file)) is ∙ rw (windows-by-table letters table T k file)
 

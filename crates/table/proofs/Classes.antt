@@ -13,7 +13,7 @@ use Rattle.encoding.specs.Words.{IsWord, canonical}
 use Rattle.encoding.specs.WordsOfCodes.{wordOf}
 use Rattle.encoding.proofs.Codes.{is-canonical, canonical-low}
 use Rattle.encoding.proofs.Theorems.{code-below-classes, same-code, word-of-code, word-of-own-code, canonical-is-one}
-use Rattle.table.specs.Table.{classCount, placeOf, wins, places}
+use Rattle.table.specs.Table.{classCount, placeOf, windowsOfFile, places}
 use Rattle.table.specs.Book.{sameClass, hits, CanonicalWord}
 use Rattle.table.specs.Demand.{OnePlaceAClass}
 use Rattle.laws.specs.Each.{Each}
@@ -32,9 +32,10 @@ module _ (letters : List ℕ) (k m : ℕ) (good : settingsGround letters k m ≡
   pub place-below : (w : List ℕ) → IsWord (length letters) k w → placeOf letters k m w < classCount letters k m
   place-below w i = code-below-classes (length letters) (mirrorOf m) k within w i
 
-  -- Places and classes are one to one; two words share a place exactly when they are equal or mirrors.
-  pub one-place-a-class : OnePlaceAClass letters k m
-  one-place-a-class =
+  -- "Every place below the number of classes stands for just one class, every class has its place there, and two words share a place exactly when they
+  -- are equal or mirrors of each other."
+  pub places-and-classes : OnePlaceAClass letters k m
+  places-and-classes =
       record {
         every-class-has-its-place = place-below;
         every-place-stands-for-a-class = λ q h.
@@ -68,7 +69,7 @@ module _ (letters : List ℕ) (k m : ℕ) (good : settingsGround letters k m ≡
   -- The places of a file's windows are below the number of classes.
   pub places-below : (file : List ℕ) → Each (Below (classCount letters k m)) (places letters k m file)
   places-below file =
-      each-map (IsWord (length letters) k) (Below (classCount letters k m)) (placeOf letters k m) (wins letters k file) place-below
+      each-map (IsWord (length letters) k) (Below (classCount letters k m)) (placeOf letters k m) (windowsOfFile letters k file) place-below
       (windows-are-words letters k file)
 
   -- The canonical word of a word, and its place.

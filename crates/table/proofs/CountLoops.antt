@@ -1,17 +1,12 @@
 -- The loops over counts: what holds at the head of each, and what a turn does to it.
-use mathlib.Core.Path.{_≡_, refl, sym, ap, _∙_}
+use mathlib.Core.Path.{_≡_, refl, sym, _∙_}
 use Prim.Native.Nat.{ℕ, _+_, _-_, _<_, _≤_, max}
-use native.Mathlib.Decide.{decLe}
 use native.Mathlib.Numerals.{add-one}
 use native.Mathlib.Omega.{arith}
-use mathlib.Core.Bool.{_||_}
-use mathlib.Core.List.{List, [], _∷_, _++_}
-use lib.ListN.{length, getD, take, drop, set, length-drop, drop-of-length-le}
-use lib.Seq.{drop-cons, getD-take, getD-drop, getD-append-add, length-take-le}
-use lib.Dec.{ltb}
-use borrow.Author.Tests.{lt-ltb, le-ltb}
-use Rattle.laws.proofs.Buffers.{Written, written-none, written-next, written-length, written-all}
-use Rattle.table.specs.Table.{bump, bumps, full}
+use mathlib.Core.List.{List, [], _∷_}
+use lib.ListN.{length, getD, drop, drop-of-length-le}
+use lib.Seq.{drop-cons}
+use Rattle.table.specs.Table.{bump, bumps}
 use Rattle.laws.specs.Each.{Each}
 use Rattle.table.specs.Needs.{Below, Room, highestOf}
 use Rattle.table.proofs.Each.{each-at}
@@ -69,64 +64,3 @@ module _ (counts : List ℕ) (i m : ℕ) (left : highestOf counts ≡ max m (hig
   highest-all h =
       let d : highestOf (drop i counts) ≡ 0 = rw (drop-of-length-le counts h) in
       omega arith
-
--- Ground 12 asks of the highest count alone.
-pub full-highest : (n : ℕ) (cs : List ℕ) → full n cs ≡ ltb (4294967295 - n) (highestOf cs)
-unfolding full highestOf
-full-highest n [] = sym (le-ltb (4294967295 - n) 0 (omega arith))
-full-highest n (c ∷ cs) = rw (full-highest n cs) (or-max (4294967295 - n) c (highestOf cs))
-  where
-    or-max : (a b c : ℕ) → (ltb a b || ltb a c) ≡ ltb a (max b c)
-    or-max a b c =
-        elim (decLe b a) as (λ _. (ltb a b || ltb a c) ≡ ltb a (max b c)) [
-          | yes h ↦
-              elim (decLe c a) as (λ _. (ltb a b || ltb a c) ≡ ltb a (max b c)) [
-                | yes g ↦ rw (le-ltb a b h, le-ltb a c g) (sym (le-ltb a (max b c) (omega arith)))
-                | no g ↦ rw (le-ltb a b h, lt-ltb a c (omega arith)) (sym (lt-ltb a (max b c) (omega arith)))
-              ]
-          | no h ↦ rw (lt-ltb a b (omega arith)) (sym (lt-ltb a (max b c) (omega arith)))
-        ]
-
--- ---- moving letters to the front
-
--- j of the letters are moved, and behind them the array is as it was.
-pub record Moving (o : List ℕ) (from count : ℕ) (array : List ℕ) (j : ℕ) : Type 0 where
-  pub upto : j ≤ count
-  pub room : from + count ≤ length o
-  pub written : Written (take count (drop from o)) o j array
-
-moved-length : (o : List ℕ) (from count : ℕ) → from + count ≤ length o → length (take count (drop from o)) ≡ count
-moved-length o from count h = length-take-le count (drop from o) (omega (arith, length-drop from o))
-
-pub moving-none : (o : List ℕ) (from count : ℕ) → from + count ≤ length o → Moving o from count o 0
-moving-none o from count h =
-    record { upto = omega arith; room = h; written = written-none (take count (drop from o)) o (omega (arith, moved-length o from count h)) }
-
-module _ {o : List ℕ} {from count : ℕ} {array : List ℕ} {j : ℕ} (M : Moving o from count array j) where
-  pub moving-length : length array ≡ length o
-  moving-length = written-length (M .written)
-
-  pub moving-next : j < count → Moving o from count (set array j (getD array (from + j) 0)) (j + 1)
-  moving-next h =
-      let C : List ℕ = take count (drop from o) in
-      let n : length C ≡ count = moved-length o from count (M .room) in
-      let l : length (take j C) ≡ j = length-take-le j C (omega arith) in
-      let p : from + j ≡ length (take j C) + from = omega arith in
-      let q : j + from ≡ from + j = omega arith in
-      record {
-        upto = omega arith;
-        room = M .room;
-        written =
-            written-next (M .written) (getD array (from + j) 0) (omega arith)
-            (ap (λ (x : List ℕ). getD x (from + j) 0) (M .written .is)
-            ∙ ap (λ (i : ℕ). getD (take j C ++ drop j o) i 0) p
-            ∙ getD-append-add (take j C) (drop j o) from 0
-            ∙ getD-drop j o from 0
-            ∙ ap (λ (i : ℕ). getD o i 0) q
-            ∙ sym (getD-take count (drop from o) j 0 h ∙ getD-drop from o j 0));
-      }
-
-  pub moved : count ≤ j → array ≡ take count (drop from o) ++ drop count o
-  moved h =
-      let n = moved-length o from count (M .room) in
-      written-all (M .written) (omega arith) ∙ rw n

@@ -15,9 +15,9 @@ use Rattle.fasta.specs.declared.Numbers.{Numbers}
 use Rattle.encoding.specs.Words.{IsWord, canonical}
 use Rattle.table.specs.Table.{classCount, placeOf, clearGround, Clears}
 use Rattle.table.specs.Book.{hits, Book, clearedBook, bookAfter, bookAnswers, bookAfterAll}
-use Rattle.table.specs.Demand.{Adds, takenIn, allWins, counts, Agrees, Kept, OnePlaceAClass, DemandThree, SameCountsExactlyWhen}
+use Rattle.table.specs.Demand.{Adds, takenIn, windowsOfFiles, counts, Agrees, Kept, DemandThree, SameCountsExactlyWhen}
 use Rattle.table.specs.Demand.Calls.{done, then}
-use Rattle.table.proofs.Classes.{place-below, one-place-a-class, canonical-word, canonical-place, hits-of-canonical}
+use Rattle.table.proofs.Classes.{place-below, places-and-classes, canonical-word, canonical-place, hits-of-canonical}
 use Rattle.table.proofs.Steps.{step}
 use Rattle.table.proofs.TakenIn.{all-windows-are-words, taken-more, added-up, tally-is-hits}
 use Rattle.table.proofs.Clearing.{settings-good, cleared-agrees, cleared-sum, cleared-later, cleared-length}
@@ -28,7 +28,7 @@ module _ (letters : List ℕ) (k m : ℕ) (good : settingsGround letters k m ≡
   pub kept : (book : Book) {t t′ : List ℕ} {files : List (List ℕ)} {answers : List (Outcome Numbers)} → Agrees letters k m t book
       → Adds letters k m t files answers t′
       → Kept letters k m book t files answers t′
-  unfolding bookAnswers bookAfterAll takenIn allWins
+  unfolding bookAnswers bookAfterAll takenIn windowsOfFiles
   kept book A done =
       record {
         each-add-answered-what-the-book-did = refl;
@@ -48,17 +48,12 @@ module _ (letters : List ℕ) (k m : ℕ) (good : settingsGround letters k m ≡
         counts-grow-by-the-windows-taken-in = omega (arith, ih .counts-grow-by-the-windows-taken-in, s .grown, taken-more letters k answer file files answers);
       }
 
-  -- "Every place below the number of classes stands for just one class, every class has its place there, and two words share a place exactly when they
-  -- are equal or mirrors of each other."
-  pub places-and-classes : OnePlaceAClass letters k m
-  places-and-classes = one-place-a-class letters k m good
-
   -- From a table that agrees with the cleared book, the count of each word's class is the number of windows, in the files taken in, that are equal to the
   -- word or its mirror.
-  pub counted : {t t′ : List ℕ} {files : List (List ℕ)} {answers : List (Outcome Numbers)} → Agrees letters k m t clearedBook
+  counted : {t t′ : List ℕ} {files : List (List ℕ)} {answers : List (Outcome Numbers)} → Agrees letters k m t clearedBook
       → Adds letters k m t files answers t′
       → (w : List ℕ) → IsWord (length letters) k w
-      → getD (counts letters k m t′) (placeOf letters k m w) 0 ≡ hits (length letters) (mirrorOf m) w (allWins letters k (takenIn files answers))
+      → getD (counts letters k m t′) (placeOf letters k m w) 0 ≡ hits (length letters) (mirrorOf m) w (windowsOfFiles letters k (takenIn files answers))
   counted {t′ = t′} {files = files} {answers = answers} A adds w i =
       let K = kept clearedBook A adds in
       let c = canonical (length letters) (mirrorOf m) w in
@@ -68,9 +63,9 @@ module _ (letters : List ℕ) (k m : ℕ) (good : settingsGround letters k m ≡
       ∙ ap (λ (q : ℕ). getD t′ q 0) (sym (canonical-place letters k m good w i))
       ∙ K .each-count-equals-its-class's-tally .each-count-is-its-class's-tally c (canonical-word letters k m good w i)
       ∙ tally-is-hits letters k m clearedBook files c
-      ∙ zero-add (hits (length letters) (mirrorOf m) c (allWins letters k (takenIn files (bookAnswers letters k m clearedBook files))))
-      ∙ ap (λ (fs : List (List ℕ)). hits (length letters) (mirrorOf m) c (allWins letters k fs)) same
-      ∙ hits-of-canonical letters k m good w (allWins letters k (takenIn files answers)) i (all-windows-are-words letters k (takenIn files answers))
+      ∙ zero-add (hits (length letters) (mirrorOf m) c (windowsOfFiles letters k (takenIn files (bookAnswers letters k m clearedBook files))))
+      ∙ ap (λ (fs : List (List ℕ)). hits (length letters) (mirrorOf m) c (windowsOfFiles letters k fs)) same
+      ∙ hits-of-canonical letters k m good w (windowsOfFiles letters k (takenIn files answers)) i (all-windows-are-words letters k (takenIn files answers))
 
   as-many : {t t′ : List ℕ} {files : List (List ℕ)} {answers : List (Outcome Numbers)} → Agrees letters k m t clearedBook → Adds letters k m t files answers t′
       → length (counts letters k m t′) ≡ classCount letters k m
@@ -78,7 +73,7 @@ module _ (letters : List ℕ) (k m : ℕ) (good : settingsGround letters k m ≡
       length-take-le (classCount letters k m) t′ (kept clearedBook A adds .each-count-equals-its-class's-tally .one-place-a-class)
 
   -- Two lists leave the same counts exactly when, for every word of k letters, their files taken in hold as many windows equal to the word or its mirror.
-  pub same-counts : {t u t′ u′ : List ℕ} {files files′ : List (List ℕ)} {answers answers′ : List (Outcome Numbers)} → Agrees letters k m t clearedBook
+  same-counts : {t u t′ u′ : List ℕ} {files files′ : List (List ℕ)} {answers answers′ : List (Outcome Numbers)} → Agrees letters k m t clearedBook
       → Agrees letters k m u clearedBook
       → Adds letters k m t files answers t′
       → Adds letters k m u files′ answers′ u′
@@ -86,7 +81,7 @@ module _ (letters : List ℕ) (k m : ℕ) (good : settingsGround letters k m ≡
   same-counts {t′ = t′} {u′ = u′} A B adds adds′ = (
     λ e w i. sym (counted A adds w i) ∙ ap (λ (l : List ℕ). getD l (placeOf letters k m w) 0) e ∙ counted B adds′ w i,
     λ h. ext-getD 0 (counts letters k m t′) (counts letters k m u′) (as-many A adds ∙ sym (as-many B adds′)) (λ q l.
-        let (w, c, at) = one-place-a-class letters k m good .every-place-stands-for-a-class q (omega (arith, as-many A adds)) in
+        let (w, c, at) = places-and-classes letters k m good .every-place-stands-for-a-class q (omega (arith, as-many A adds)) in
         rw (← at) (counted A adds w (c .word) ∙ h w (c .word) ∙ sym (counted B adds′ w (c .word)))),
   )
 

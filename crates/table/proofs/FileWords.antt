@@ -17,7 +17,7 @@ use Rattle.laws.specs.Windows.{windows}
 use Rattle.fasta.specs.Items.{marks, onFirst, runs, windowsOf}
 use Rattle.fasta.specs.File.{items}
 use Rattle.settings.proofs.Ranks.{rank-below-count}
-use Rattle.table.specs.Table.{wins}
+use Rattle.table.specs.Table.{windowsOfFile}
 use Rattle.laws.specs.Each.{Each}
 use Rattle.table.proofs.Each.{each-append}
 
@@ -69,8 +69,8 @@ module _ (letters : List ℕ) (k : ℕ) where
   ranked-marks (Letter b ∷ is) = (ranked b (rankIn letters b) refl, ranked-marks is)
 
   -- The windows of a file are words of k letters.
-  pub windows-are-words : (file : List ℕ) → Each (IsWord (length letters) k) (wins letters k file)
-  unfolding wins
+  pub windows-are-words : (file : List ℕ) → Each (IsWord (length letters) k) (windowsOfFile letters k file)
+  unfolding windowsOfFile
   windows-are-words file =
       let ms = marks (rankIn letters) (items file) in
       word-windowsOf (length letters) k (runs ms) (ranked-runs (length letters) k ms (ranked-marks (items file)))

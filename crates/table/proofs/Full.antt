@@ -1,14 +1,16 @@
--- Ground 12: some count is too high. It is read from the highest count; from a table and from a book that agree it is the same.
-use mathlib.Core.Path.{_≡_, refl, sym}
+-- Ground 12: it applies exactly where some count of a table, or some tally of a book, is too high, and it can be read from the highest count.
+use mathlib.Core.Path.{_≡_, refl, sym, _∙_}
 use mathlib.Core.Logic.{⊎-elim}
-use Prim.Native.Nat.{ℕ, zero, suc, _-_, _≤_, _<_}
+use Prim.Native.Nat.{ℕ, zero, suc, _-_, _≤_, _<_, max}
+use native.Mathlib.Decide.{decLe}
 use native.Mathlib.Omega.{arith}
 use mathlib.Core.Bool.{Bool, true, false, _||_, or-true, false≢true}
 use mathlib.Core.List.{List, [], _∷_, map, List·Memᴰ, List·Memᴰ·head, List·Memᴰ·tail, List·Memᴰ·not-nil, List·Memᴰ·cases-cons}
 use lib.ListN.{length, getD}
 use lib.Dec.{ltb}
-use borrow.Author.Tests.{ltb-true, ltb-false, lt-ltb}
+use borrow.Author.Tests.{ltb-true, lt-ltb, le-ltb}
 use Rattle.table.specs.Table.{full}
+use Rattle.table.specs.Needs.{highestOf}
 
 -- ---- counts in a table
 
@@ -30,20 +32,30 @@ full-where n (c ∷ cs) e = go (ltb (4294967295 - n) c) refl e (full-where n cs)
     go true f g ih = (0, omega arith, ltb-true _ _ f)
     go false f g ih = let (i, l, m) = ih g in (suc i, omega arith, m)
 
--- Where it is not full, each place has room.
+-- Where it does not apply, each count has room.
 pub not-full : (n : ℕ) (cs : List ℕ) (i : ℕ) → full n cs ≡ false → i < length cs → getD cs i 0 ≤ 4294967295 - n
-unfolding full
-not-full n [] i e h = absurd (omega arith)
-not-full n (c ∷ cs) i e h = go (ltb (4294967295 - n) c) refl e (not-full n cs)
+not-full n cs i e h =
+    elim (decLe (getD cs i 0) (4294967295 - n)) as (λ _. getD cs i 0 ≤ 4294967295 - n) [
+      | yes l ↦ l
+      | no l ↦ absurd (false≢true (sym e ∙ full-at n cs i h (omega arith)))
+    ]
+
+-- Ground 12 asks of the highest count alone.
+pub full-highest : (n : ℕ) (cs : List ℕ) → full n cs ≡ ltb (4294967295 - n) (highestOf cs)
+unfolding full highestOf
+full-highest n [] = sym (le-ltb (4294967295 - n) 0 (omega arith))
+full-highest n (c ∷ cs) = rw (full-highest n cs) (or-max (4294967295 - n) c (highestOf cs))
   where
-    go : (b : Bool) → ltb (4294967295 - n) c ≡ b → (b || full n cs) ≡ false → ((j : ℕ) → full n cs ≡ false → j < length cs → getD cs j 0 ≤ 4294967295 - n)
-        → getD (c ∷ cs) i 0 ≤ 4294967295 - n
-    go true f g ih = absurd (false≢true (sym g))
-    go false f g ih = at i h
-      where
-        at : (j : ℕ) → j < suc (length cs) → getD (c ∷ cs) j 0 ≤ 4294967295 - n
-        at zero l = ltb-false _ _ f
-        at (suc j) l = ih j g (omega arith)
+    or-max : (a b c : ℕ) → (ltb a b || ltb a c) ≡ ltb a (max b c)
+    or-max a b c =
+        elim (decLe b a) as (λ _. (ltb a b || ltb a c) ≡ ltb a (max b c)) [
+          | yes h ↦
+              elim (decLe c a) as (λ _. (ltb a b || ltb a c) ≡ ltb a (max b c)) [
+                | yes g ↦ rw (le-ltb a b h, le-ltb a c g) (sym (le-ltb a (max b c) (omega arith)))
+                | no g ↦ rw (le-ltb a b h, lt-ltb a c (omega arith)) (sym (lt-ltb a (max b c) (omega arith)))
+              ]
+          | no h ↦ rw (lt-ltb a b (omega arith)) (sym (lt-ltb a (max b c) (omega arith)))
+        ]
 
 -- ---- tallies in a book
 

@@ -12,9 +12,10 @@ pub mod TakenIn
 pub mod Clearing
 pub mod DemandThree
 pub mod Cases
--- Then what the functions' proofs cite. CountLoops: the loops over counts. Cuts, Gathering, BatchLaws: a file's windows, batch by batch. CallGrounds:
--- what the calls answer at each of their tests.
+-- Then what the functions' proofs cite. CountLoops: the loops over counts. Moving: the loop that moves letters. Cuts, Gathering, BatchLaws: a file's
+-- windows, batch by batch. CallGrounds: what the calls answer at each of their tests.
 pub mod CountLoops
+pub mod Moving
 pub mod Cuts
 pub mod Gathering
 pub mod BatchLaws

@@ -9,18 +9,18 @@ use lib.ListN.{length, take, drop, getD, length-map}
 use lib.Seq.{length-take-le, getD-take}
 use borrow.Author.Tests.{le-ltb}
 use Rattle.laws.proofs.Tests.{bool-ext}
-use Rattle.settings.specs.Grounds.{Ground, Outcome, given, refused, outcome}
+use Rattle.settings.specs.Grounds.{Ground, Outcome, given, refused, outcome, unlessRefused}
 use Rattle.settings.specs.Settings.{rankIn, mirrorOf, settingsGround}
 use Rattle.fasta.specs.declared.Numbers.{Numbers}
 use Rattle.fasta.specs.File.{fileNumbers}
-use Rattle.table.specs.Table.{classCount, placeOf, wins, places, bumps, addGround, unlessRefused, lateTable, tableGround, Added}
-use Rattle.table.specs.Book.{Book, lateBook, canonicalOnes, allWords, bookGround, bookAnswer, bookAfter}
+use Rattle.table.specs.Table.{classCount, placeOf, windowsOfFile, places, bumps, readyGround, addGround, tableFull, tableGround, Added}
+use Rattle.table.specs.Book.{Book, bookFull, canonicalOnes, allWords, bookGround, bookAnswer, bookAfter}
 use Rattle.table.specs.Demand.{sum, counts, Agrees}
 use Rattle.table.proofs.Bumps.{length-bumps, getD-bumps, drop-bumps, sum-bumps}
 use Rattle.table.proofs.Full.{full-at, full-where, full-of-member, full-member}
 use Rattle.table.proofs.WordLists.{listed, unlisted}
 use Rattle.table.proofs.FileWords.{windows-are-words}
-use Rattle.table.proofs.Classes.{place-below, one-place-a-class, occurrences-are-hits, places-below}
+use Rattle.table.proofs.Classes.{place-below, places-and-classes, occurrences-are-hits, places-below}
 
 -- How many windows a call takes in by its answer.
 abbrev pub taken : Outcome Numbers → ℕ → ℕ
@@ -33,27 +33,27 @@ pub record Stepped (letters : List ℕ) (k m : ℕ) (book : Book) (t file : List
   pub agrees : Agrees letters k m t′ (bookAfter letters k m book file)
   pub later : drop (classCount letters k m) t′ ≡ drop (classCount letters k m) t
   pub as-long : length t′ ≡ length t
-  pub grown : sum (counts letters k m t′) ≡ sum (counts letters k m t) + taken answer (length (wins letters k file))
+  pub grown : sum (counts letters k m t′) ≡ sum (counts letters k m t) + taken answer (length (windowsOfFile letters k file))
 
 module _ (letters : List ℕ) (k m : ℕ) (good : settingsGround letters k m ≡ none) where
   -- Ground 12 is read alike from the counts and from the tallies.
-  late-same : (t : List ℕ) (book : Book) (file : List ℕ) → Agrees letters k m t book → lateTable letters k m t file ≡ lateBook letters k m book file
-  late-same t book file A = bool-ext (lateTable letters k m t file) (lateBook letters k m book file) to from
+  full-same : (t : List ℕ) (book : Book) (file : List ℕ) → Agrees letters k m t book → tableFull letters k m t file ≡ bookFull letters k m book file
+  full-same t book file A = bool-ext (tableFull letters k m t file) (bookFull letters k m book file) to from
     where
       n : ℕ
-      n = length (wins letters k file)
+      n = length (windowsOfFile letters k file)
 
-      to : lateTable letters k m t file ≡ true → lateBook letters k m book file ≡ true
+      to : tableFull letters k m t file ≡ true → bookFull letters k m book file ≡ true
       to e =
           let (i, l, g) = full-where n (take (classCount letters k m) t) e in
           let lt : i < classCount letters k m = omega (arith, length-take-le (classCount letters k m) t (A .one-place-a-class)) in
-          let (w, c, at) = one-place-a-class letters k m good .every-place-stands-for-a-class i lt in
+          let (w, c, at) = places-and-classes letters k m good .every-place-stands-for-a-class i lt in
           let same : getD (take (classCount letters k m) t) i 0 ≡ book w =
           getD-take (classCount letters k m) t i 0 lt ∙ ap (λ (j : ℕ). getD t j 0) (sym at) ∙ A .each-count-is-its-class's-tally w c in
           full-of-member n book (canonicalOnes (length letters) (mirrorOf m) (allWords (length letters) k)) w
           (listed (length letters) (mirrorOf m) k w c) (rw same at g)
 
-      from : lateBook letters k m book file ≡ true → lateTable letters k m t file ≡ true
+      from : bookFull letters k m book file ≡ true → tableFull letters k m t file ≡ true
       from e =
           let (w, at, g) = full-member n book (canonicalOnes (length letters) (mirrorOf m) (allWords (length letters) k)) e in
           let c = unlisted (length letters) (mirrorOf m) k w at in
@@ -64,15 +64,15 @@ module _ (letters : List ℕ) (k m : ℕ) (good : settingsGround letters k m ≡
           (omega (arith, length-take-le (classCount letters k m) t (A .one-place-a-class))) (rw same at g)
 
   -- A table with a place for each class is long enough, as the book is.
-  room-same : (room : ℕ) (late : Bool) (file : List ℕ) → classCount letters k m ≤ room
-      → addGround letters k m room late file ≡ addGround letters k m (classCount letters k m) late file
-  unfolding addGround
-  room-same room late file h = rw (le-ltb room (classCount letters k m) h, le-ltb (classCount letters k m) (classCount letters k m) (omega arith))
+  room-same : (room : ℕ) (isFull : Bool) (file : List ℕ) → classCount letters k m ≤ room
+      → addGround letters k m room isFull file ≡ addGround letters k m (classCount letters k m) isFull file
+  unfolding addGround readyGround
+  room-same room isFull file h = rw (le-ltb room (classCount letters k m) h, le-ltb (classCount letters k m) (classCount letters k m) (omega arith))
 
   ground-same : (t : List ℕ) (book : Book) (file : List ℕ) → Agrees letters k m t book → tableGround letters k m t file ≡ bookGround letters k m book file
   ground-same t book file A =
-      ap (λ (late : Bool). addGround letters k m (length t) late file) (late-same t book file A)
-      ∙ room-same (length t) (lateBook letters k m book file) file (A .one-place-a-class)
+      ap (λ (isFull : Bool). addGround letters k m (length t) isFull file) (full-same t book file A)
+      ∙ room-same (length t) (bookFull letters k m book file) file (A .one-place-a-class)
 
   -- The table and the book after an add to which the ground g applies, or none.
   step-by : (t : List ℕ) (book : Book) (file : List ℕ) (g : Option Ground) → bookGround letters k m book file ≡ g → Agrees letters k m t book
@@ -94,14 +94,14 @@ module _ (letters : List ℕ) (k m : ℕ) (good : settingsGround letters k m ≡
               one-place-a-class = omega (arith, kept, A .one-place-a-class);
               each-count-is-its-class's-tally = λ w c.
                   let lt : placeOf letters k m w < length t = omega (arith, place-below letters k m good w (c .word), A .one-place-a-class) in
-                  let hits-are = occurrences-are-hits letters k m good w (wins letters k file) (c .word) (windows-are-words letters k file) in
+                  let hits-are = occurrences-are-hits letters k m good w (windowsOfFile letters k file) (c .word) (windows-are-words letters k file) in
                   rw e (getD-bumps (places letters k m file) t (placeOf letters k m w) lt ∙ rw (A .each-count-is-its-class's-tally w c, hits-are));
             };
         later = drop-bumps (classCount letters k m) (places letters k m file) t (places-below letters k m good file);
         as-long = kept;
         grown =
             sum-bumps (classCount letters k m) (places letters k m file) t (places-below letters k m good file) (A .one-place-a-class)
-            ∙ ap (λ (n : ℕ). sum (counts letters k m t) + n) (length-map (wins letters k file) (placeOf letters k m));
+            ∙ ap (λ (n : ℕ). sum (counts letters k m t) + n) (length-map (windowsOfFile letters k file) (placeOf letters k m));
       }
 
   -- One add on a table that agrees with a book: what `Stepped` says.

@@ -11,9 +11,9 @@ use Rattle.encoding.specs.Words.{Mirror, IsWord}
 use Rattle.fasta.specs.declared.Numbers.{Numbers}
 use Rattle.fasta.specs.File.{fileNumbers, fileWindows}
 use Rattle.fasta.proofs.Runs.{letters-are}
-use Rattle.table.specs.Table.{wins}
+use Rattle.table.specs.Table.{windowsOfFile}
 use Rattle.table.specs.Book.{hits, Book, bookGround, bookAfter, bookAnswers, bookAfterAll}
-use Rattle.table.specs.Demand.{takenIn, allWins, addedUp, lettersOf, foreignOf, edgeOf}
+use Rattle.table.specs.Demand.{takenIn, windowsOfFiles, addedUp, lettersOf, foreignOf, edgeOf}
 use Rattle.laws.specs.Each.{Each}
 use Rattle.table.proofs.Each.{each-append}
 use Rattle.table.proofs.FileWords.{windows-are-words}
@@ -26,33 +26,35 @@ hits-append s m w (u ∷ us) vs = omega (arith, hits-append s m w us vs)
 
 module _ (letters : List ℕ) (k : ℕ) where
   -- The windows of some files are words of k letters.
-  pub all-windows-are-words : (files : List (List ℕ)) → Each (IsWord (length letters) k) (allWins letters k files)
-  unfolding allWins
+  pub all-windows-are-words : (files : List (List ℕ)) → Each (IsWord (length letters) k) (windowsOfFiles letters k files)
+  unfolding windowsOfFiles
   all-windows-are-words [] = tt
   all-windows-are-words (file ∷ files) =
-      each-append (IsWord (length letters) k) (wins letters k file) (allWins letters k files) (windows-are-words letters k file) (all-windows-are-words files)
+      each-append (IsWord (length letters) k) (windowsOfFile letters k file) (windowsOfFiles letters k files)
+      (windows-are-words letters k file) (all-windows-are-words files)
 
   -- One call more takes in the windows of its file, or none.
   pub taken-more : (answer : Outcome Numbers) (file : List ℕ) (files : List (List ℕ)) (answers : List (Outcome Numbers))
-      → length (allWins letters k (takenIn (file ∷ files) (answer ∷ answers)))
-      ≡ taken answer (length (wins letters k file)) + length (allWins letters k (takenIn files answers))
-  unfolding takenIn allWins
-  taken-more (given n) file files answers = length-append (wins letters k file) (allWins letters k (takenIn files answers))
+      → length (windowsOfFiles letters k (takenIn (file ∷ files) (answer ∷ answers)))
+      ≡ taken answer (length (windowsOfFile letters k file)) + length (windowsOfFiles letters k (takenIn files answers))
+  unfolding takenIn windowsOfFiles
+  taken-more (given n) file files answers = length-append (windowsOfFile letters k file) (windowsOfFiles letters k (takenIn files answers))
   taken-more (refused g) file files answers = omega arith
 
   -- The windows of some files are as many as their letters less the foreign ones and the edge letters, each added up.
   pub added-up : (files : List (List ℕ)) → 1 ≤ k
-      → addedUp (lettersOf letters k) files ≡ length (allWins letters k files) + addedUp (foreignOf letters k) files + addedUp (edgeOf letters k) files
-  unfolding addedUp allWins wins
+      → addedUp (lettersOf letters k) files ≡ length (windowsOfFiles letters k files) + addedUp (foreignOf letters k) files + addedUp (edgeOf letters k) files
+  unfolding addedUp windowsOfFiles windowsOfFile
   added-up [] h = omega arith
   added-up (file ∷ files) h =
-      omega (arith, letters-are (rankIn letters) k file h, length-append (fileWindows (rankIn letters) k file) (allWins letters k files), added-up files h)
+      let both = length-append (fileWindows (rankIn letters) k file) (windowsOfFiles letters k files) in
+      omega (arith, letters-are (rankIn letters) k file h, added-up files h)
 
   -- A tally is what it was, and the windows of the files taken in that are of its class.
   pub tally-is-hits : (m : ℕ) (book : Book) (files : List (List ℕ)) (w : List ℕ)
       → bookAfterAll letters k m book files w
-      ≡ book w + hits (length letters) (mirrorOf m) w (allWins letters k (takenIn files (bookAnswers letters k m book files)))
-  unfolding bookAfterAll bookAnswers takenIn allWins hits
+      ≡ book w + hits (length letters) (mirrorOf m) w (windowsOfFiles letters k (takenIn files (bookAnswers letters k m book files)))
+  unfolding bookAfterAll bookAnswers takenIn windowsOfFiles hits
   tally-is-hits m book [] w = omega arith
   tally-is-hits m book (file ∷ files) w = go (bookGround letters k m book file) refl (tally-is-hits m (bookAfter letters k m book file) files w)
     where
@@ -63,10 +65,10 @@ module _ (letters : List ℕ) (k : ℕ) where
       more = takenIn files (bookAnswers letters k m after files)
 
       go : (g : Option Ground) → bookGround letters k m book file ≡ g
-          → bookAfterAll letters k m after files w ≡ after w + hits (length letters) (mirrorOf m) w (allWins letters k more)
+          → bookAfterAll letters k m after files w ≡ after w + hits (length letters) (mirrorOf m) w (windowsOfFiles letters k more)
           → bookAfterAll letters k m after files w
           ≡ book w
           + hits (length letters) (mirrorOf m) w
-          (allWins letters k (takenIn (file ∷ files) (outcome g (fileNumbers (rankIn letters) k file) ∷ bookAnswers letters k m after files)))
-      go none e ih = ih ∙ rw (e, hits-append (length letters) (mirrorOf m) w (wins letters k file) (allWins letters k more)) (omega arith)
+          (windowsOfFiles letters k (takenIn (file ∷ files) (outcome g (fileNumbers (rankIn letters) k file) ∷ bookAnswers letters k m after files)))
+      go none e ih = ih ∙ rw (e, hits-append (length letters) (mirrorOf m) w (windowsOfFile letters k file) (windowsOfFiles letters k more)) (omega arith)
       go (some g) e ih = ih ∙ rw e

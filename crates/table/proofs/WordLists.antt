@@ -5,7 +5,7 @@ use Prim.Native.Nat.{ℕ, zero, suc, _<_}
 use native.Mathlib.Decide.{ℕ-discrete}
 use native.Mathlib.Omega.{arith}
 use mathlib.Core.Bool.{Bool, true, false, cond, _&&_, _||_, or-true, false≢true}
-use mathlib.Core.List.{List, [], _∷_, _++_, map, List·Memᴰ, List·Memᴰ·head, List·Memᴰ·tail, List·Memᴰ·not-nil, List·Memᴰ·cases-cons, List·Memᴰ·append-cases, Memᴰ·append-left, Memᴰ·append-right}
+use mathlib.Core.List.{List, [], _∷_, _++_, map, List·Memᴰ, List·Memᴰ·head, List·Memᴰ·tail, List·Memᴰ·not-nil, List·Memᴰ·cases-cons, List·Memᴰ·append-cases, Memᴰ·append-left, Memᴰ·append-right, Memᴰ·map, Memᴰ·of-map}
 use lib.ListN.{length}
 use lib.Dec.{eqb}
 use borrow.Author.Tests.{eqb-true, eq-eqb}
@@ -15,13 +15,13 @@ use Rattle.table.specs.Book.{sameWord, sameClass, CanonicalWord, withFro
 -- ---- the tests
 
 -- A word is equal to itself by the test.
-pub same-word : (w : List ℕ) → sameWord w w ≡ true
+same-word : (w : List ℕ) → sameWord w w ≡ true
 unfolding sameWord
 same-word [] = refl
 same-word (a ∷ w) = rw (eq-eqb a a refl) (same-word w)
 
 -- Words that the test takes for equal are.
-pub word-same : (v w : List ℕ) → sameWord v w ≡ true → v ≡ w
+word-same : (v w : List ℕ) → sameWord v w ≡ true → v ≡ w
 unfolding sameWord
 word-same [] [] e = refl
 word-same [] (b ∷ w) e = absurd (false≢true e)
@@ -51,28 +51,12 @@ same-class s m w v =
 
 -- ---- all words
 
-in-map : (x : ℕ) (w : List ℕ) (ws : List (List ℕ)) → List·Memᴰ w ws → List·Memᴰ (x ∷ w) (map (_∷_ x) ws)
-in-map x w [] m = absurd (List·Memᴰ·not-nil m)
-in-map x w (v ∷ ws) m =
-    ⊎-elim
-    (λ (e : w ≡ v). List·Memᴰ·head (ap (_∷_ x) e))
-    (λ (r : List·Memᴰ w ws). List·Memᴰ·tail (in-map x w ws r))
-    (List·Memᴰ·cases-cons m)
-
-of-map : (x : ℕ) (v : List ℕ) (ws : List (List ℕ)) → List·Memᴰ v (map (_∷_ x) ws) → (w : List ℕ) × (List·Memᴰ w ws) × (v ≡ x ∷ w)
-of-map x v [] m = absurd (List·Memᴰ·not-nil m)
-of-map x v (u ∷ ws) m =
-    ⊎-elim
-    (λ (e : v ≡ x ∷ u). (u, List·Memᴰ·head refl, e))
-    (λ (r : List·Memᴰ v (map (_∷_ x) ws)). let (w, n, e) = of-map x v ws r in (w, List·Memᴰ·tail n, e))
-    (List·Memᴰ·cases-cons m)
-
 in-fronts : (n x : ℕ) (w : List ℕ) (ws : List (List ℕ)) → x < n → List·Memᴰ w ws → List·Memᴰ (x ∷ w) (withFront n ws)
 unfolding withFront
 in-fronts zero x w ws h m = absurd (omega arith)
 in-fronts (suc n) x w ws h m =
     elim (ℕ-discrete x n) as (λ _. List·Memᴰ (x ∷ w) (withFront n ws ++ map (_∷_ n) ws)) [
-      | yes e ↦ rw e (Memᴰ·append-right (withFront n ws) (in-map n w ws m))
+      | yes e ↦ rw e (Memᴰ·append-right (withFront n ws) (Memᴰ·map (_∷_ n) m))
       | no e ↦ Memᴰ·append-left (map (_∷_ n) ws) (in-fronts n x w ws (omega arith) m)
     ]
 
@@ -82,7 +66,7 @@ of-fronts zero v ws m = absurd (List·Memᴰ·not-nil m)
 of-fronts (suc n) v ws m =
     ⊎-elim
     (λ (r : List·Memᴰ v (withFront n ws)). let (x, w, l, q, e) = of-fronts n v ws r in (x, w, omega arith, q, e))
-    (λ (r : List·Memᴰ v (map (_∷_ n) ws)). let (w, q, e) = of-map n v ws r in (n, w, omega arith, q, e))
+    (λ (r : List·Memᴰ v (map (_∷_ n) ws)). let (w, q, e) = Memᴰ·of-map (_∷_ n) ws r in (n, w, omega arith, q, sym e))
     (List·Memᴰ·append-cases (withFront n ws) m)
 
 in-all-words : (s k : ℕ) (w : List ℕ) → length w ≡ k → Ranks s w → List·Memᴰ w (allWords s k)

@@ -7,11 +7,11 @@ use mathlib.Core.List.{List, [], _∷_, _++_, map}
 use Prim.Native.Nat.{ℕ, zero, suc, _+_}
 use lib.ListN.{length}
 use lib.Dec.{eqb}
-use Rattle.settings.specs.Grounds.{Ground, Outcome}
+use Rattle.settings.specs.Grounds.{Ground, Outcome, unlessRefused}
 use Rattle.settings.specs.Settings.{mirrorOf}
 use Rattle.encoding.specs.Words.{Mirror, IsWord, mirror, canonical}
 use Rattle.fasta.specs.declared.Numbers.{Numbers}
-use Rattle.table.specs.Table.{classCount, wins, full, addGround, addAnswer, unlessRefused}
+use Rattle.table.specs.Table.{classCount, windowsOfFile, full, addGround, addAnswer}
 
 -- ---- words and classes
 
@@ -67,21 +67,21 @@ tallies s m k book = map book (canonicalOnes s m (allWords s k))
 
 -- "Where any ground for refusing applies to an add (12 read with the tallies instead of the table's places)": the book has room for each
 -- class, so that ground 7 never applies to it; neither did it to the clearing.
-abbrev pub lateBook : (letters : List ℕ) (k mirror : ℕ) → Book → (file : List ℕ) → Bool
-lateBook letters k m book file = full (length (wins letters k file)) (tallies (length letters) (mirrorOf m) k book)
+abbrev pub bookFull : (letters : List ℕ) (k mirror : ℕ) → Book → (file : List ℕ) → Bool
+bookFull letters k m book file = full (length (windowsOfFile letters k file)) (tallies (length letters) (mirrorOf m) k book)
 
 abbrev pub bookGround : (letters : List ℕ) (k mirror : ℕ) → Book → (file : List ℕ) → Option Ground
-bookGround letters k m book file = addGround letters k m (classCount letters k m) (lateBook letters k m book file) file
+bookGround letters k m book file = addGround letters k m (classCount letters k m) (bookFull letters k m book file) file
 
 -- "the book answers the number and P that the rules for the grounds give", "and the book answers the file's numbers"
 abbrev pub bookAnswer : (letters : List ℕ) (k mirror : ℕ) → Book → (file : List ℕ) → Outcome Numbers
-bookAnswer letters k m book file = addAnswer letters k m (classCount letters k m) (lateBook letters k m book file) file
+bookAnswer letters k m book file = addAnswer letters k m (classCount letters k m) (bookFull letters k m book file) file
 
 -- "no tally changes. Otherwise .. each class's tally grows by the number of the file's windows equal to its canonical word or to that
 -- word's mirror"
 abbrev pub bookAfter : (letters : List ℕ) (k mirror : ℕ) → Book → (file : List ℕ) → Book
 bookAfter letters k m book file w =
-    unlessRefused (bookGround letters k m book file) (book w + hits (length letters) (mirrorOf m) w (wins letters k file)) (book w)
+    unlessRefused (bookGround letters k m book file) (book w + hits (length letters) (mirrorOf m) w (windowsOfFile letters k file)) (book w)
 
 -- ---- a list of adds
 

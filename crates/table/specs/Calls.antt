@@ -1,21 +1,15 @@
--- How the answers of the table calls are read, and what a clearing with two adds after it promises.
+-- What a clearing with two adds after it promises.
 use mathlib.Core.Path.{_≡_}
 use mathlib.Core.Option.{none}
 use mathlib.Core.List.{List, [], _∷_}
 use Prim.Native.Nat.{ℕ}
 use lib.ListN.{length}
-use Rattle.settings.specs.Grounds.{Outcome, given, refused, groundOf, ofFilling}
+use Rattle.settings.specs.Grounds.{Outcome, ofFilling}
 use Rattle.fasta.specs.declared.Numbers.{Numbers}
-use Rattle.table.specs.declared.Answer.{Answer}
-use Rattle.table.specs.declared.Answer.the-variants.{Taken, Refused}
+use Rattle.fasta.specs.Scan.{ofAnswer}
 use Rattle.table.specs.declared.Survey.{Survey}
 use Rattle.table.specs.Table.{clearGround, Clears}
 use Rattle.table.specs.Demand.{Adds, DemandThree}
-
--- The answer of an add as this paper's value: the file's numbers, or the refusal's number and P.
-abbrev pub ofAnswer : Answer → Outcome Numbers
-ofAnswer (Taken n) = given n
-ofAnswer (Refused f) = refused (groundOf f)
 
 -- The answers of two adds.
 abbrev pub twoAnswers : Survey → List (Outcome Numbers)

@@ -10,7 +10,7 @@ use Rattle.settings.specs.Settings.{rankIn, mirrorOf}
 use Rattle.encoding.specs.Words.{IsWord, mirror}
 use Rattle.fasta.specs.declared.Numbers.{Numbers}
 use Rattle.fasta.specs.File.{fileNumbers}
-use Rattle.table.specs.Table.{classCount, placeOf, wins, Added}
+use Rattle.table.specs.Table.{classCount, placeOf, windowsOfFile, Added}
 use Rattle.table.specs.Book.{CanonicalWord, hits, Book, clearedBook, bookAnswers, bookAfterAll}
 
 -- ---- a list of calls
@@ -34,9 +34,9 @@ takenIn (file ∷ files) (given n ∷ answers) = file ∷ takenIn files answers
 takenIn (file ∷ files) (refused g ∷ answers) = takenIn files answers
 
 -- The windows of some files.
-unfoldable pub allWins : (letters : List ℕ) (k : ℕ) → List (List ℕ) → List (List ℕ)
-allWins letters k [] = []
-allWins letters k (file ∷ files) = wins letters k file ++ allWins letters k files
+unfoldable pub windowsOfFiles : (letters : List ℕ) (k : ℕ) → List (List ℕ) → List (List ℕ)
+windowsOfFiles letters k [] = []
+windowsOfFiles letters k (file ∷ files) = windowsOfFile letters k file ++ windowsOfFiles letters k files
 
 -- A number of each file "added up over the files".
 unfoldable pub addedUp : (List ℕ → ℕ) → List (List ℕ) → ℕ
@@ -68,7 +68,7 @@ pub record Kept (letters : List ℕ) (k mirror : ℕ) (book : Book) (t₀ : List
   pub later-places-never-change : drop (classCount letters k mirror) t ≡ drop (classCount letters k mirror) t₀
   pub as-many-places-as-before : length t ≡ length t₀
   pub counts-grow-by-the-windows-taken-in :
-      sum (counts letters k mirror t) ≡ sum (counts letters k mirror t₀) + length (allWins letters k (takenIn files answers))
+      sum (counts letters k mirror t) ≡ sum (counts letters k mirror t₀) + length (windowsOfFiles letters k (takenIn files answers))
 
 -- "Every place below the number of classes stands for just one class, every class has its place there, and two words share a place exactly
 -- when they are equal or mirrors of each other."
@@ -99,7 +99,7 @@ pub record DemandThree (letters : List ℕ) (k mirror : ℕ) (t₀ : List ℕ) (
   pub later-places-never-change : drop (classCount letters k mirror) t ≡ drop (classCount letters k mirror) t₀
   pub as-many-places-as-before : length t ≡ length t₀
   pub places-and-classes : OnePlaceAClass letters k mirror
-  pub sum-is-the-windows-taken-in : sum (counts letters k mirror t) ≡ length (allWins letters k (takenIn files answers))
+  pub sum-is-the-windows-taken-in : sum (counts letters k mirror t) ≡ length (windowsOfFiles letters k (takenIn files answers))
   -- "sum of the counts = letters − foreign letters − edge letters, each added up over the files taken in". Numbers here end at 0, so the last
   -- field says that neither subtraction is cut off.
   pub sum-of-the-counts :
@@ -117,5 +117,5 @@ abbrev pub SameCountsExactlyWhen : (letters : List ℕ) (k mirror : ℕ) (files 
 SameCountsExactlyWhen letters k m files answers t files′ answers′ t′ =
     (counts letters k m t ≡ counts letters k m t′)
     ↔ ((w : List ℕ) → IsWord (length letters) k w
-    → hits (length letters) (mirrorOf m) w (allWins letters k (takenIn files answers))
-    ≡ hits (length letters) (mirrorOf m) w (allWins letters k (takenIn files′ answers′)))
+    → hits (length letters) (mirrorOf m) w (windowsOfFiles letters k (takenIn files answers))
+    ≡ hits (length letters) (mirrorOf m) w (windowsOfFiles letters k (takenIn files′ answers′)))

@@ -5,7 +5,7 @@ use mathlib.Core.Bool.{Bool, true, false, cond}
 use mathlib.Core.Option.{Option, none, some}
 use mathlib.Core.List.{List, [], _∷_, _++_, map}
 use lib.ListN.{length, getD, take, drop, replicate}
-use Rattle.settings.specs.Grounds.{Outcome, ground, groundAt, tooShort, outcome, Overwrites, _orElse_}
+use Rattle.settings.specs.Grounds.{Outcome, ground, groundAt, tooShort, outcome, unlessRefused, Overwrites, _orElse_}
 use Rattle.settings.specs.Settings.{rankIn}
 use Rattle.encoding.specs.Words.{Ranks}
 use Rattle.encoding.specs.Codes.{code}
@@ -18,7 +18,7 @@ use Rattle.fasta.specs.File.{itemsFrom, fileFault, fileNumbers}
 use Rattle.settings.specs.RankTables.{rankByTable, RanksBelow}
 use Rattle.sequence.specs.declared.kernels.Coder.{Coder}
 use Rattle.laws.specs.Windows.{windows}
-use Rattle.table.specs.Table.{bumps, places, full, tooMany, unlessRefused, lateTable}
+use Rattle.table.specs.Table.{bumps, places, full, tooMany, tableFull}
 use Rattle.table.specs.declared.batches.Mark.{Mark}
 use Rattle.table.specs.declared.batches.Gathered.{Gathered}
 
@@ -93,8 +93,8 @@ pub record CountedUnlessFull (n : Numbers) (places counts : List ℕ) (answer : 
 
 -- An add to which only ground 12 may still apply.
 pub record AddedUnlessFull (letters : List ℕ) (k mirror : ℕ) (t file : List ℕ) (answer : Outcome Numbers) (t′ : List ℕ) : Type 0 where
-  pub answers : answer ≡ outcome (ground 12 (lateTable letters k mirror t file)) (fileNumbers (rankIn letters) k file)
-  pub leaves : t′ ≡ unlessRefused (ground 12 (lateTable letters k mirror t file)) (bumps t (places letters k mirror file)) t
+  pub answers : answer ≡ outcome (ground 12 (tableFull letters k mirror t file)) (fileNumbers (rankIn letters) k file)
+  pub leaves : t′ ≡ unlessRefused (ground 12 (tableFull letters k mirror t file)) (bumps t (places letters k mirror file)) t
 
 -- The scan found no fault, and these numbers.
 pub record CleanFile (letters : List ℕ) (k : ℕ) (file : List ℕ) (n : Numbers) : Type 0 where

@@ -1,12 +1,12 @@
 -- Document 01, "Table" and "Grounds for refusing": what clearing and adding answer, and the table that they leave.
 use mathlib.Core.Path.{_≡_}
 use mathlib.Core.Bool.{Bool, false, _||_}
-use mathlib.Core.Option.{Option, none, some}
+use mathlib.Core.Option.{Option}
 use mathlib.Core.List.{List, [], _∷_, map}
 use Prim.Native.Nat.{ℕ, _+_, _-_}
 use lib.ListN.{length, take, getD, set, replicate}
 use lib.Dec.{ltb}
-use Rattle.settings.specs.Grounds.{Ground, Outcome, ground, groundAt, tooShort, outcome, Overwrites, _orElse_}
+use Rattle.settings.specs.Grounds.{Ground, Outcome, ground, groundAt, tooShort, outcome, unlessRefused, Overwrites, _orElse_}
 use Rattle.settings.specs.Settings.{rankIn, mirrorOf, classes, settingsGround}
 use Rattle.encoding.specs.Codes.{code}
 use Rattle.fasta.specs.declared.Numbers.{Numbers}
@@ -25,8 +25,8 @@ abbrev pub placeOf : (letters : List ℕ) (k mirror : ℕ) (w : List ℕ) → �
 placeOf letters k m w = code (length letters) (mirrorOf m) k w
 
 -- A file's words, which are its windows: the one name that the table, the tally book and demand 3 have for them.
-unfoldable pub wins : (letters : List ℕ) (k : ℕ) (file : List ℕ) → List (List ℕ)
-wins letters k file = fileWindows (rankIn letters) k file
+unfoldable pub windowsOfFile : (letters : List ℕ) (k : ℕ) (file : List ℕ) → List (List ℕ)
+windowsOfFile letters k file = fileWindows (rankIn letters) k file
 
 -- ---- counts
 
@@ -41,7 +41,7 @@ bumps t (q ∷ qs) = bumps (bump t q) qs
 
 -- The places of a file's windows.
 abbrev pub places : (letters : List ℕ) (k mirror : ℕ) (file : List ℕ) → List ℕ
-places letters k m file = map (placeOf letters k m) (wins letters k file)
+places letters k m file = map (placeOf letters k m) (windowsOfFile letters k file)
 
 -- ---- grounds
 
@@ -55,15 +55,18 @@ full n (c ∷ cs) = ltb (4294967295 - n) c || full n cs
 unfoldable pub tooMany : (classes : ℕ) → Bool
 tooMany n = ltb 16777216 n
 
--- The grounds for refusing an add, in number order: 1 to 4; 6, of the file or of the classes; 7, the table's room being shorter than the
--- classes; 10 or 11; 12, of which `late` says whether it applies: the table and the book each read it from their own counts.
-unfoldable pub addGround : (letters : List ℕ) (k mirror room : ℕ) (late : Bool) (file : List ℕ) → Option Ground
-addGround letters k m room late file =
+-- The grounds for refusing an add before its file is read: 1 to 4; 6, of the file or of the classes; 7, the table's room being shorter than
+-- the classes.
+unfoldable pub readyGround : (letters : List ℕ) (k mirror room : ℕ) (file : List ℕ) → Option Ground
+readyGround letters k m room file =
     settingsGround letters k m
     orElse ground 6 (tooLong file || tooMany (classCount letters k m))
     orElse groundAt 7 (tooShort room (classCount letters k m))
-    orElse fileFault file
-    orElse ground 12 late
+
+-- The grounds for refusing an add, in number order: those; 10 or 11; 12, of which `isFull` says whether it applies: the table and the book
+-- each read it from their own counts.
+unfoldable pub addGround : (letters : List ℕ) (k mirror room : ℕ) (isFull : Bool) (file : List ℕ) → Option Ground
+addGround letters k m room isFull file = readyGround letters k m room file orElse fileFault file orElse ground 12 isFull
 
 -- The grounds for refusing a clearing: 1 to 4, 6 and 7.
 unfoldable pub clearGround : (letters : List ℕ) (k mirror room : ℕ) → Option Ground
@@ -74,28 +77,23 @@ clearGround letters k m room =
 
 -- ---- the calls
 
--- What a call leaves: something new where no ground applies, and else what was there: "all change no buffer".
-abbrev pub unlessRefused : {A : Type 0} → Option Ground → (new old : A) → A
-unlessRefused none new old = new
-unlessRefused (some g) new old = old
-
 -- "Each table call on a file answers with its records (header lines), letters (foreign ones too), foreign, and edge and windows over all
 -- runs", or with the first ground that applies. The table's answers and the book's are by this one definition.
-abbrev pub addAnswer : (letters : List ℕ) (k mirror room : ℕ) (late : Bool) (file : List ℕ) → Outcome Numbers
-addAnswer letters k m room late file = outcome (addGround letters k m room late file) (fileNumbers (rankIn letters) k file)
+abbrev pub addAnswer : (letters : List ℕ) (k mirror room : ℕ) (isFull : Bool) (file : List ℕ) → Outcome Numbers
+addAnswer letters k m room isFull file = outcome (addGround letters k m room isFull file) (fileNumbers (rankIn letters) k file)
 
 -- Ground 12 as an add reads it: from the table's places, those of all classes.
-abbrev pub lateTable : (letters : List ℕ) (k mirror : ℕ) (t file : List ℕ) → Bool
-lateTable letters k m t file = full (length (wins letters k file)) (take (classCount letters k m) t)
+abbrev pub tableFull : (letters : List ℕ) (k mirror : ℕ) (t file : List ℕ) → Bool
+tableFull letters k m t file = full (length (windowsOfFile letters k file)) (take (classCount letters k m) t)
 
 -- The grounds of an add, 12 read from the table's places.
 abbrev pub tableGround : (letters : List ℕ) (k mirror : ℕ) (t file : List ℕ) → Option Ground
-tableGround letters k m t file = addGround letters k m (length t) (lateTable letters k m t file) file
+tableGround letters k m t file = addGround letters k m (length t) (tableFull letters k m t file) file
 
 -- The contract of adding a file to the table t: what is answered, and the table t′ that is left. That "Later places never change" follows,
 -- since the places of words are below the number of classes.
 pub record Added (letters : List ℕ) (k mirror : ℕ) (t file : List ℕ) (answer : Outcome Numbers) (t′ : List ℕ) : Type 0 where
-  pub answers : answer ≡ addAnswer letters k mirror (length t) (lateTable letters k mirror t file) file
+  pub answers : answer ≡ addAnswer letters k mirror (length t) (tableFull letters k mirror t file) file
   pub leaves : t′ ≡ unlessRefused (tableGround letters k mirror t file) (bumps t (places letters k mirror file)) t
 
 -- The contract of clearing the table t: "Clearing sets the first places, one a class, to 0", and it "answers how many places it set".

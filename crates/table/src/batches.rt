@@ -34,6 +34,7 @@ struct Gathered {
     ended: bool,
 }
 
+// What a letter does to the present run, by its rank in the rank table, where 255 stands for no letter.
 fn rank_mark(rank: u8) -> Mark
     ensures { λ r. ⌜ r ≡ markOfRank (asRank rank) ⌝ }
 {
@@ -52,6 +53,7 @@ fn rank_mark(rank: u8) -> Mark
     }
 }
 
+// What an item of the file does to the present run.
 fn mark_of(it: Item, table: &[u8; 256]) -> Mark
     ensures { λ r. ⌜ r ≡ markOf (rankByTable (now (table .entry))) it ⌝ }
 {
@@ -75,7 +77,7 @@ fn mark_of(it: Item, table: &[u8; 256]) -> Mark
     }
 }
 
-// An answer of `gather`.
+// An answer of `gather`. As a call, so that the contract equates the whole struct at each of the three places where `gather` ends.
 fn gathered_to(at: usize, mode: Mode, letters: usize, ended: bool) -> Gathered
     ensures { λ r. ⌜ r ≡ record { at = at; mode = mode; letters = letters; ended = ended } ⌝ }
 {
@@ -87,7 +89,7 @@ fn gathered_to(at: usize, mode: Mode, letters: usize, ended: bool) -> Gathered
     }
 }
 
-// Gathers letters of one run behind the first n of the array, from the place `from` of the file on. A byte that neither is a letter nor
+// Gathers letters of one run behind the first `letters` of the array, from the place `from` of the file on. A byte that neither is a letter nor
 // ends the run is written too, as rank 0, and overwritten by the next: that saves a branch that could not be foreseen. A full array ends no run.
 fn gather(
     file: &[u8],
@@ -145,17 +147,11 @@ fn carry(array: &mut [u8], n: usize, k: usize, ended: bool) -> usize
     k - 1
 }
 
+// Room for the codes of a batch.
 fn no_codes() -> [u64; 1024]
     ensures { λ r. ⌜ length r ≡ 1024 ⌝ }
 {
     [0u64; 1024]
-}
-
-fn window_count(n: usize, k: usize) -> usize
-    requires { ⌜ (n ≤ 1024) × (1 ≤ k) ⌝ }
-    ensures { λ r. ⌜ r ≡ n + 1 - k ⌝ }
-{
-    if n < k { 0 } else { n - k + 1 }
 }
 
 // Counts the windows of some letters of a run.
@@ -170,10 +166,11 @@ fn count_batch(counts: &mut [u32], ranks: &[u8], c: Coder, powers: &[u64; 64])
 {
     let mut codes = no_codes();
     fill_codes(ranks, c, powers, &mut codes);
-    let n = window_count(ranks.len(), c.k);
+    let n = sequence::window_count(ranks.len(), c.k);
     count_codes(counts, &codes[..n]);
 }
 
+// Room for the letters of a batch.
 fn no_ranks() -> [u8; 1024]
     ensures { λ r. ⌜ length r ≡ 1024 ⌝ }
 {

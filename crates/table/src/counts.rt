@@ -20,6 +20,7 @@ pub fn set_zero(table: &mut [u32], n: usize)
     }
 }
 
+// The larger of two counts.
 fn larger(a: u32, b: u32) -> u32
     ensures { λ r. ⌜ r ≡ max a b ⌝ }
 {

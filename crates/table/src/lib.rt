@@ -1,10 +1,10 @@
 // The table of counts, one place a class: clearing it, and adding files to it. What holds of a list of adds, demand 3, is stated in
-// specs/Demand.antt; `survey_two` carries it in its contract.
+// specs/Demand.antt; `survey_two` has it in its contract.
 mod batches;
 mod counts;
 
+use fasta::Answer;
 use fasta::Numbers;
-use fasta::Scanned;
 use sequence::kernels::Coder;
 use sequence::kernels::Kernel;
 use settings::Checked;
@@ -16,20 +16,15 @@ ghost use mathlib.Core.Path.{_≡_};
 ghost use mathlib.Core.Option.{none};
 ghost use Prim.Native.Nat.{_-_, _<_, _≤_};
 ghost use lib.ListN.{length};
-ghost use Rattle.settings.specs.Grounds.{ofFilling};
-ghost use Rattle.settings.specs.Settings.{classes, settingsGround, settingsOf};
+ghost use Rattle.settings.specs.Grounds.{outcome, ofFilling};
+ghost use Rattle.settings.specs.Settings.{classes, settingsGround, settingsOf, ofChecked};
 ghost use Rattle.fasta.specs.File.{fileWindows};
+ghost use Rattle.fasta.specs.Scan.{ofAnswer};
 ghost use Rattle.settings.specs.RankTables.{rankByTable, RankTable, RanksBelow};
 ghost use Rattle.sequence.specs.Needs.{Takes, Coding};
-ghost use Rattle.table.specs.Table.{classCount, Added, Clears};
-ghost use Rattle.table.specs.Calls.{ofAnswer, Surveyed};
+ghost use Rattle.table.specs.Table.{classCount, readyGround, Added, Clears};
+ghost use Rattle.table.specs.Calls.{Surveyed};
 ghost use Rattle.table.specs.Needs.{codesBy, CountedUnlessFull, AddedUnlessFull, CleanFile, ClearsPlaces};
-
-// The numbers of a file that was taken in, or the refusal, which leaves the table unchanged.
-pub enum Answer {
-    Taken(Numbers),
-    Refused(Refusal),
-}
 
 // The answers of a clearing and of two adds after it.
 pub struct Survey {
@@ -38,6 +33,7 @@ pub struct Survey {
     pub second: Answer,
 }
 
+// The clearing under settings that passed the check: the grounds 6 and 7, and else the zeros.
 fn clear_places(table: &mut [u32], classes: u64) -> Filling
     ensures { λ r. ⌜ ClearsPlaces classes (now (table .entry)) (ofFilling r) (now (table .exit)) ⌝ }
 {
@@ -133,7 +129,30 @@ fn add_scanned(
     count_unless_full(&mut table[..classes], file, ranks, c, &powers, n)
 }
 
-// An add under settings that passed the check. The file is read to its end before the table is touched.
+// Whether a file may be read for an add: the settings, where no ground among 1 to 4, 6 and 7 applies.
+pub fn ready(letters: &[u8], k: usize, mirror: u64, room: usize, file: &[u8]) -> Checked
+    ensures { λ r.
+        ⌜ ofChecked r ≡ outcome (readyGround (now (letters .entry)) k mirror room (now (file .entry))) (settingsOf (now (letters .entry)) k mirror) ⌝ }
+{
+    match settings::check(letters, k, mirror) {
+        Checked::Bad(f) => Checked::Bad(f),
+        Checked::Good(st) => {
+            if file.len() > 16777216 {
+                return Checked::Bad(Refusal::TooLarge);
+            }
+            if st.classes > 16777216 {
+                return Checked::Bad(Refusal::TooLarge);
+            }
+            let classes = st.classes as usize;
+            if room < classes {
+                return Checked::Bad(Refusal::ShortBuffer(classes));
+            }
+            Checked::Good(st)
+        }
+    }
+}
+
+// An add whose file may be read. The file is read to its end before the table is touched.
 fn add_checked(
     letters: &[u8],
     k: usize,
@@ -142,24 +161,14 @@ fn add_checked(
     file: &[u8],
     st: Settings,
 ) -> Answer
-    requires { ⌜ settingsGround (now letters) k mirror ≡ none ⌝ }
+    requires { ⌜ readyGround (now letters) k mirror (length (now table)) (now file) ≡ none ⌝ }
     requires { ⌜ st ≡ settingsOf (now letters) k mirror ⌝ }
     ensures { λ r. ⌜ Added (now (letters .entry)) k mirror (now (table .entry)) (now (file .entry)) (ofAnswer r) (now (table .exit)) ⌝ }
 {
-    if file.len() > 16777216 {
-        return Answer::Refused(Refusal::TooLarge);
-    }
-    if st.classes > 16777216 {
-        return Answer::Refused(Refusal::TooLarge);
-    }
-    let classes = st.classes as usize;
-    if table.len() < classes {
-        return Answer::Refused(Refusal::ShortBuffer(classes));
-    }
     let ranks = settings::rank_table(letters);
     match fasta::scan_file(file, &ranks, k) {
-        Scanned::Refused(f) => Answer::Refused(f),
-        Scanned::Taken(n) => add_scanned(letters, k, mirror, table, file, st, &ranks, n),
+        Answer::Refused(f) => Answer::Refused(f),
+        Answer::Taken(n) => add_scanned(letters, k, mirror, table, file, st, &ranks, n),
     }
 }
 
@@ -167,13 +176,14 @@ fn add_checked(
 pub fn add(letters: &[u8], k: usize, mirror: u64, table: &mut [u32], file: &[u8]) -> Answer
     ensures { λ r. ⌜ Added (now (letters .entry)) k mirror (now (table .entry)) (now (file .entry)) (ofAnswer r) (now (table .exit)) ⌝ }
 {
-    match settings::check(letters, k, mirror) {
+    match ready(letters, k, mirror, table.len(), file) {
         Checked::Bad(f) => Answer::Refused(f),
         Checked::Good(st) => add_checked(letters, k, mirror, table, file, st),
     }
 }
 
-// Clears the table and adds two files, one after the other: what is shown of every list of adds, stated of this one.
+// Clears the table and adds two files, one after the other. No program calls it: it is here so that demand 3, a claim about a list of calls,
+// stands in the contract of one compiled function too, proved from the contracts of the calls in its body.
 pub fn survey_two(
     letters: &[u8],
     k: usize,

@@ -3,9 +3,10 @@ use mathlib.Core.Path.{_≡_, ap}
 use mathlib.Core.Option.{none}
 use lib.ListN.{length}
 use borrow.Author.Needs.{needs}
-use Rattle.table.specs.Calls.{ofAnswer}
-use Rattle.kmer.specs.Adding.{readyGround}
-use Rattle.kmer.proofs.Adding.{add-fits, ready-none, ready-refuses, ready-fits, into-bad, into-short, into-refused, into-taken}
+use Rattle.fasta.specs.Scan.{ofAnswer}
+use Rattle.table.specs.Table.{readyGround}
+use Rattle.table.proofs.CallGrounds.{ready-passed}
+use Rattle.kmer.proofs.Adding.{add-fits, ready-refuses, ready-fits, into-bad, into-short, into-refused, into-taken}
 use Rattle.kmer.proofs.kmer_add.Statement.{statement}
 use Rattle.kmer.proofs.kmer_add.Tie as tie
 
@@ -16,7 +17,7 @@ Ready start =
     readyGround (a .letters .now) (a .k) (a .mirror) (length (a .table .now)) (a .file .now) ≡ none
 
 no-ground : (c : tie.After-enum-told) → Ready (c .before .before .before .before .before .before .before)
-no-ground c = ready-none _ _ _ _ _ _ (c .before .before .ready .ensures) _ (c .enum-told .given .1)
+no-ground c = ready-passed _ _ _ _ _ _ (c .before .before .ready .ensures) _ (c .enum-told .given .1) .none-applies
 
 ready-requires : tie.Need-ready-requires
 ready-requires c κs = search needs
@@ -70,7 +71,7 @@ returns-3 c =
     let f = c .before .before in
     let add = f .before .before .before .before in
     let if1 = add .before .before in
-    into-refused _ _ _ _ _ _ (no-ground (if1 .before)) (if1 .if1 .left) _ _ (add .add .ensures) (f .f2 .given .0 .0) (ap ofAnswer (f .f2 .given .1)) _
+    into-refused _ _ _ _ _ _ (if1 .if1 .left) _ _ (add .add .ensures) (f .f2 .given .0 .0) (ap ofAnswer (f .f2 .given .1)) _
     (c .refused-at3 .ensures)
 
 same-length-2 : tie.Need-same-length-2
@@ -85,7 +86,7 @@ returns-4 c =
     let n = written .before .before .before in
     let add = n .before .before .before .before in
     let if1 = add .before .before in
-    into-taken _ _ _ _ _ _ (no-ground (if1 .before)) (if1 .if1 .left) _ _ (add .add .ensures) _ (ap ofAnswer (n .n .given .1)) _
+    into-taken _ _ _ _ _ _ (if1 .if1 .left) _ _ (add .add .ensures) _ (ap ofAnswer (n .n .given .1)) _
     (written .write-numbers .ensures)
 
 pub kmer-add-spec : {M : Type 1} → statement M

@@ -3,8 +3,7 @@
 use native.Mathlib.Omega.{arith}
 use borrow.Author.Needs.{needs}
 use Rattle.kmer.specs.Returned.{returnedWithPlace}
-use Rattle.kmer.proofs.Refusals.{returns-answer, place-fits}
-use Rattle.kmer.proofs.Adding.{clear-small}
+use Rattle.kmer.proofs.Refusals.{returns-answer, place-fits, clear-small}
 use Rattle.kmer.proofs.kmer_clear.Statement.{statement}
 use Rattle.kmer.proofs.kmer_clear.Tie as tie
 

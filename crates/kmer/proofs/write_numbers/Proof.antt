@@ -2,7 +2,8 @@
 use native.Mathlib.Omega.{arith}
 use borrow.Author.Needs.{needs}
 use lib.ListN.{length-set}
-use Rattle.kmer.proofs.Adding.{five-set}
+use lib.Seq.{sets-eq}
+use Rattle.kmer.specs.Adding.{fiveNumbers}
 use Rattle.kmer.proofs.write_numbers.Statement.{statement}
 use Rattle.kmer.proofs.write_numbers.Tie as tie
 
@@ -25,7 +26,7 @@ same-length : tie.Need-same-length
 same-length c = simp length-set
 
 returns : tie.Need-returns
-returns c = five-set (c .args .answer .now) _ _ _ _ _ (c .pre)
+returns c = sets-eq (fiveNumbers (c .args .n)) (c .args .answer .now) 0 (c .pre)
 
 pub write-numbers-spec : {M : Type 1} → statement M
 write-numbers-spec =

@@ -1,6 +1,7 @@
 -- `table::add_scanned` meets its contract: what `count_unless_full` does to the first places is what the add does to the table.
 use Rattle.table.proofs.CallGrounds.{takes-letters, classes-of, places-by-table, n-windows-by-table, few-windows, whole-table}
-use mathlib.Core.Path.{sym, ap, _∙_}
+use mathlib.Core.Path.{_≡_, sym, ap, _∙_}
+use Prim.Native.Nat.{_≤_}
 use native.Mathlib.Omega.{arith}
 use lib.ListN.{length}
 use lib.Seq.{length-take-le}
@@ -8,6 +9,7 @@ use denote.Ref.{now}
 use Rattle.settings.specs.declared.Settings.{Settings}
 use Rattle.settings.specs.Settings.{mirrorOf}
 use Rattle.sequence.specs.Needs.{Takes}
+use Rattle.table.specs.Table.{classCount}
 use Rattle.sequence.proofs.SequenceGrounds.{coder-ready, ranks-ready, palindromes-fit, power-ready}
 use borrow.Author.Needs.{needs}
 use Rattle.table.proofs.add_scanned.Statement.{statement}
@@ -21,6 +23,13 @@ takes : (c : tie.After-kernel-for) → Takes (c .kernel-for .result) (length (no
 takes c =
     let a = start c .args in
     takes-letters (now (a .letters)) (a .k) (a .mirror) (a .st) (c .kernel-for .result) (start c .pre .1 .0) (c .kernel-for .ensures)
+
+-- The settings' number of classes; the table has as many places.
+classes-are : (c : tie.Start) → c .args .st .classes ≡ classCount (now (c .args .letters)) (c .args .k) (c .args .mirror)
+classes-are c = ap (λ (x : Settings). x .classes) (c .pre .1 .0)
+
+room : (c : tie.Start) → c .args .st .classes ≤ length (now (c .args .table))
+room c = omega (arith, classes-are c, c .pre .1 .1 .1 .1)
 
 kernel-for-requires : tie.Need-kernel-for-requires
 kernel-for-requires c κs = search needs
@@ -41,16 +50,10 @@ sub-t16 c =
     palindromes-fit _ _ _ (start kernel .pre .0) (kernel .kernel-for .result) (takes kernel) _ (start kernel .pre .1 .0) .1
 
 slice-relend-prefix-count-unless-full : tie.Need-slice-relend-prefix-count-unless-full
-slice-relend-prefix-count-unless-full c =
-    let start = c .before .before .before .before .before .before .before in
-    let classes-are = ap (λ (x : Settings). x .classes) (start .pre .1 .0) in
-    omega (arith, classes-are, start .pre .1 .1 .1 .1)
+slice-relend-prefix-count-unless-full c = room (start (c .before .before .before))
 
 slice-aggregate-count-unless-full : tie.Need-slice-aggregate-count-unless-full
-slice-aggregate-count-unless-full c =
-    let start = c .before .before .before .before .before .before .before .before in
-    let classes-are = ap (λ (x : Settings). x .classes) (start .pre .1 .0) in
-    sym (length-take-le _ _ (omega (arith, classes-are, start .pre .1 .1 .1 .1)))
+slice-aggregate-count-unless-full c = sym (length-take-le _ _ (room (start (c .before .before .before .before))))
 
 count-unless-full-requires : tie.Need-count-unless-full-requires
 count-unless-full-requires c κs =
@@ -59,11 +62,10 @@ count-unless-full-requires c κs =
     let good = start kernel .pre .0 in
     let st-is = start kernel .pre .1 .0 in
     let pre = start kernel .pre .1 .1 in
-    let classes-are = ap (λ (x : Settings). x .classes) st-is in
     let coding = coder-ready _ _ _ good (kernel .kernel-for .result) (takes kernel) _ st-is (powers .power-table .ensures) in
     let below = ranks-ready _ _ _ good (kernel .kernel-for .result) (takes kernel) _ st-is (pre .0) in
     let a = start kernel .args in
-    let n-taken = length-take-le (a .st .classes) (now (a .table)) (omega (arith, classes-are, pre .1 .1)) in
+    let n-taken = length-take-le (a .st .classes) (now (a .table)) (room (start kernel)) in
     let n-counts = n-taken ∙ classes-of (now (a .letters)) (a .k) (a .mirror) (a .st) st-is in
     let n-windows = n-windows-by-table _ _ _ _ (pre .1 .0) _ (pre .0) in
     (coding, (below, (n-counts, (n-windows, few-windows _ _ _ _ (pre .1 .0) _ good))))
@@ -80,8 +82,7 @@ returns c =
     let pre = start kernel .pre .1 .1 in
     let a = start kernel .args in
     let places-are = places-by-table _ (a .k) (a .mirror) _ (now (a .file)) _ st-is (pre .0) in
-    let classes-are = ap (λ (x : Settings). x .classes) st-is in
-    whole-table _ _ _ _ _ good (pre .1 .1) _ (pre .1 .0) _ _ _ _ classes-are places-are (count .count-unless-full .ensures)
+    whole-table _ _ _ _ _ good (pre .1 .1) _ (pre .1 .0) _ _ _ _ (classes-are (start kernel)) places-are (count .count-unless-full .ensures)
 
 pub add-scanned-spec : {M : Type 1} → statement M
 add-scanned-spec =

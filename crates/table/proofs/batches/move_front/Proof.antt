@@ -1,5 +1,5 @@
 -- `table::batches::move_front` meets its contract. The invariant: j letters are moved, and the array is as it was behind them.
-use Rattle.table.proofs.CountLoops.{Moving, moving-none, moving-length, moving-next, moved}
+use Rattle.table.proofs.Moving.{Moving, moving-none, moving-length, moving-next, moved}
 use Prim.Native.Nat.{_-_}
 use native.Mathlib.Omega.{arith}
 use Rattle.table.proofs.batches.move_front.Statement.{statement}

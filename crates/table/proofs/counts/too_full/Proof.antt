@@ -2,7 +2,7 @@
 use mathlib.Core.Path.{sym, ap, _∙_}
 use Prim.Native.Nat.{ℕ, _-_}
 use lib.Dec.{ltb}
-use Rattle.table.proofs.CountLoops.{full-highest}
+use Rattle.table.proofs.Full.{full-highest}
 use borrow.Author.Needs.{needs}
 use Rattle.table.proofs.counts.too_full.Statement.{statement}
 use Rattle.table.proofs.counts.too_full.Tie as tie
