@@ -19,7 +19,7 @@ use Rattle.settings.proofs.SettingsGrounds.{limits, good-settings}
 use Rattle.settings.proofs.Places.{Small, test-small, place-small, then-small, room-small, settings-small}
 use Rattle.encoding.specs.Calls.{hereOr, foreignFrom, wrongLength, mirrorGround}
 use Rattle.sequence.specs.Sequences.{sequenceGround}
-use Rattle.sequence.proofs.Windows.{length-windows}
+use Rattle.laws.proofs.Windows.{length-windows}
 use Rattle.kmer.specs.Returned.{ReturnsPlaces}
 
 -- No number of a refusal is above 14.
