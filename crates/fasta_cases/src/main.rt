@@ -5,7 +5,6 @@
 // FILE is the rest of the line: \n is LF, \r is CR, \xHH is any byte, and every other byte stands for itself.
 use fasta::Found;
 use fasta::Scanned;
-use settings::Refusal;
 ghost use mathlib.Core.Path.{_≡_};
 ghost use Prim.Native.Nat.{_+_, _<_, _≤_};
 ghost use lib.ListN.{length};
@@ -31,6 +30,7 @@ fn find(s: &[u8], from: usize, b: u8) -> usize
     i
 }
 
+// The value of a hexadecimal digit; 0 for every other byte.
 fn digit(b: u8) -> u8
     ensures { λ r. ⌜ r < 16 ⌝ }
 {
@@ -41,7 +41,8 @@ fn digit(b: u8) -> u8
     }
 }
 
-// A decimal number; digits past the twelfth are left out.
+// A decimal number, below 10^12: once it is 99,999,999,990 or more, the digits that are left are not read. A byte that is no digit is taken
+// as `digit` takes it.
 fn decimal(s: &[u8]) -> usize
     ensures { λ r. ⌜ r < 1000000000000 ⌝ }
 {
@@ -92,8 +93,8 @@ fn escape(s: &[u8], i: usize) -> Piece
         };
     }
     match s[i + 1] {
-        b'n' => Piece { byte: 10, used: 2 },
-        b'r' => Piece { byte: 13, used: 2 },
+        b'n' => Piece { byte: b'\n', used: 2 },
+        b'r' => Piece { byte: b'\r', used: 2 },
         _ => Piece {
             byte: b'\\',
             used: 1,
@@ -124,27 +125,6 @@ fn put(n: usize) {
     io::print_decimal(1, n as u64);
 }
 
-fn number_of(f: Refusal) -> usize {
-    match f {
-        Refusal::BadLetters => 1,
-        Refusal::BadMirror => 2,
-        Refusal::OddComplement => 3,
-        Refusal::BadK => 4,
-        Refusal::TooLarge => 6,
-        Refusal::StrayByte(_) => 10,
-        Refusal::EarlyLetter(_) => 11,
-        _ => 0,
-    }
-}
-
-fn place_of(f: Refusal) -> usize {
-    match f {
-        Refusal::StrayByte(p) => p,
-        Refusal::EarlyLetter(p) => p,
-        _ => 0,
-    }
-}
-
 fn put_scanned(r: Scanned) {
     match r {
         Scanned::Taken(n) => {
@@ -157,8 +137,8 @@ fn put_scanned(r: Scanned) {
         }
         Scanned::Refused(f) => {
             io::write_all(1, b"refused");
-            put(number_of(f));
-            put(place_of(f));
+            put(settings::number_of(f) as usize);
+            put(settings::place_of(f) as usize);
         }
     }
     io::write_all(1, b"\n");
@@ -217,6 +197,7 @@ fn read_case(s: &[u8], file: &mut [u8]) {
     put_found(f, fasta::offset_after(&file[..n], at));
 }
 
+// One line: a case is run, a line that begins with another byte is copied. A line under five bytes is skipped, since it holds no case.
 fn case(s: &[u8], file: &mut [u8]) {
     if s.len() < 5 {
         return;
