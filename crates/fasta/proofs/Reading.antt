@@ -69,14 +69,18 @@ no-places : (file : List ℕ) (p n : ℕ) → n ≡ 0 → headersFrom file p n �
 unfolding headersFrom
 no-places file p n e = rw e
 
--- The headers from the first of them on are all there are: those below an end, of which there are n places from p.
-from-first : (file : List ℕ) (p n h : ℕ) → First (isHeader file) p n h → headersFrom file p n ≡ headersFrom file h (p + n - h)
-from-first file p n h f =
-    let e : n ≡ h - p + (p + n - h) = omega (arith, f .low, f .high) in
-    let g : p + (h - p) ≡ h = omega (arith, f .low) in
-    ap (headersFrom file p) e
-    ∙ skip file (h - p) p (p + n - h) (λ j a b. f .none j a (omega arith))
-    ∙ ap (λ (x : ℕ). headersFrom file x (p + n - h)) g
+-- The headers from p on are those from h on, where none stands between.
+skip-to : (file : List ℕ) (p h : ℕ) → p ≤ h → h ≤ p + (length file - p) → ((j : ℕ) → p ≤ j → j < h → isHeader file j ≡ false)
+    → headersFrom file p (length file - p) ≡ headersFrom file h (length file - h)
+skip-to file p h low high none =
+    let e : length file - p ≡ h - p + (length file - h) = omega arith in
+    let g : p + (h - p) ≡ h = omega arith in
+    rw e (skip file (h - p) p (length file - h) (λ j a b. none j a (omega arith)) ∙ ap (λ (x : ℕ). headersFrom file x (length file - h)) g)
+
+-- So they are those from the first of them on.
+from-first : (file : List ℕ) (p h : ℕ) → First (isHeader file) p (length file - p) h
+    → headersFrom file p (length file - p) ≡ headersFrom file h (length file - h)
+from-first file p h f = skip-to file p h (f .low) (f .high) (f .none)
 
 -- ---- the record of a header
 
@@ -118,23 +122,15 @@ module _ (file : List ℕ) (h : ℕ) (low : h < length file) (is : isHeader file
         | no q ↦ lf-first .none j (omega arith) b
       ]
 
-  no-header : (j : ℕ) → h + 1 ≤ j → j < h + 1 + (lf - h) → isHeader file j ≡ false
+  no-header : (j : ℕ) → h + 1 ≤ j → j < lf + 1 → isHeader file j ≡ false
   no-header j a b = inside file j (omega arith) (no-lf (j - 1) (omega arith) (omega arith))
 
   with-line : lf < length file → After file h (recordOf file h)
   unfolding recordTo
   with-line g =
-      let k : length file - (h + 1) ≡ lf - h + (length file - (lf + 1)) = omega (arith, lf-first .low) in
-      let m : h + 1 + (lf - h) ≡ lf + 1 = omega (arith, lf-first .low) in
-      let o : lf + 1 + (length file - (lf + 1)) ≡ length file = omega arith in
       let hd = first (isHeader file) (lf + 1) (length file - (lf + 1)) in
       let end : lf + 1 + (headerAt file (lf + 1) - (lf + 1)) ≡ headerAt file (lf + 1) = omega (arith, hd .low) in
-      let s : headersFrom file (h + 1) (length file - (h + 1)) ≡ headersFrom file (headerAt file (lf + 1)) (length file - headerAt file (lf + 1)) =
-      ap (headersFrom file (h + 1)) k
-      ∙ skip file (lf - h) (h + 1) (length file - (lf + 1)) no-header
-      ∙ ap (λ (x : ℕ). headersFrom file x (length file - (lf + 1))) m
-      ∙ from-first file (lf + 1) (length file - (lf + 1)) _ hd
-      ∙ ap (λ (x : ℕ). headersFrom file (headerAt file (lf + 1)) (x - headerAt file (lf + 1))) o in
+      let passed = skip-to file (h + 1) (lf + 1) (omega (arith, lf-first .low)) (omega arith) no-header in
       record {
         header = h;
         header-len = headerLength file h lf;
@@ -143,20 +139,12 @@ module _ (file : List ℕ) (h : ℕ) (low : h < length file) (is : isHeader file
         found = rw (lt-ltb lf (length file) g);
         later = omega (arith, lf-first .low);
         within = omega (arith, hd .high);
-        same = rw end s;
+        same = rw end (passed ∙ from-first file (lf + 1) (headerAt file (lf + 1)) hd);
       }
 
   cut-off : length file ≤ lf → After file h (recordOf file h)
   unfolding recordTo
   cut-off g =
-      let k : length file - (h + 1) ≡ length file - (h + 1) + 0 = omega arith in
-      let m : h + 1 + (length file - (h + 1)) ≡ length file + 0 = omega arith in
-      let o : 0 ≡ length file - (length file + 0) = omega arith in
-      let s : headersFrom file (h + 1) (length file - (h + 1)) ≡ headersFrom file (length file + 0) (length file - (length file + 0)) =
-      ap (headersFrom file (h + 1)) k
-      ∙ skip file (length file - (h + 1)) (h + 1) 0 (λ j a b. no-header j a (omega (arith, lf-first .low, lf-first .high)))
-      ∙ ap (λ (x : ℕ). headersFrom file x 0) m
-      ∙ ap (headersFrom file (length file + 0)) o in
       record {
         header = h;
         header-len = length file - h;
@@ -165,7 +153,7 @@ module _ (file : List ℕ) (h : ℕ) (low : h < length file) (is : isHeader file
         found = rw (le-ltb lf (length file) g);
         later = omega arith;
         within = omega arith;
-        same = s;
+        same = skip-to file (h + 1) (length file + 0) (omega arith) (omega arith) (λ j a b. no-header j a (omega arith));
       }
 
   after : After file h (recordOf file h)
@@ -187,16 +175,16 @@ no-more : (file : List ℕ) (at : ℕ) → length file ≤ headerAt file at → 
 unfolding recordFrom
 no-more file at g =
     let hd = first (isHeader file) at (length file - at) in
-    let e : at + (length file - at) - headerAt file at ≡ 0 = omega (arith, hd .low) in
-    none-left (rw (le-ltb (headerAt file at) (length file) g)) (ap (map (recordOf file)) (from-first file at (length file - at) _ hd ∙ no-places file (headerAt file at) _ e))
+    let no-headers = from-first file at (headerAt file at) hd ∙ no-places file (headerAt file at) _ (omega arith) in
+    none-left (rw (le-ltb (headerAt file at) (length file) g)) (ap (map (recordOf file)) no-headers)
 
 -- The first header from an offset, and the headers after its record.
 headers-split : (file : List ℕ) (at h end : ℕ) → First (isHeader file) at (length file - at) h → h < length file → isHeader file h ≡ true
     → headersFrom file (h + 1) (length file - (h + 1)) ≡ headersFrom file end (length file - end)
     → headersFrom file at (length file - at) ≡ h ∷ headersFrom file end (length file - end)
 headers-split file at h end hd g is same =
-    let n : at + (length file - at) - h ≡ suc (length file - (h + 1)) = omega (arith, hd .low) in
-    from-first file at (length file - at) h hd ∙ rw (n, hit file h (length file - (h + 1)) is, ← add-one h, same)
+    let n : length file - h ≡ suc (length file - (h + 1)) = omega arith in
+    from-first file at h hd ∙ rw (n, hit file h (length file - (h + 1)) is, ← add-one h, same)
 
 one-found : (file : List ℕ) (at h : ℕ) → h ≡ headerAt file at → First (isHeader file) at (length file - at) h → h < length file
     → isHeader file h ≡ true → After file h (recordOf file h) → Next file at
