@@ -67,7 +67,11 @@ enum Step {
 fn lf_at(file: &[u8], i: usize) -> bool
     ensures { λ r. ⌜ r ≡ lfNext (drop i (now (file .entry))) ⌝ }
 {
-    if i < file.len() { file[i] == b'\n' } else { false }
+    if i < file.len() {
+        file[i] == b'\n'
+    } else {
+        false
+    }
 }
 
 // The byte at i, as one of a sequence line. Only a CR asks for the byte after it.
