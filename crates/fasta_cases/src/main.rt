@@ -93,8 +93,14 @@ fn escape(s: &[u8], i: usize) -> Piece
         };
     }
     match s[i + 1] {
-        b'n' => Piece { byte: b'\n', used: 2 },
-        b'r' => Piece { byte: b'\r', used: 2 },
+        b'n' => Piece {
+            byte: b'\n',
+            used: 2,
+        },
+        b'r' => Piece {
+            byte: b'\r',
+            used: 2,
+        },
         _ => Piece {
             byte: b'\\',
             used: 1,

@@ -1,5 +1,5 @@
--- The windows of a list: those from a place on, those of its first letters, the one at a place, and the law for batches: a list cut into pieces that overlap by k - 1 letters
--- has the windows of the pieces, one piece after the other.
+-- The windows of a list: the later and the first of them, the one at a place, and the law for batches: a list cut into pieces that overlap by
+-- k - 1 letters has the windows of the pieces, one piece after the other.
 use mathlib.Core.Path.{_≡_, refl, sym, ap, ap₂, _∙_}
 use mathlib.Core.List.{List, [], _∷_, _++_, map}
 use Prim.Native.Nat.{ℕ, zero, suc, _+_, _-_, _≤_}
