@@ -151,6 +151,7 @@ SmallStep n (On t) = Small n t
 SmallStep n AtStray = Unit {0}
 SmallStep n AtEarly = Unit {0}
 
+-- What a settings letter adds to the edge letters and to the windows.
 at-most-one : (c : Bool) → (cond c 0 1 ≤ 1) × (cond c 1 0 ≤ 1)
 at-most-one true = omega arith
 at-most-one false = omega arith

@@ -2,6 +2,7 @@
 //   scan LETTERS K MIRROR FILE    taken, with the file's records, letters, foreign, edge and windows; or refused, with number and P
 //   read OFFSET FILE              record, with the offset and length of its header line and of what follows; or none; then the offset after
 //   # ..                          copied, to say what the next cases are about
+// A line under five bytes is skipped.
 // FILE is the rest of the line: \n is LF, \r is CR, \xHH is any byte, and every other byte stands for itself.
 use fasta::Found;
 use fasta::Scanned;
@@ -30,7 +31,7 @@ fn find(s: &[u8], from: usize, b: u8) -> usize
     i
 }
 
-// The value of a hexadecimal digit; 0 for every other byte.
+// The value of a hexadecimal digit, 0 to 9 or a to f; 0 for every other byte.
 fn digit(b: u8) -> u8
     ensures { λ r. ⌜ r < 16 ⌝ }
 {
@@ -41,8 +42,7 @@ fn digit(b: u8) -> u8
     }
 }
 
-// A decimal number, below 10^12: once it is 99,999,999,990 or more, the digits that are left are not read. A byte that is no digit is taken
-// as `digit` takes it.
+// A decimal number, below 10^12: once it is 99,999,999,990 or more, the digits that are left are not read. Each byte counts as `digit` says.
 fn decimal(s: &[u8]) -> usize
     ensures { λ r. ⌜ r < 1000000000000 ⌝ }
 {
@@ -203,7 +203,7 @@ fn read_case(s: &[u8], file: &mut [u8]) {
     put_found(f, fasta::offset_after(&file[..n], at));
 }
 
-// One line: a case is run, a line that begins with another byte is copied. A line under five bytes is skipped, since it holds no case.
+// One line: one under five bytes is skipped, one that begins with s or r is run as a case, every other is copied.
 fn case(s: &[u8], file: &mut [u8]) {
     if s.len() < 5 {
         return;
