@@ -55,8 +55,8 @@ enum kmer_grounds {
     KMER_SHORT_BUFFER = 7,   /* a lent buffer is too short; P is the length needed */
     KMER_BAD_CODE = 8,       /* code is not below the number of classes */
     KMER_FOREIGN_BYTE = 9,   /* a byte of word is no letter of the settings; P is the first such place */
-    KMER_STRAY_BYTE = 10,    /* a byte of the file belongs neither to a header nor to a line of letters; P is
-                                the offset of the first */
+    KMER_STRAY_BYTE = 10,    /* a byte outside of header lines is neither a letter nor part of a line end (LF
+                                or CR LF); P is the offset of the first */
     KMER_EARLY_LETTER = 11,  /* a letter stands before the file's first header; P is the offset of the first */
     KMER_COUNTS_FULL = 12    /* some count is above 4,294,967,295 less the file's windows */
 };
@@ -123,7 +123,7 @@ uint64_t kmer_codes_two_bit(size_t k, const uint8_t *sequence, size_t sequence_l
  *                     places keep what they held.
  * Returns the number of classes, which is the number of places set, or 2^63 + P * 256 + the number of the
  * first ground that applies of 1, 2, 3, 4, 6, 7, where P is the length needed for 7, else 0. A refused call
- * writes nothing to table.
+ * writes nothing to table: call with table NULL and table_len 0 first to learn the length, the refusal's P.
  */
 uint64_t kmer_clear(const uint8_t *letters, size_t letters_len, size_t k, uint64_t mirror,
                     uint32_t *table, size_t table_len);
