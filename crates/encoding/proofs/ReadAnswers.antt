@@ -1,19 +1,25 @@
--- What `word_of` answers and leaves at each of its tests.
+-- What `word_of` answers and leaves at each of its tests; a code's word has k bytes (`word-bytes-length`).
 use mathlib.Core.Path.{_≡_, ap, _∙_, sym}
+use mathlib.Core.Option.{none}
 use mathlib.Core.List.{List, _++_}
 use Prim.Native.Nat.{ℕ, _<_, _≤_}
 use native.Mathlib.Omega.{arith}
 use lib.ListN.{length, drop}
 use Rattle.settings.specs.Grounds.{Outcome, Overwrites, Ground, refused, outcome, given}
-use Rattle.settings.specs.Settings.{settingsGround, settingsOf, classes}
+use Rattle.settings.specs.Settings.{settingsGround, settingsOf, classes, mirrorOf}
 use Rattle.settings.proofs.Outcomes.{kept-on, kept-by, set-by}
-use Rattle.settings.proofs.SettingsGrounds.{Known, known}
+use Rattle.settings.proofs.SettingsGrounds.{Known, known, limits}
 use Rattle.settings.specs.declared.Settings.{Settings}
 use Rattle.encoding.specs.Calls.{readGround, wordBytes, inCapitals}
 use Rattle.encoding.specs.WordsOfCodes.{wordOf}
 use Rattle.encoding.proofs.CallGrounds.{read-short, read-no-code, reading-none}
 use Rattle.encoding.proofs.LetterLoops.{read-bytes, length-capitals}
 use Rattle.encoding.proofs.ReadSteps.{word-length}
+
+pub word-bytes-length : (letters : List ℕ) (k m q : ℕ) → settingsGround letters k m ≡ none → q < classes (length letters) (mirrorOf m) k
+    → length (wordBytes letters k m q) ≡ k
+unfolding wordBytes
+word-bytes-length letters k m q good below = length-capitals letters _ ∙ word-length letters k (mirrorOf m) q (limits letters k m good) below
 
 module _ (letters : List ℕ) (k m q : ℕ) (old : List ℕ) where
   -- The contract of `word_of`, for an answer and what is left in the buffer.
@@ -45,11 +51,14 @@ module _ (letters : List ℕ) (k m q : ℕ) (old : List ℕ) where
         → new ≡ inCapitals letters (wordOf (length letters) (st .mirror) k q) ++ drop k old → Reads (given k) new
     word-read h g new x =
         set-by (readGround letters k m q (length old)) k (wordBytes letters k m q) old new
-        (reading-none letters k m (good .none-applies) q (length old) h (rw (good .mirror-is) at (good-code g)))
+        (reading-none letters k m (good .none-applies) q (length old) h below)
         (x ∙ ap (λ (w : List ℕ). w ++ drop k old) bytes-are ∙ ap (λ (n : ℕ). wordBytes letters k m q ++ drop n old) (sym bytes-length))
       where
+        below : q < classes (length letters) (mirrorOf m) k
+        below = rw (good .mirror-is) at (good-code g)
+
         bytes-are : inCapitals letters (wordOf (length letters) (st .mirror) k q) ≡ wordBytes letters k m q
         bytes-are = read-bytes letters k m q (st .mirror) (good .mirror-is)
 
         bytes-length : length (wordBytes letters k m q) ≡ k
-        bytes-length = sym (ap length bytes-are) ∙ length-capitals letters _ ∙ word-length letters k (st .mirror) q (good .within) (good-code g)
+        bytes-length = word-bytes-length letters k m q (good .none-applies) below

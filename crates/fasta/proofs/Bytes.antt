@@ -1,14 +1,16 @@
--- What a byte of a line is, from the tests that the code makes on it; and that every letter is a byte below 123.
+-- What a byte of a line is, from the tests that the code makes on it; what a byte can be at all (`line-cases`, `item-cases`); and that
+-- every letter is a byte below 123.
 use mathlib.Core.Path.{_≡_, refl}
 use Prim.Native.Nat.{ℕ, _≤_, _<_}
 use native.Mathlib.Omega.{arith}
-use mathlib.Core.Bool.{Bool, true, false, _&&_, _||_}
-use lib.Dec.{leb}
+use mathlib.Core.Bool.{Bool, true, false, cond, _&&_, _||_}
+use lib.Dec.{leb, eqb}
 use borrow.Author.Tests.{le-leb, lt-leb, leb-true, ne-eqb}
-use Rattle.fasta.specs.declared.Item.the-variants.{Stray, Letter}
+use Rattle.fasta.specs.declared.Item.{Item}
+use Rattle.fasta.specs.declared.Item.the-variants.{Opens, Skip, Stray, Letter}
 use Rattle.fasta.specs.declared.Mode.{Mode}
 use Rattle.fasta.specs.declared.Mode.the-variants.{Start, Header, Sequence}
-use Rattle.fasta.specs.File.{isLetter, lineItem, next}
+use Rattle.fasta.specs.File.{isLetter, lineItem, item, next}
 
 module _ (b : ℕ) (lf : Bool) where
   letter : isLetter b ≡ true → 13 < b → Letter b ≡ lineItem b lf
@@ -39,6 +41,27 @@ module _ (b : ℕ) (lf : Bool) where
   unfolding isLetter
   above h =
       stray (rw (le-leb 65 b (omega arith), lt-leb b 90 (omega arith), le-leb 97 b (omega arith), lt-leb b 122 h)) (λ z. omega arith) (λ z. omega arith)
+
+-- A byte of a line is skipped or stray or, where it is one of A to Z and a to z, a letter.
+pub line-cases : (P : Item → Type 0) (b : ℕ) (lf : Bool) → P Skip → P Stray → (isLetter b ≡ true → P (Letter b)) → P (lineItem b lf)
+unfolding lineItem
+line-cases P b lf skip stray letter = go (eqb b 10 || (eqb b 13 && lf)) (isLetter b) refl
+  where
+    go : (s l : Bool) → isLetter b ≡ l → P (cond s Skip (cond l (Letter b) Stray))
+    go true l e = skip
+    go false true e = letter e
+    go false false e = stray
+
+-- A byte of a file is one of these, or opens a record.
+pub item-cases : (P : Item → Type 0) (m : Mode) (b : ℕ) (lf : Bool) → P Opens → P Skip → P Stray → (isLetter b ≡ true → P (Letter b)) → P (item m b lf)
+unfolding item
+item-cases P Header b lf opens skip stray letter = skip
+item-cases P Sequence b lf opens skip stray letter = line-cases P b lf skip stray letter
+item-cases P Start b lf opens skip stray letter = go (eqb b 62)
+  where
+    go : (s : Bool) → P (cond s Opens (lineItem b lf))
+    go true = opens
+    go false = line-cases P b lf skip stray letter
 
 pub letter-below : (b : ℕ) → isLetter b ≡ true → b < 123
 unfolding isLetter

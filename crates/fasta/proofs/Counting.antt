@@ -10,12 +10,13 @@ use lib.ListN.{length, getD, drop, length-map}
 use lib.Dec.{eqb}
 use borrow.Author.Tests.{ne-eqb}
 use Rattle.fasta.specs.declared.Item.{Item}
-use Rattle.fasta.specs.declared.Item.the-variants.{Opens, Skip, Stray, Letter}
+use Rattle.fasta.specs.declared.Item.the-variants.{Opens}
 use Rattle.fasta.specs.declared.Mode.{Mode}
 use Rattle.fasta.specs.declared.Mode.the-variants.{Start, Header, Sequence}
 use Rattle.fasta.specs.Items.{recordsIn}
-use Rattle.fasta.specs.File.{isLetter, lfNext, lineItem, item, next, itemsFrom, items}
+use Rattle.fasta.specs.File.{lfNext, lineItem, item, next, itemsFrom, items}
 use Rattle.fasta.specs.Records.{isHeader, headersFrom, recordOf, allRecords}
+use Rattle.fasta.proofs.Bytes.{line-cases}
 use Rattle.fasta.proofs.Scans.{items-step, items-end}
 
 atStart : Mode → Bool
@@ -24,13 +25,8 @@ atStart Header = false
 atStart Sequence = false
 
 line-opens-none : (b : ℕ) (lf : Bool) (is : List Item) → recordsIn (lineItem b lf ∷ is) ≡ recordsIn is
-unfolding lineItem recordsIn
-line-opens-none b lf is = go (eqb b 10 || (eqb b 13 && lf)) (isLetter b)
-  where
-    go : (s l : Bool) → recordsIn (cond s Skip (cond l (Letter b) Stray) ∷ is) ≡ recordsIn is
-    go true l = refl
-    go false true = refl
-    go false false = refl
+unfolding recordsIn
+line-opens-none b lf is = line-cases (λ (it : Item). recordsIn (it ∷ is) ≡ recordsIn is) b lf refl refl (λ e. refl)
 
 -- A byte opens a record where it is a > at a line's start.
 opens : (m : Mode) (b : ℕ) (lf : Bool) (is : List Item)

@@ -9,11 +9,39 @@ use mathlib.Core.Bool.{Bool, true, false, cond, _&&_, _||_, and-false}
 use mathlib.Core.List.{List, [], _∷_, map}
 use lib.ListN.{length, getD}
 use lib.Dec.{eqb}
-use borrow.Author.Tests.{ne-eqb, eqb-true, eqb-false, lt-ltb, le-ltb}
+use borrow.Author.Tests.{ne-eqb, eqb-true, lt-ltb, le-ltb}
 use Rattle.fasta.specs.declared.records.Found.{Found}
 use Rattle.fasta.specs.declared.records.Found.the-variants.{Record, Nothing}
-use Rattle.fasta.specs.Records.{isHeader, headerFrom, headerAt, lfFrom, lineEnd, headerLength, recordTo, recordOf, recordFrom}
+use Rattle.fasta.specs.Records.{isLf, isHeader, firstFrom, headerAt, lineEnd, headerLength, recordTo, recordOf, recordFrom}
 use Rattle.fasta.specs.Records.{headersFrom, recordsFrom, allRecords, Reads, ended, given}
+
+-- ---- the first of some places
+
+-- What the place h is that a search of n places from p gives.
+record First (test : ℕ → Bool) (p n h : ℕ) : Type 0 where
+  low : p ≤ h
+  high : h ≤ p + n
+  passes : h < p + n → test h ≡ true
+  none : (j : ℕ) → p ≤ j → j < h → test j ≡ false
+
+first : (test : ℕ → Bool) (p n : ℕ) → First test p n (firstFrom test p n)
+unfolding firstFrom
+first test p zero = record { low = omega arith; high = omega arith; passes = λ h. absurd (omega arith); none = λ j a b. absurd (omega arith) }
+first test p (suc n) = go (test p) refl (first test (suc p) n)
+  where
+    go : (t : Bool) → test p ≡ t → First test (suc p) n (firstFrom test (suc p) n) → First test p (suc n) (cond t p (firstFrom test (suc p) n))
+    go true e g = record { low = omega arith; high = omega arith; passes = λ h. e; none = λ j a b. absurd (omega arith) }
+    go false e g =
+        record {
+          low = omega (arith, g .low);
+          high = omega (arith, g .high);
+          passes = λ h. g .passes (omega arith);
+          none = λ j a b.
+              elim (ℕ-discrete j p) as (λ _. test j ≡ false) [
+                | yes q ↦ rw q e
+                | no q ↦ g .none j (omega arith) b
+              ];
+        }
 
 -- ---- headers among some places
 
@@ -41,53 +69,18 @@ no-places : (file : List ℕ) (p n : ℕ) → n ≡ 0 → headersFrom file p n �
 unfolding headersFrom
 no-places file p n e = rw e
 
--- What a search for the next header among n places from p gives.
-record Header (file : List ℕ) (p n h : ℕ) : Type 0 where
-  low : p ≤ h
-  high : h ≤ p + n
-  opens : h < p + n → isHeader file h ≡ true
-  same : headersFrom file p n ≡ headersFrom file h (p + n - h)
+-- The headers from p on are those from h on, where none stands between.
+skip-to : (file : List ℕ) (p h : ℕ) → p ≤ h → h ≤ p + (length file - p) → ((j : ℕ) → p ≤ j → j < h → isHeader file j ≡ false)
+    → headersFrom file p (length file - p) ≡ headersFrom file h (length file - h)
+skip-to file p h low high none =
+    let e : length file - p ≡ h - p + (length file - h) = omega arith in
+    let g : p + (h - p) ≡ h = omega arith in
+    rw e (skip file (h - p) p (length file - h) (λ j a b. none j a (omega arith)) ∙ ap (λ (x : ℕ). headersFrom file x (length file - h)) g)
 
-header : (file : List ℕ) (p n : ℕ) → Header file p n (headerFrom file p n)
-unfolding headerFrom
-header file p zero = let e : p + 0 - p ≡ 0 = omega arith in record { low = omega arith; high = omega arith; opens = λ h. absurd (omega arith); same = rw e }
-header file p (suc n) = go (isHeader file p) refl (header file (suc p) n)
-  where
-    go : (t : Bool) → isHeader file p ≡ t → Header file (suc p) n (headerFrom file (suc p) n)
-        → Header file p (suc n) (cond t p (headerFrom file (suc p) n))
-    go true e g = let f : p + suc n - p ≡ suc n = omega arith in record { low = omega arith; high = omega arith; opens = λ h. e; same = rw f }
-    go false e g =
-        let f : suc p + n ≡ p + suc n = omega arith in
-        record {
-          low = omega (arith, g .low);
-          high = omega (arith, g .high);
-          opens = λ h. g .opens (omega arith);
-          same = miss file p n e ∙ g .same ∙ ap (λ (x : ℕ). headersFrom file (headerFrom file (suc p) n) (x - headerFrom file (suc p) n)) f;
-        }
-
--- What a search for LF among n places from p gives.
-record Line (file : List ℕ) (p n e : ℕ) : Type 0 where
-  low : p ≤ e
-  high : e ≤ p + n
-  none : (j : ℕ) → p ≤ j → j < e → getD file j 0 ≡ 10 → ⊥
-
-line : (file : List ℕ) (p n : ℕ) → Line file p n (lfFrom file p n)
-unfolding lfFrom
-line file p zero = record { low = omega arith; high = omega arith; none = λ j a b. absurd (omega arith) }
-line file p (suc n) = go (eqb (getD file p 0) 10) refl (line file (suc p) n)
-  where
-    go : (t : Bool) → eqb (getD file p 0) 10 ≡ t → Line file (suc p) n (lfFrom file (suc p) n) → Line file p (suc n) (cond t p (lfFrom file (suc p) n))
-    go true e g = record { low = omega arith; high = omega arith; none = λ j a b. absurd (omega arith) }
-    go false e g =
-        record {
-          low = omega (arith, g .low);
-          high = omega (arith, g .high);
-          none = λ j a b.
-              elim (ℕ-discrete j p) as (λ _. getD file j 0 ≡ 10 → ⊥) [
-                | yes q ↦ λ c. eqb-false (getD file p 0) 10 e (ap (λ (x : ℕ). getD file x 0) (sym q) ∙ c)
-                | no q ↦ g .none j (omega arith) b
-              ];
-        }
+-- So they are those from the first of them on.
+from-first : (file : List ℕ) (p h : ℕ) → First (isHeader file) p (length file - p) h
+    → headersFrom file p (length file - p) ≡ headersFrom file h (length file - h)
+from-first file p h f = skip-to file p h (f .low) (f .high) (f .none)
 
 -- ---- the record of a header
 
@@ -95,14 +88,14 @@ mark : (file : List ℕ) (h : ℕ) → isHeader file h ≡ true → getD file h 
 unfolding isHeader
 mark file h e = go (eqb (getD file h 0) 62) refl e
   where
-    go : (t : Bool) → eqb (getD file h 0) 62 ≡ t → (t && (eqb h 0 || eqb (getD file (h - 1) 0) 10)) ≡ true → getD file h 0 ≡ 62
+    go : (t : Bool) → eqb (getD file h 0) 62 ≡ t → (t && (eqb h 0 || isLf file (h - 1))) ≡ true → getD file h 0 ≡ 62
     go true f g = eqb-true (getD file h 0) 62 f
     go false f g = let z : _≡_ {A = ℕ} 0 1 = cc in absurd (omega arith)
 
 -- No header starts after a byte that is not LF.
-inside : (file : List ℕ) (j : ℕ) → 0 < j → (getD file (j - 1) 0 ≡ 10 → ⊥) → isHeader file j ≡ false
+inside : (file : List ℕ) (j : ℕ) → 0 < j → isLf file (j - 1) ≡ false → isHeader file j ≡ false
 unfolding isHeader
-inside file j h e = rw (ne-eqb j 0 (λ z. omega arith), ne-eqb (getD file (j - 1) 0) 10 e) (and-false (eqb (getD file j 0) 62))
+inside file j h e = rw (ne-eqb j 0 (λ z. omega arith), e) (and-false (eqb (getD file j 0) 62))
 
 -- What the record f of the header at h says of what comes after it.
 record After (file : List ℕ) (h : ℕ) (f : Found) : Type 0 where
@@ -119,55 +112,39 @@ module _ (file : List ℕ) (h : ℕ) (low : h < length file) (is : isHeader file
   abbrev lf : ℕ
   lf = lineEnd file h
 
-  lf-line : Line file (h + 1) (length file - (h + 1)) lf
-  lf-line = line file (h + 1) (length file - (h + 1))
+  lf-first : First (isLf file) (h + 1) (length file - (h + 1)) lf
+  lf-first = first (isLf file) (h + 1) (length file - (h + 1))
 
-  no-lf : (j : ℕ) → h ≤ j → j < lf → getD file j 0 ≡ 10 → ⊥
-  no-lf j a b c =
-      elim (ℕ-discrete j h) as (λ _. ⊥) [
-        | yes q ↦ let z : _≡_ {A = ℕ} 62 10 = sym (mark file h is) ∙ ap (λ (x : ℕ). getD file x 0) (sym q) ∙ c in omega arith
-        | no q ↦ lf-line .none j (omega arith) b c
+  no-lf : (j : ℕ) → h ≤ j → j < lf → isLf file j ≡ false
+  no-lf j a b =
+      elim (ℕ-discrete j h) as (λ _. isLf file j ≡ false) [
+        | yes q ↦ rw (q, mark file h is)
+        | no q ↦ lf-first .none j (omega arith) b
       ]
 
-  no-header : (j : ℕ) → h + 1 ≤ j → j < h + 1 + (lf - h) → isHeader file j ≡ false
+  no-header : (j : ℕ) → h + 1 ≤ j → j < lf + 1 → isHeader file j ≡ false
   no-header j a b = inside file j (omega arith) (no-lf (j - 1) (omega arith) (omega arith))
 
   with-line : lf < length file → After file h (recordOf file h)
   unfolding recordTo
   with-line g =
-      let k : length file - (h + 1) ≡ lf - h + (length file - (lf + 1)) = omega (arith, lf-line .low) in
-      let m : h + 1 + (lf - h) ≡ lf + 1 = omega (arith, lf-line .low) in
-      let o : lf + 1 + (length file - (lf + 1)) ≡ length file = omega arith in
-      let hd = header file (lf + 1) (length file - (lf + 1)) in
+      let hd = first (isHeader file) (lf + 1) (length file - (lf + 1)) in
       let end : lf + 1 + (headerAt file (lf + 1) - (lf + 1)) ≡ headerAt file (lf + 1) = omega (arith, hd .low) in
-      let s : headersFrom file (h + 1) (length file - (h + 1)) ≡ headersFrom file (headerAt file (lf + 1)) (length file - headerAt file (lf + 1)) =
-      ap (headersFrom file (h + 1)) k
-      ∙ skip file (lf - h) (h + 1) (length file - (lf + 1)) no-header
-      ∙ ap (λ (x : ℕ). headersFrom file x (length file - (lf + 1))) m
-      ∙ hd .same
-      ∙ ap (λ (x : ℕ). headersFrom file (headerAt file (lf + 1)) (x - headerAt file (lf + 1))) o in
+      let passed = skip-to file (h + 1) (lf + 1) (omega (arith, lf-first .low)) (omega arith) no-header in
       record {
         header = h;
         header-len = headerLength file h lf;
         body = lf + 1;
         body-len = headerAt file (lf + 1) - (lf + 1);
         found = rw (lt-ltb lf (length file) g);
-        later = omega (arith, lf-line .low);
+        later = omega (arith, lf-first .low);
         within = omega (arith, hd .high);
-        same = rw end s;
+        same = rw end (passed ∙ from-first file (lf + 1) (headerAt file (lf + 1)) hd);
       }
 
   cut-off : length file ≤ lf → After file h (recordOf file h)
   unfolding recordTo
   cut-off g =
-      let k : length file - (h + 1) ≡ length file - (h + 1) + 0 = omega arith in
-      let m : h + 1 + (length file - (h + 1)) ≡ length file + 0 = omega arith in
-      let o : 0 ≡ length file - (length file + 0) = omega arith in
-      let s : headersFrom file (h + 1) (length file - (h + 1)) ≡ headersFrom file (length file + 0) (length file - (length file + 0)) =
-      ap (headersFrom file (h + 1)) k
-      ∙ skip file (length file - (h + 1)) (h + 1) 0 (λ j a b. no-header j a (omega (arith, lf-line .low, lf-line .high)))
-      ∙ ap (λ (x : ℕ). headersFrom file x 0) m
-      ∙ ap (headersFrom file (length file + 0)) o in
       record {
         header = h;
         header-len = length file - h;
@@ -176,7 +153,7 @@ module _ (file : List ℕ) (h : ℕ) (low : h < length file) (is : isHeader file
         found = rw (le-ltb lf (length file) g);
         later = omega arith;
         within = omega arith;
-        same = s;
+        same = skip-to file (h + 1) (length file + 0) (omega arith) (omega arith) (λ j a b. no-header j a (omega arith));
       }
 
   after : After file h (recordOf file h)
@@ -197,20 +174,20 @@ data Next (file : List ℕ) (at : ℕ) : Type 0 where
 no-more : (file : List ℕ) (at : ℕ) → length file ≤ headerAt file at → Next file at
 unfolding recordFrom
 no-more file at g =
-    let hd = header file at (length file - at) in
-    let e : at + (length file - at) - headerAt file at ≡ 0 = omega (arith, hd .low) in
-    none-left (rw (le-ltb (headerAt file at) (length file) g)) (ap (map (recordOf file)) (hd .same ∙ no-places file (headerAt file at) _ e))
+    let hd = first (isHeader file) at (length file - at) in
+    let no-headers = from-first file at (headerAt file at) hd ∙ no-places file (headerAt file at) _ (omega arith) in
+    none-left (rw (le-ltb (headerAt file at) (length file) g)) (ap (map (recordOf file)) no-headers)
 
 -- The first header from an offset, and the headers after its record.
-headers-split : (file : List ℕ) (at h end : ℕ) → Header file at (length file - at) h → h < length file → isHeader file h ≡ true
+headers-split : (file : List ℕ) (at h end : ℕ) → First (isHeader file) at (length file - at) h → h < length file → isHeader file h ≡ true
     → headersFrom file (h + 1) (length file - (h + 1)) ≡ headersFrom file end (length file - end)
     → headersFrom file at (length file - at) ≡ h ∷ headersFrom file end (length file - end)
 headers-split file at h end hd g is same =
-    let n : at + (length file - at) - h ≡ suc (length file - (h + 1)) = omega (arith, hd .low) in
-    hd .same ∙ rw (n, hit file h (length file - (h + 1)) is, ← add-one h, same)
+    let n : length file - h ≡ suc (length file - (h + 1)) = omega arith in
+    from-first file at h hd ∙ rw (n, hit file h (length file - (h + 1)) is, ← add-one h, same)
 
-one-found : (file : List ℕ) (at h : ℕ) → h ≡ headerAt file at → Header file at (length file - at) h → h < length file → isHeader file h ≡ true
-    → After file h (recordOf file h) → Next file at
+one-found : (file : List ℕ) (at h : ℕ) → h ≡ headerAt file at → First (isHeader file) at (length file - at) h → h < length file
+    → isHeader file h ≡ true → After file h (recordOf file h) → Next file at
 unfolding recordFrom
 one-found file at h f hd g is a =
     one-more (a .header) (a .header-len) (a .body) (a .body-len) (rw (← f, lt-ltb h (length file) g) (a .found))
@@ -222,8 +199,8 @@ next : (file : List ℕ) (at : ℕ) → Next file at
 next file at =
     elim (decLt (headerAt file at) (length file)) as (λ _. Next file at) [
       | yes g ↦
-          let hd = header file at (length file - at) in
-          let is = hd .opens (omega (arith, hd .low)) in
+          let hd = first (isHeader file) at (length file - at) in
+          let is = hd .passes (omega (arith, hd .low)) in
           one-found file at (headerAt file at) refl hd g is (after file (headerAt file at) g is)
       | no g ↦ no-more file at (omega arith)
     ]

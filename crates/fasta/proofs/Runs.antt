@@ -1,14 +1,13 @@
 -- The theorem letters = windows + foreign + edge, for every file, every rank function and every k from 1. A run's letters are its
--- windows and its edge letters (`run-split`); what stands in runs is the letters that are not foreign.
+-- windows and its edge letters (`run-split`); what stands in runs is the letters that are not foreign. Besides, a file has one item a byte
+-- (`items-length`) and no more windows than bytes (`windows-fit`).
 use mathlib.Core.Path.{_≡_, refl, ap, _∙_}
-use Prim.Native.Nat.{ℕ, suc, _+_, _-_, _≤_, min}
+use Prim.Native.Nat.{ℕ, suc, _+_, _≤_}
 use native.Mathlib.Omega.{arith}
-use mathlib.Core.Bool.{Bool, true, false, cond}
 use mathlib.Core.Option.{Option, none, some}
 use mathlib.Core.List.{List, [], _∷_}
-use lib.ListN.{length, take, length-append}
-use lib.Dec.{leb}
-use borrow.Author.Tests.{leb-true, leb-false}
+use lib.ListN.{length, length-append}
+use Rattle.laws.proofs.Windows.{length-windows}
 use Rattle.fasta.specs.declared.Item.{Item}
 use Rattle.fasta.specs.declared.Item.the-variants.{Opens, Skip, Stray, Letter}
 use Rattle.fasta.specs.declared.Mode.{Mode}
@@ -52,14 +51,8 @@ letters-split rank (Letter b ∷ is) = by-rank (rank b) (letters-split rank is)
 
 -- "its windows .. are as many as the rest"
 pub run-split : (k : ℕ) (r : List ℕ) → 1 ≤ k → length (windows k r) + edge k r ≡ length r
-unfolding windows edge
-run-split k [] h = omega arith
-run-split k (x ∷ xs) h = fits-or-not (leb k (suc (length xs))) refl (run-split k xs h)
-  where
-    fits-or-not : (b : Bool) → leb k (suc (length xs)) ≡ b → length (windows k xs) + edge k xs ≡ length xs
-        → length (cond b (take k (x ∷ xs) ∷ windows k xs) (windows k xs)) + min (suc (length xs)) (k - 1) ≡ suc (length xs)
-    fits-or-not true e ih = omega (arith, leb-true k (suc (length xs)) e)
-    fits-or-not false e ih = omega (arith, leb-false k (suc (length xs)) e)
+unfolding edge
+run-split k r h = omega (arith, length-windows k h r)
 
 runs-split : (k : ℕ) (rs : List (List ℕ)) → 1 ≤ k → length (windowsOf k rs) + edgesOf k rs ≡ total rs
 unfolding windowsOf edgesOf total

@@ -9,7 +9,6 @@ use lib.ListN.{length}
 use borrow.Author.Tests.{lt-ltb, le-ltb}
 use Rattle.settings.specs.Grounds.{Ground, Outcome, given, refused, outcome}
 use Rattle.settings.specs.Settings.{rankIn, settingsGround, settingsOf}
-use Rattle.settings.specs.declared.Settings.{Settings}
 use Rattle.settings.proofs.Outcomes.{refused-on, passed, first-none}
 use Rattle.settings.proofs.SettingsGrounds.{good-settings}
 use Rattle.fasta.specs.declared.Numbers.{Numbers}
@@ -18,18 +17,6 @@ use Rattle.fasta.specs.Scan.{tooLong, scanGround}
 use Rattle.settings.specs.RankTables.{rankByTable, RankTable}
 use Rattle.fasta.proofs.Ranks.{numbers-by-table}
 use Rattle.fasta.proofs.Runs.{letters-are}
-
-module _ (letters : List ℕ) (k mirror : ℕ) (st : Settings) (e : given st ≡ outcome (settingsGround letters k mirror) (settingsOf letters k mirror)) where
-  none-applies : settingsGround letters k mirror ≡ none
-  none-applies = passed (settingsOf letters k mirror) (settingsGround letters k mirror) e .none-applies
-
-  -- Settings that the check gives have at most 16 letters.
-  pub few-letters : length letters ≤ 16
-  few-letters = good-settings letters k mirror none-applies .few
-
-  -- Their k is at least 1.
-  pub some-k : 1 ≤ k
-  some-k = let h = good-settings letters k mirror none-applies .some-k in omega arith
 
 module _ (letters : List ℕ) (k mirror : ℕ) (file : List ℕ) where
   abbrev answer : Outcome Numbers
@@ -40,16 +27,17 @@ module _ (letters : List ℕ) (k mirror : ℕ) (file : List ℕ) where
   unfolding scanGround
   bad-settings f e = refused-on f (settingsOf letters k mirror) (fileNumbers (rankIn letters) k file) (settingsGround letters k mirror) _ e
 
-  module _ (st : Settings) (e : given st ≡ outcome (settingsGround letters k mirror) (settingsOf letters k mirror)) where
+  -- Where no ground of the settings applies.
+  module _ (good : settingsGround letters k mirror ≡ none) where
     pub long-file : 16777216 < length file → refused (6, 0) ≡ answer
     unfolding scanGround tooLong
-    long-file h = rw (none-applies letters k mirror st e, lt-ltb 16777216 (length file) h)
+    long-file h = rw (good, lt-ltb 16777216 (length file) h)
 
     -- Past the length it is the file's first fault, or its numbers by a table of ranks.
     pub scanned : (table : List ℕ) → RankTable letters table → length file ≤ 16777216
         → outcome (fileFault file) (fileNumbers (rankByTable table) k file) ≡ answer
     unfolding scanGround tooLong
-    scanned table t h = rw (none-applies letters k mirror st e, le-ltb 16777216 (length file) h, numbers-by-table letters table t k file)
+    scanned table t h = rw (good, le-ltb 16777216 (length file) h, numbers-by-table letters table t k file)
 
 -- What a scan takes in adds up: letters = windows + foreign + edge, for every answer that is no refusal.
 pub taken-adds : (letters : List ℕ) (k mirror : ℕ) (file : List ℕ) (n : Numbers)

@@ -10,6 +10,7 @@ use mathlib.Core.List.{List, [], _∷_, _++_}
 use lib.ListN.{length, getD, drop, drop-of-length-le, length-append}
 use lib.Seq.{drop-cons}
 use lib.Dec.{eqb, leb, ltb}
+use borrow.Author.Needs.{needs}
 use borrow.Author.Tests.{eqb-true, eqb-false, lt-ltb, le-ltb}
 use Rattle.settings.specs.Grounds.{Outcome, given, refused, outcome}
 use Rattle.fasta.specs.declared.Item.{Item}
@@ -61,12 +62,12 @@ same-numbers : {a a′ b b′ c c′ d d′ e e′ : ℕ} → a ≡ a′ → b �
 same-numbers p q r s t = rw (p, q, r, s, t)
 
 -- The windows of what is to come from the letter x on: one more where x closes one.
-closes-one : (k : ℕ) (r : List ℕ) (x : ℕ) (ms : List (Option ℕ)) (c : Bool) → leb k (length r + 1) ≡ c
-    → length (windowsFrom k r (some x ∷ ms)) ≡ cond c 1 0 + length (windowsFrom k (r ++ (x ∷ [])) ms)
+closes-one : (k : ℕ) (r : List ℕ) (x : ℕ) (ms : List (Option ℕ))
+    → length (windowsFrom k r (some x ∷ ms)) ≡ cond (leb k (length r + 1)) 1 0 + length (windowsFrom k (r ++ (x ∷ [])) ms)
 unfolding closes windowsFrom
-closes-one k r x ms c e =
+closes-one k r x ms =
     let n : length (r ++ (x ∷ [])) ≡ length r + 1 = omega (arith, length-append r (x ∷ [])) in
-    rw (n, e) (go c)
+    rw n (go (leb k (length r + 1)))
   where
     go : (c : Bool)
         → length (cond c (drop (length r + 1 - k) (r ++ (x ∷ [])) ∷ []) [] ++ windowsFrom k (r ++ (x ∷ [])) ms)
@@ -85,32 +86,21 @@ module _ (rank : ℕ → Option ℕ) (k : ℕ) where
       ih (suc at) (withHeader t) [] refl
       ∙ rw (lt-ltb 0 (t .records + 1) (omega arith)) (ap (outcome (faultFrom true (suc at) is)) (same-numbers (omega arith) refl refl refl refl))
 
-  -- A letter after a header: by its rank, and by whether it closes a window.
-  ranked : (is : List Item) → Told is → (o : Option ℕ) (c : Bool) (at : ℕ) (t : Tally) (r : List ℕ) → t .run ≡ length r
-      → ltb 0 (t .records) ≡ true
-      → leb k (t .run + 1) ≡ c
+  -- A letter after a header, by its rank.
+  ranked : (is : List Item) → Told is → (o : Option ℕ) (at : ℕ) (t : Tally) (r : List ℕ) → t .run ≡ length r → ltb 0 (t .records) ≡ true
       → scanFrom rank k (suc at) (withLetter k t o) is
       ≡ outcome (faultFrom true (suc at) is)
       (plus t (recordsIn is) (suc (lettersIn is)) (oneIfForeign o + foreignIn rank is) (edgesFrom k (length r) (o ∷ marks rank is))
       (length (windowsFrom k r (o ∷ marks rank is))))
   unfolding Told withLetter oneIfForeign edgesFrom windowsFrom
-  ranked is ih none c at t r e h f =
+  ranked is ih none at t r e h =
       ih (suc at) (withLetter k t none) [] refl
       ∙ rw h (ap (outcome (faultFrom true (suc at) is)) (same-numbers refl (omega arith) (omega arith) refl refl))
-  ranked is ih (some x) true at t r e h f =
+  ranked is ih (some x) at t r e h =
       let n : length (r ++ (x ∷ [])) ≡ length r + 1 = omega (arith, length-append r (x ∷ [])) in
-      let g : leb k (length r + 1) ≡ true = rw (← e) f in
-      let l = closes-one k r x (marks rank is) true g in
-      rw (f, g)
-      (ih (suc at) _ (r ++ (x ∷ [])) (omega arith)
-      ∙ rw (h, n) (ap (outcome (faultFrom true (suc at) is)) (same-numbers refl (omega arith) (omega arith) (omega arith) (omega arith))))
-  ranked is ih (some x) false at t r e h f =
-      let n : length (r ++ (x ∷ [])) ≡ length r + 1 = omega (arith, length-append r (x ∷ [])) in
-      let g : leb k (length r + 1) ≡ false = rw (← e) f in
-      let l = closes-one k r x (marks rank is) false g in
-      rw (f, g)
-      (ih (suc at) _ (r ++ (x ∷ [])) (omega arith)
-      ∙ rw (h, n) (ap (outcome (faultFrom true (suc at) is)) (same-numbers refl (omega arith) (omega arith) (omega arith) (omega arith))))
+      let l = closes-one k r x (marks rank is) in
+      ih (suc at) (withLetter k t (some x)) (r ++ (x ∷ [])) (omega arith)
+      ∙ rw (h, n, e) (ap (outcome (faultFrom true (suc at) is)) (same-numbers refl (omega arith) (omega arith) (omega arith) (omega arith)))
 
   lettered : (b : ℕ) (is : List Item) → Told is → Told (Letter b ∷ is)
   unfolding Told scanFrom faultFrom recordsIn lettersIn foreignIn marks
@@ -123,7 +113,7 @@ module _ (rank : ℕ → Option ℕ) (k : ℕ) where
       go false f =
           let ne = eqb-false (t .records) 0 f in
           let h = lt-ltb 0 (t .records) (omega arith) in
-          rw h (ranked is ih (rank b) (leb k (t .run + 1)) at t r e h refl)
+          rw h (ranked is ih (rank b) at t r e h)
 
   told : (is : List Item) → Told is
   unfolding Told scanFrom faultFrom recordsIn lettersIn foreignIn marks edgesFrom windowsFrom
@@ -161,27 +151,26 @@ SmallStep n (On t) = Small n t
 SmallStep n AtStray = Unit {0}
 SmallStep n AtEarly = Unit {0}
 
-small-letter : (k n : ℕ) (t : Tally) (o : Option ℕ) (b : Bool) → leb k (t .run + 1) ≡ b → Small n t → Small (n + 1) (withLetter k t o)
+-- What a settings letter adds to the edge letters and to the windows.
+at-most-one : (c : Bool) → (cond c 0 1 ≤ 1) × (cond c 1 0 ≤ 1)
+at-most-one true = omega arith
+at-most-one false = omega arith
+
+small-letter : (k n : ℕ) (t : Tally) (o : Option ℕ) → Small n t → Small (n + 1) (withLetter k t o)
 unfolding withLetter
-small-letter k n t none b e s =
-    record { records = omega arith; letters = omega arith; foreign = omega arith; edge = omega arith; windows = omega arith; run = omega arith }
-small-letter k n t (some x) true e s =
-    rw e (record { records = omega arith; letters = omega arith; foreign = omega arith; edge = omega arith; windows = omega arith; run = omega arith })
-small-letter k n t (some x) false e s =
-    rw e (record { records = omega arith; letters = omega arith; foreign = omega arith; edge = omega arith; windows = omega arith; run = omega arith })
+small-letter k n t none s = search needs
+small-letter k n t (some x) s = let h = at-most-one (leb k (t .run + 1)) in search needs
 
 small-step : (rank : ℕ → Option ℕ) (k n : ℕ) (t : Tally) (it : Item) → Small n t → SmallStep (n + 1) (took rank k t it)
 unfolding SmallStep
-small-step rank k n t Opens s =
-    record { records = omega arith; letters = omega arith; foreign = omega arith; edge = omega arith; windows = omega arith; run = omega arith }
-small-step rank k n t Skip s =
-    record { records = omega arith; letters = omega arith; foreign = omega arith; edge = omega arith; windows = omega arith; run = omega arith }
+small-step rank k n t Opens s = search needs
+small-step rank k n t Skip s = search needs
 small-step rank k n t Stray s = tt
 small-step rank k n t (Letter b) s = go (eqb (t .records) 0)
   where
     go : (c : Bool) → SmallStep (n + 1) (cond c AtEarly (On (withLetter k t (rank b))))
     go true = tt
-    go false = small-letter k n t (rank b) (leb k (t .run + 1)) refl s
+    go false = small-letter k n t (rank b) s
 
 -- At the head: the scan's answer is that of the items that are left, from here.
 pub record Scanning (file : List ℕ) (rank : ℕ → Option ℕ) (k : ℕ) (m : Mode) (t : Tally) (i : ℕ) : Type 0 where
@@ -194,31 +183,38 @@ pub start : (file : List ℕ) (rank : ℕ → Option ℕ) (k : ℕ) → 1 ≤ k 
 start file rank k h =
     record {
       inside = omega arith;
-      small = record { records = omega arith; letters = omega arith; foreign = omega arith; edge = omega arith; windows = omega arith; run = omega arith };
+      small = search needs;
       answer = sym (scan-is rank k (items file) h);
     }
 
-module _ (file : List ℕ) (rank : ℕ → Option ℕ) (k : ℕ) (m : Mode) (t : Tally) (i : ℕ) (S : Scanning file rank k m t i) where
-  pub done : length file ≤ i → given (numbersOf t) ≡ outcome (fileFault file) (fileNumbers rank k file)
+-- Where nothing is left, the tally's numbers are the answer.
+pub done : {file : List ℕ} {rank : ℕ → Option ℕ} {k : ℕ} {m : Mode} {t : Tally} {i : ℕ} → Scanning file rank k m t i → length file ≤ i
+    → given (numbersOf t) ≡ outcome (fileFault file) (fileNumbers rank k file)
+unfolding scanFrom
+done {file} {m = m} {i = i} S h = sym (S .answer ∙ rw (items-end file i m h))
+
+-- A turn: the item of the byte at i, and the step on it.
+pub record Turn (file : List ℕ) (rank : ℕ → Option ℕ) (k : ℕ) (m : Mode) (t : Tally) (i : ℕ) (it : Item) (st : Step) : Type 0 where
+  pub scanning : Scanning file rank k m t i
+  pub more : i < length file
+  pub it-is : it ≡ item m (getD file i 0) (lfNext (drop (i + 1) file))
+  pub st-is : st ≡ took rank k t it
+
+module _ {file : List ℕ} {rank : ℕ → Option ℕ} {k : ℕ} {m : Mode} {t : Tally} {i : ℕ} {it : Item} {st : Step} (T : Turn file rank k m t i it st) where
+  after : outcome (fileFault file) (fileNumbers rank k file)
+      ≡ afterStep st i (λ (u : Tally). scanFrom rank k (suc i) u (itemsFrom (next m (getD file i 0)) (drop (i + 1) file)))
   unfolding scanFrom
-  done h = sym (S .answer ∙ rw (items-end file i m h))
+  after = T .scanning .answer ∙ rw (items-step file i m (T .more), T .st-is, T .it-is)
 
-  module _ (it : Item) (st : Step) (more : i < length file) (it-is : it ≡ item m (getD file i 0) (lfNext (drop (i + 1) file)))
-      (st-is : st ≡ took rank k t it) where
-    after : outcome (fileFault file) (fileNumbers rank k file)
-        ≡ afterStep st i (λ (u : Tally). scanFrom rank k (suc i) u (itemsFrom (next m (getD file i 0)) (drop (i + 1) file)))
-    unfolding scanFrom
-    after = S .answer ∙ rw (items-step file i m more, st-is, it-is)
+  pub at-stray : st ≡ AtStray → refused (10, i) ≡ outcome (fileFault file) (fileNumbers rank k file)
+  at-stray e = sym (after ∙ rw e)
 
-    pub at-stray : st ≡ AtStray → refused (10, i) ≡ outcome (fileFault file) (fileNumbers rank k file)
-    at-stray e = sym (after ∙ rw e)
+  pub at-early : st ≡ AtEarly → refused (11, i) ≡ outcome (fileFault file) (fileNumbers rank k file)
+  at-early e = sym (after ∙ rw e)
 
-    pub at-early : st ≡ AtEarly → refused (11, i) ≡ outcome (fileFault file) (fileNumbers rank k file)
-    at-early e = sym (after ∙ rw e)
-
-    -- A turn that goes on keeps it.
-    pub turn : (m′ : Mode) (u : Tally) → st ≡ On u → m′ ≡ next m (getD file i 0) → Scanning file rank k m′ u (i + 1)
-    unfolding SmallStep
-    turn m′ u e m-is =
-        let s : SmallStep (i + 1) st = rw st-is (small-step rank k i t it (S .small)) in
-        rw m-is (record { inside = omega arith; small = rw e at s; answer = after ∙ rw (e, add-one i) })
+  -- A turn that goes on keeps what holds at the head.
+  pub goes-on : (m′ : Mode) (u : Tally) → st ≡ On u → m′ ≡ next m (getD file i 0) → Scanning file rank k m′ u (i + 1)
+  unfolding SmallStep
+  goes-on m′ u e m-is =
+      let s : SmallStep (i + 1) st = rw (T .st-is) (small-step rank k i t it (T .scanning .small)) in
+      rw m-is (record { inside = omega (arith, T .more); small = rw e at s; answer = after ∙ rw (e, add-one i) })

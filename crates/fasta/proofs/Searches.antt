@@ -1,47 +1,36 @@
--- One step of each search that the record reader makes, and what each of its functions answers, from the definitions.
+-- One step of a search that the record reader makes, for a header or for LF, and what each of its functions answers, from the definitions.
 use mathlib.Core.Path.{_≡_}
 use Prim.Native.Nat.{ℕ, suc, _+_, _-_, _<_, _≤_}
 use native.Mathlib.Numerals.{add-one}
 use native.Mathlib.Omega.{arith}
-use mathlib.Core.Bool.{true, false}
+use mathlib.Core.Bool.{Bool, true, false}
 use mathlib.Core.List.{List}
 use lib.ListN.{length, getD}
-use lib.Dec.{eqb}
 use borrow.Author.Tests.{eq-eqb, ne-eqb, lt-ltb, le-ltb}
 use Rattle.fasta.specs.declared.records.Found.the-variants.{Record, Nothing}
-use Rattle.fasta.specs.Records.{isHeader, headerFrom, headerAt, lfFrom, lineEnd, recordTo, recordFrom}
+use Rattle.fasta.specs.Records.{isLf, isHeader, firstFrom, headerAt, lineEnd, recordTo, recordFrom}
 
-module _ (file : List ℕ) (i : ℕ) where
-  one-more : i < length file → length file - i ≡ suc (length file - suc i)
+-- A search of the places below an end, from i on: the first is at i, or it is that from i + 1 on, or no place is left.
+module _ (test : ℕ → Bool) (end i : ℕ) where
+  one-more : i < end → end - i ≡ suc (end - suc i)
   one-more h = omega arith
 
-  none-left : length file ≤ i → length file - i ≡ 0
+  none-left : end ≤ i → end - i ≡ 0
   none-left h = omega arith
 
-  pub header-here : i < length file → isHeader file i ≡ true → headerAt file i ≡ i
-  unfolding headerFrom
-  header-here h e = rw (one-more h, e)
+  pub first-here : i < end → test i ≡ true → firstFrom test i (end - i) ≡ i
+  unfolding firstFrom
+  first-here h e = rw (one-more h, e)
 
-  pub header-next : i < length file → isHeader file i ≡ false → headerAt file i ≡ headerAt file (i + 1)
-  unfolding headerFrom
-  header-next h e = rw (one-more h, e, add-one i)
+  pub first-next : i < end → test i ≡ false → firstFrom test i (end - i) ≡ firstFrom test (i + 1) (end - (i + 1))
+  unfolding firstFrom
+  first-next h e = rw (one-more h, e, add-one i)
 
-  pub header-none : length file ≤ i → headerAt file i ≡ i
-  unfolding headerFrom
-  header-none h = rw (none-left h)
+  pub first-none : end ≤ i → firstFrom test i (end - i) ≡ i
+  unfolding firstFrom
+  first-none h = rw (none-left h)
 
-  pub lf-here : i < length file → getD file i 0 ≡ 10 → lfFrom file i (length file - i) ≡ i
-  unfolding lfFrom
-  lf-here h e = rw (one-more h, eq-eqb (getD file i 0) 10 e)
-
-  pub lf-next : i < length file → (getD file i 0 ≡ 10 → ⊥) → lfFrom file i (length file - i) ≡ lfFrom file (i + 1) (length file - (i + 1))
-  unfolding lfFrom
-  lf-next h e = rw (one-more h, ne-eqb (getD file i 0) 10 e, add-one i)
-
-  pub lf-none : length file ≤ i → lfFrom file i (length file - i) ≡ i
-  unfolding lfFrom
-  lf-none h = rw (none-left h)
-
+module _ (file : List ℕ) (i : ℕ) where
   pub no-mark : (getD file i 0 ≡ 62 → ⊥) → false ≡ isHeader file i
   unfolding isHeader
   no-mark e = rw (ne-eqb (getD file i 0) 62 e)
@@ -50,7 +39,7 @@ module _ (file : List ℕ) (i : ℕ) where
   unfolding isHeader
   at-start e f = rw (eq-eqb (getD file i 0) 62 e, eq-eqb i 0 f)
 
-  pub after-lf : getD file i 0 ≡ 62 → (i ≡ 0 → ⊥) → eqb (getD file (i - 1) 0) 10 ≡ isHeader file i
+  pub after-lf : getD file i 0 ≡ 62 → (i ≡ 0 → ⊥) → isLf file (i - 1) ≡ isHeader file i
   unfolding isHeader
   after-lf e f = rw (eq-eqb (getD file i 0) 62 e, ne-eqb i 0 f)
 

@@ -18,9 +18,15 @@ unfoldable pub withLetter : ℕ → Tally → Option ℕ → Tally
 withLetter k t none =
     record { records = t .records; letters = t .letters + 1; foreign = t .foreign + 1; edge = t .edge; windows = t .windows; run = 0 }
 withLetter k t (some x) =
-    cond (leb k (t .run + 1))
-    (record { records = t .records; letters = t .letters + 1; foreign = t .foreign; edge = t .edge; windows = t .windows + 1; run = t .run + 1 })
-    (record { records = t .records; letters = t .letters + 1; foreign = t .foreign; edge = t .edge + 1; windows = t .windows; run = t .run + 1 })
+    let closes = leb k (t .run + 1) in
+    record {
+      records = t .records;
+      letters = t .letters + 1;
+      foreign = t .foreign;
+      edge = t .edge + cond closes 0 1;
+      windows = t .windows + cond closes 1 0;
+      run = t .run + 1;
+    }
 
 -- One item.
 abbrev pub took : (ℕ → Option ℕ) → ℕ → Tally → Item → Step

@@ -8,28 +8,27 @@ use lib.Dec.{eqb, ltb}
 use Rattle.fasta.specs.declared.records.Found.{Found}
 use Rattle.fasta.specs.declared.records.Found.the-variants.{Record, Nothing}
 
--- Whether a line of the file starts at p and begins with >.
-unfoldable pub isHeader : List ℕ → ℕ → Bool
-isHeader file p = eqb (getD file p 0) 62 && (eqb p 0 || eqb (getD file (p - 1) 0) 10)
+-- Whether the byte at p is LF.
+abbrev pub isLf : List ℕ → ℕ → Bool
+isLf file p = eqb (getD file p 0) 10
 
--- The first of the n places from p at which a header starts; p + n where none does.
-unfoldable pub headerFrom : List ℕ → ℕ → ℕ → ℕ
-headerFrom file p zero = p
-headerFrom file p (suc n) = cond (isHeader file p) p (headerFrom file (suc p) n)
+-- Whether a line of the file starts at p, at its start or after LF, and begins with >.
+unfoldable pub isHeader : List ℕ → ℕ → Bool
+isHeader file p = eqb (getD file p 0) 62 && (eqb p 0 || isLf file (p - 1))
+
+-- The first of the n places from p that passes a test; p + n where none does.
+unfoldable pub firstFrom : (test : ℕ → Bool) (p n : ℕ) → ℕ
+firstFrom test p zero = p
+firstFrom test p (suc n) = cond (test p) p (firstFrom test (suc p) n)
 
 -- "from any offset the next header is the first line starting with > at or after it": its place; where there is none, the file's length,
 -- or the offset itself where that is past the end.
 abbrev pub headerAt : List ℕ → ℕ → ℕ
-headerAt file at = headerFrom file at (length file - at)
-
--- The first LF among the n places from p; p + n where there is none.
-unfoldable pub lfFrom : List ℕ → ℕ → ℕ → ℕ
-lfFrom file p zero = p
-lfFrom file p (suc n) = cond (eqb (getD file p 0) 10) p (lfFrom file (suc p) n)
+headerAt file at = firstFrom (isHeader file) at (length file - at)
 
 -- The LF that ends the line of the header at h; the file's length where the file's end cuts it off.
 abbrev pub lineEnd : List ℕ → ℕ → ℕ
-lineEnd file h = lfFrom file (h + 1) (length file - (h + 1))
+lineEnd file h = firstFrom (isLf file) (h + 1) (length file - (h + 1))
 
 -- The length of a header line without its end, the LF standing at e: a CR before the LF is part of the end.
 abbrev pub headerLength : List ℕ → ℕ → ℕ → ℕ

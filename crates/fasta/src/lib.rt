@@ -68,7 +68,11 @@ enum Step {
 fn lf_at(file: &[u8], i: usize) -> bool
     ensures { λ r. ⌜ r ≡ lfNext (drop i (now (file .entry))) ⌝ }
 {
-    if i < file.len() { file[i] == 10 } else { false }
+    if i < file.len() {
+        file[i] == b'\n'
+    } else {
+        false
+    }
 }
 
 // The byte at i, as one of a sequence line. Only a CR asks for the byte after it.
@@ -79,8 +83,8 @@ fn line_item(file: &[u8], i: usize) -> Item
     let b = file[i];
     match b {
         b'A'..=b'Z' | b'a'..=b'z' => Item::Letter(b),
-        10 => Item::Skip,
-        13 => {
+        b'\n' => Item::Skip,
+        b'\r' => {
             if lf_at(file, i + 1) {
                 Item::Skip
             } else {
@@ -91,7 +95,7 @@ fn line_item(file: &[u8], i: usize) -> Item
     }
 }
 
-// What the byte at i is.
+// What the byte at i is. For `table` too, which reads byte by byte; i lies inside the file.
 pub fn item_at(file: &[u8], i: usize, mode: Mode) -> Item
     requires { ⌜ i < length (now file) ⌝ }
     ensures { λ r. ⌜ r ≡ item mode (getD (now (file .entry)) i 0) (lfNext (drop (i + 1) (now (file .entry)))) ⌝ }
@@ -100,7 +104,7 @@ pub fn item_at(file: &[u8], i: usize, mode: Mode) -> Item
         Mode::Header => Item::Skip,
         Mode::Sequence => line_item(file, i),
         Mode::Start => {
-            if file[i] == 62 {
+            if file[i] == b'>' {
                 Item::Opens
             } else {
                 line_item(file, i)
@@ -109,18 +113,18 @@ pub fn item_at(file: &[u8], i: usize, mode: Mode) -> Item
     }
 }
 
-// Where the byte after b stands.
+// Where the byte after b stands. For `table` too.
 pub fn next_mode(mode: Mode, b: u8) -> Mode
     ensures { λ r. ⌜ r ≡ next mode b ⌝ }
 {
-    if b == 10 {
+    if b == b'\n' {
         return Mode::Start;
     }
     match mode {
         Mode::Header => Mode::Header,
         Mode::Sequence => Mode::Sequence,
         Mode::Start => {
-            if b == 62 {
+            if b == b'>' {
                 Mode::Header
             } else {
                 Mode::Sequence

@@ -26,13 +26,13 @@ fn is_header(file: &[u8], p: usize) -> bool
     requires { ⌜ p < length (now file) ⌝ }
     ensures { λ r. ⌜ r ≡ isHeader (now (file .entry)) p ⌝ }
 {
-    if file[p] != 62 {
+    if file[p] != b'>' {
         return false;
     }
     if p == 0 {
         return true;
     }
-    file[p - 1] == 10
+    file[p - 1] == b'\n'
 }
 
 // The next header at or after an offset; the file's length or more where there is none.
@@ -56,7 +56,7 @@ fn line_end(file: &[u8], h: usize) -> usize
 {
     let mut i = h + 1;
     while i < file.len() {
-        if file[i] == 10 {
+        if file[i] == b'\n' {
             return i;
         }
         i += 1;
@@ -79,7 +79,7 @@ fn record_to(file: &[u8], h: usize, e: usize) -> Found
     }
     let body = e + 1;
     let body_len = header_at(file, body) - body;
-    if file[e - 1] == 13 {
+    if file[e - 1] == b'\r' {
         return Found::Record {
             header: h,
             header_len: e - 1 - h,

@@ -2,10 +2,10 @@
 //   scan LETTERS K MIRROR FILE    taken, with the file's records, letters, foreign, edge and windows; or refused, with number and P
 //   read OFFSET FILE              record, with the offset and length of its header line and of what follows; or none; then the offset after
 //   # ..                          copied, to say what the next cases are about
+// A line under five bytes is skipped.
 // FILE is the rest of the line: \n is LF, \r is CR, \xHH is any byte, and every other byte stands for itself.
 use fasta::Answer;
 use fasta::Found;
-use settings::Refusal;
 ghost use mathlib.Core.Path.{_≡_};
 ghost use Prim.Native.Nat.{_+_, _<_, _≤_};
 ghost use lib.ListN.{length};
@@ -31,6 +31,7 @@ fn find(s: &[u8], from: usize, b: u8) -> usize
     i
 }
 
+// The value of a hexadecimal digit, 0 to 9 or a to f; 0 for every other byte.
 fn digit(b: u8) -> u8
     ensures { λ r. ⌜ r < 16 ⌝ }
 {
@@ -41,7 +42,7 @@ fn digit(b: u8) -> u8
     }
 }
 
-// A decimal number; digits past the twelfth are left out.
+// A decimal number, below 10^12: once it is 99,999,999,990 or more, the digits that are left are not read. Each byte counts as `digit` says.
 fn decimal(s: &[u8]) -> usize
     ensures { λ r. ⌜ r < 1000000000000 ⌝ }
 {
@@ -92,8 +93,14 @@ fn escape(s: &[u8], i: usize) -> Piece
         };
     }
     match s[i + 1] {
-        b'n' => Piece { byte: 10, used: 2 },
-        b'r' => Piece { byte: 13, used: 2 },
+        b'n' => Piece {
+            byte: b'\n',
+            used: 2,
+        },
+        b'r' => Piece {
+            byte: b'\r',
+            used: 2,
+        },
         _ => Piece {
             byte: b'\\',
             used: 1,
@@ -124,27 +131,6 @@ fn put(n: usize) {
     io::print_decimal(1, n as u64);
 }
 
-fn number_of(f: Refusal) -> usize {
-    match f {
-        Refusal::BadLetters => 1,
-        Refusal::BadMirror => 2,
-        Refusal::OddComplement => 3,
-        Refusal::BadK => 4,
-        Refusal::TooLarge => 6,
-        Refusal::StrayByte(_) => 10,
-        Refusal::EarlyLetter(_) => 11,
-        _ => 0,
-    }
-}
-
-fn place_of(f: Refusal) -> usize {
-    match f {
-        Refusal::StrayByte(p) => p,
-        Refusal::EarlyLetter(p) => p,
-        _ => 0,
-    }
-}
-
 fn put_scanned(r: Answer) {
     match r {
         Answer::Taken(n) => {
@@ -157,8 +143,8 @@ fn put_scanned(r: Answer) {
         }
         Answer::Refused(f) => {
             io::write_all(1, b"refused");
-            put(number_of(f));
-            put(place_of(f));
+            put(settings::number_of(f) as usize);
+            put(settings::place_of(f) as usize);
         }
     }
     io::write_all(1, b"\n");
@@ -217,6 +203,7 @@ fn read_case(s: &[u8], file: &mut [u8]) {
     put_found(f, fasta::offset_after(&file[..n], at));
 }
 
+// One line: one under five bytes is skipped, one that begins with s or r is run as a case, every other is copied.
 fn case(s: &[u8], file: &mut [u8]) {
     if s.len() < 5 {
         return;

@@ -10,6 +10,7 @@ use lib.Dec.{ltb}
 use lib.ListN.{length}
 use borrow.Author.Tests.{eqb-true, not-false, ltb-false}
 use Rattle.laws.specs.Windows.{windows}
+use Rattle.laws.proofs.Windows.{length-windows}
 use Rattle.laws.proofs.Powers.{exponent-le}
 use Rattle.settings.specs.declared.Refusal.{Refusal}
 use Rattle.settings.specs.declared.Refusal.the-variants.{BadLetters, BadMirror, OddComplement, BadK, WrongLength, TooLarge, ShortBuffer, NoSuchCode, ForeignByte, StrayByte, EarlyLetter, CountsFull, NoSurveyLine, LongInput}
@@ -20,7 +21,6 @@ use Rattle.settings.proofs.SettingsGrounds.{limits, good-settings}
 use Rattle.settings.proofs.Places.{Small, test-small, place-small, then-small, room-small, settings-small}
 use Rattle.encoding.specs.Calls.{hereOr, foreignFrom, wrongLength, mirrorGround}
 use Rattle.sequence.specs.Sequences.{sequenceGround}
-use Rattle.sequence.proofs.Windows.{length-windows}
 use Rattle.table.specs.Table.{classCount, tooMany, clearGround}
 use Rattle.kmer.specs.Returned.{ReturnsPlaces}
 use Rattle.kmer.specs.Needs.{PlaceFits}

@@ -1,6 +1,8 @@
--- Laws of numbers and lists.
+-- Laws of tests, numbers and lists.
+pub mod Tests
 pub mod Powers
 pub mod DigitWindows
 pub mod Lists
+pub mod Sums
 pub mod Windows
 pub mod Buffers

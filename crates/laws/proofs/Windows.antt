@@ -1,10 +1,12 @@
--- Windows of a list, from their definition (specs/Windows.antt): what the laws of files and of sequences both rest on.
-use mathlib.Core.Path.{_≡_, refl}
+-- Windows of a list, from their definition (specs/Windows.antt): the first one, and how many there are. The laws of files and of sequences
+-- both rest on these.
+use mathlib.Core.Path.{_≡_, refl, ap, _∙_}
 use mathlib.Core.List.{List, [], _∷_}
-use Prim.Native.Nat.{ℕ, suc, _<_}
+use Prim.Native.Nat.{ℕ, suc, _+_, _-_, _<_, _≤_}
+use native.Mathlib.Decide.{decLe}
 use native.Mathlib.Omega.{arith}
-use borrow.Author.Tests.{lt-leb}
-use lib.ListN.{length}
+use borrow.Author.Tests.{le-leb, lt-leb}
+use lib.ListN.{length, take}
 use Rattle.laws.specs.Windows.{windows}
 
 -- Fewer than k letters have no window.
@@ -12,3 +14,18 @@ pub windows-none : (k : ℕ) (w : List ℕ) → length w < k → windows k w ≡
 unfolding windows
 windows-none k [] h = refl
 windows-none k (x ∷ xs) h = rw (lt-leb k (suc (length xs)) h) (windows-none k xs (omega arith))
+
+-- Where k letters fit, the first window is theirs.
+pub windows-first : (k x : ℕ) (xs : List ℕ) → k ≤ suc (length xs) → windows k (x ∷ xs) ≡ take k (x ∷ xs) ∷ windows k xs
+unfolding windows
+windows-first k x xs h = rw (le-leb k (suc (length xs)) h)
+
+-- A list of n letters has n + 1 - k windows, and none where it is shorter than k.
+pub length-windows : (k : ℕ) → 1 ≤ k → (w : List ℕ) → length (windows k w) ≡ length w + 1 - k
+unfolding windows
+length-windows k some [] = omega arith
+length-windows k some (x ∷ xs) =
+    elim (decLe k (suc (length xs))) as (λ _. length (windows k (x ∷ xs)) ≡ suc (length xs) + 1 - k) [
+      | yes h ↦ ap length (windows-first k x xs h) ∙ omega (arith, length-windows k some xs)
+      | no h ↦ ap length (windows-none k (x ∷ xs) (omega arith)) ∙ omega arith
+    ]

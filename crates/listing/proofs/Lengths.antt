@@ -4,11 +4,12 @@ use mathlib.Core.Path.{_≡_, refl}
 use Prim.Native.Nat.{ℕ, zero, suc, _+_, _*_, _<_, _≤_}
 use native.Mathlib.Omega.{arith}
 use mathlib.Core.List.{List, [], _∷_}
-use lib.ListN.{length, getD, drop, length-append, drop-of-length-le}
-use lib.Seq.{drop-cons}
-use native.Mathlib.Numerals.{add-one}
-use Rattle.settings.proofs.SettingsGrounds.{limits}
+use lib.ListN.{length, getD, length-append}
+use Rattle.laws.proofs.Tests.{past-zero}
+use Rattle.laws.proofs.Sums.{AddsUp, sum-le}
+use Rattle.settings.proofs.SettingsGrounds.{good-settings}
 use Rattle.encoding.specs.Calls.{wordBytes}
+use Rattle.encoding.proofs.ReadAnswers.{word-bytes-length}
 use Rattle.table.specs.Table.{classCount}
 use Rattle.table.specs.Demand.{sum}
 use Rattle.texts.specs.Decimals.{decimal}
@@ -18,16 +19,11 @@ use Rattle.texts.proofs.Writing.{measured}
 use Rattle.survey.specs.Line.{mirrorName, surveyLine}
 use Rattle.listing.specs.Listing.{countLine, classLine, countLines, totalLine, listingOf}
 use Rattle.listing.specs.Needs.{AllCounts, lineLength, linesLength}
-use Rattle.listing.proofs.Lines.{k-short, length-wordBytes}
+use Rattle.listing.proofs.Lines.{counts-add-up}
 
 -- Each of some numbers fits 32 bits.
 abbrev pub Small : List ℕ → Type 0
 Small xs = (i : ℕ) → getD xs i 0 < 4294967296
-
-sum-le : (counts : List ℕ) → Small counts → sum counts ≤ 4294967296 * length counts
-unfolding sum
-sum-le [] h = omega arith
-sum-le (n ∷ counts) h = omega (arith, h 0, sum-le counts (λ i. h (suc i)))
 
 line-is : (k : ℕ) (w : List ℕ) (n : ℕ) → length w ≡ k → length (classLine w n) ≡ lineLength k n
 unfolding countLine
@@ -47,26 +43,16 @@ lines-are k word n w q (x ∷ counts) l =
     )
 
 pub counted-length : (k n : ℕ) → (n ≡ 0 → ⊥) → lineLength k n ≡ 10 + k + length (decimal n)
-counted-length k zero d = absurd (d refl)
-counted-length k (suc n) d = refl
+counted-length k = past-zero (λ (n : ℕ). lineLength k n ≡ 10 + k + length (decimal n)) (λ n. refl)
 
 pub line-short : (k n : ℕ) → k ≤ 62 → n < 4294967296 → lineLength k n ≤ 82
 line-short k zero h g = omega arith
 line-short k (suc n) h g = omega (arith, decimal-length 9 (suc n) (omega arith))
 
-lines-short : (k : ℕ) (counts : List ℕ) → k ≤ 62 → Small counts → linesLength k counts ≤ 82 * length counts
+-- Each count has the length of its line as its share of the length of all lines.
+pub lines-add-up : (k : ℕ) → AddsUp (lineLength k) (linesLength k)
 unfolding linesLength
-lines-short k [] h g = omega arith
-lines-short k (n ∷ counts) h g = omega (arith, line-short k n h (g 0), lines-short k counts h (λ i. g (suc i)))
-
-pub lines-step : (k : ℕ) (counts : List ℕ) (i : ℕ) → i < length counts
-    → linesLength k (drop i counts) ≡ lineLength k (getD counts i 0) + linesLength k (drop (i + 1) counts)
-unfolding linesLength
-lines-step k counts i h = rw (add-one i, drop-cons counts i 0 h)
-
-pub lines-end : (k : ℕ) (counts : List ℕ) (i : ℕ) → length counts ≤ i → linesLength k (drop i counts) ≡ 0
-unfolding linesLength
-lines-end k counts i h = rw (drop-of-length-le counts h)
+lines-add-up k = record { none = refl; more = λ n counts. refl }
 
 mirror-length : (m : ℕ) → length (mirrorName m) ≤ 10
 mirror-length zero = omega arith
@@ -86,19 +72,22 @@ module _ (letters : List ℕ) (k m : ℕ) (counts : List ℕ) (A : AllCounts let
       ≡ length (surveyLine letters k m) + linesLength k counts + length (totalLine (sum counts))
   unfolding listingOf
   listing-is =
-      let words = length-wordBytes letters k m (A .good) in
-      let lines = lines-are k (wordBytes letters k m) (classCount letters k m) words 0 counts (omega (arith, A .one-a-class)) in
+      let lines =
+      lines-are k (wordBytes letters k m) (classCount letters k m) (λ q below. word-bytes-length letters k m q (A .good) below) 0 counts
+      (omega (arith, A .one-a-class)) in
       simp length-append (omega (arith, lines))
 
   survey-short : length (surveyLine letters k m) ≤ 64
-  survey-short = survey-length letters k m (limits letters k m (A .good) .few) (k-short letters k m (A .good))
+  survey-short = let g = good-settings letters k m (A .good) in survey-length letters k m (g .few) (g .short-k)
 
   module _ (small : Small counts) where
     total-short : length (totalLine (sum counts)) ≤ 28
-    total-short = total-length (sum counts) (omega (arith, sum-le counts small, A .few))
+    total-short = total-length (sum counts) (omega (arith, sum-le counts-add-up 4294967296 counts (λ i. omega (arith, small i)), A .few))
 
     all-lines-short : linesLength k counts ≤ 82 * length counts
-    all-lines-short = lines-short k counts (k-short letters k m (A .good)) small
+    all-lines-short =
+        let short = good-settings letters k m (A .good) .short-k in
+        sum-le (lines-add-up k) 82 counts (λ i. line-short k (getD counts i 0) short (small i))
 
     pub listing-length : length (listingOf letters k m counts) ≤ 92 + 82 * length counts
     listing-length = omega (arith, listing-is, survey-short, all-lines-short, total-short)

@@ -1,23 +1,23 @@
 -- The lines of a listing one by one: a mirror's name, the line of a class and its word, the lines by rising code, the sum of the counts. From
 -- the definitions in specs/Listing.antt and what `word_of` promises.
 use mathlib.Core.Path.{_≡_, refl, ap, _∙_}
-use Prim.Native.Nat.{ℕ, zero, suc, _+_, _<_, _≤_}
+use Prim.Native.Nat.{ℕ, suc, _+_, _<_, _≤_}
 use native.Mathlib.Nat.{add-zero, add-suc, suc-add, zero-add}
 use native.Mathlib.Numerals.{add-one}
 use native.Mathlib.Omega.{arith}
 use mathlib.Core.Option.{none}
 use mathlib.Core.List.{List, [], _∷_, _++_, append-assoc, append-nil}
-use lib.ListN.{length, take, drop, getD, length-take, drop-of-length-le}
-use lib.Seq.{drop-cons, take-suc, take-at, length-take-le}
+use lib.ListN.{length, take, drop, getD, length-take}
+use lib.Seq.{take-suc, take-at, length-take-le}
 use Rattle.laws.specs.Text.{bytes}
-use Rattle.laws.proofs.Powers.{exponent-le}
+use Rattle.laws.proofs.Tests.{past-zero}
+use Rattle.laws.proofs.Sums.{AddsUp}
 use Rattle.settings.specs.Grounds.{Outcome, Overwrites}
-use Rattle.settings.specs.Settings.{settingsGround, mirrorOf}
-use Rattle.settings.proofs.SettingsGrounds.{limits}
+use Rattle.settings.specs.Settings.{settingsGround}
+use Rattle.settings.proofs.SettingsGrounds.{good-settings}
 use Rattle.encoding.specs.Calls.{readGround, wordBytes}
 use Rattle.encoding.proofs.CallGrounds.{reading-none}
-use Rattle.encoding.proofs.LetterLoops.{length-capitals}
-use Rattle.encoding.proofs.ReadSteps.{word-length}
+use Rattle.encoding.proofs.ReadAnswers.{word-bytes-length}
 use Rattle.table.specs.Table.{classCount}
 use Rattle.table.specs.Demand.{sum}
 use Rattle.survey.specs.Line.{mirrorName}
@@ -26,21 +26,10 @@ use Rattle.listing.specs.Listing.{countLine, classLine, countLines}
 -- ---- one line
 
 pub complement-named : (m : ℕ) → (m ≡ 0 → ⊥) → mirrorName m ≡ bytes "complement"
-complement-named zero d = absurd (d refl)
-complement-named (suc m) d = refl
+complement-named = past-zero (λ (m : ℕ). mirrorName m ≡ bytes "complement") (λ m. refl)
 
 pub counted-line : (word : List ℕ) (n : ℕ) → (n ≡ 0 → ⊥) → classLine word n ≡ countLine word n
-counted-line word zero d = absurd (d refl)
-counted-line word (suc n) d = refl
-
-module _ (letters : List ℕ) (k m : ℕ) (good : settingsGround letters k m ≡ none) where
-  pub k-short : k ≤ 62
-  k-short = let l = limits letters k m good in exponent-le (length letters) k (l .two) (l .small)
-
-  module _ (q : ℕ) (below : q < classCount letters k m) where
-    pub length-wordBytes : length (wordBytes letters k m q) ≡ k
-    unfolding wordBytes
-    length-wordBytes = length-capitals letters _ ∙ word-length letters k (mirrorOf m) q (limits letters k m good) below
+counted-line word = past-zero (λ (n : ℕ). classLine word n ≡ countLine word n) (λ n. refl)
 
 -- A buffer that starts with the canonical word of code q.
 pub record HoldsWord (letters : List ℕ) (k m q : ℕ) (buffer : List ℕ) : Type 0 where
@@ -54,19 +43,16 @@ pub word-read : {letters : List ℕ} {k m q : ℕ} {answer : Outcome ℕ} {old n
     → Overwrites (readGround letters k m q (length old)) k (wordBytes letters k m q) old answer new
     → HoldsWord letters k m q new
 word-read {letters} {k} {m} {q} {answer} {old} {new} good below room O =
+    let fits : k ≤ length old = omega (arith, good-settings letters k m good .short-k) in
+    let word = word-bytes-length letters k m q good below in
     let e : take k new ≡ wordBytes letters k m q =
-    ap (take k) (O .leaves ∙ (rw (reading-none letters k m good q (length old) (omega (arith, k-short letters k m good)) below)))
-    ∙ take-at (wordBytes letters k m q) (drop (length (wordBytes letters k m q)) old) k (length-wordBytes letters k m good q below) in
-    record { start = e; long = omega (arith, length-take k new, ap length e, length-wordBytes letters k m good q below) }
+    ap (take k) (O .leaves ∙ (rw (reading-none letters k m good q (length old) fits below)))
+    ∙ take-at (wordBytes letters k m q) (drop (length (wordBytes letters k m q)) old) k word in
+    record { start = e; long = omega (arith, length-take k new, ap length e, word) }
 
 -- ---- the lines by rising code
 
 module _ (word : ℕ → List ℕ) where
-  -- Of two classes the one with the lower code comes first.
-  lower-first : countLines word 0 (1 ∷ 1 ∷ []) ≡ countLine (word 0) 1 ++ (countLine (word 1) 1 ++ [])
-  unfolding countLines
-  lower-first = refl
-
   lines-append : (q : ℕ) (xs ys : List ℕ) → countLines word q (xs ++ ys) ≡ countLines word q xs ++ countLines word (q + length xs) ys
   unfolding countLines
   lines-append q [] ys = rw (add-zero q)
@@ -94,10 +80,7 @@ module _ (word : ℕ → List ℕ) where
 
 -- ---- the sum of the counts
 
-pub sum-step : (xs : List ℕ) (i : ℕ) → i < length xs → sum (drop i xs) ≡ getD xs i 0 + sum (drop (i + 1) xs)
+-- Each count has itself as its share of the sum.
+pub counts-add-up : AddsUp (λ (n : ℕ). n) sum
 unfolding sum
-sum-step xs i h = rw (add-one i, drop-cons xs i 0 h)
-
-pub sum-end : (xs : List ℕ) (i : ℕ) → length xs ≤ i → sum (drop i xs) ≡ 0
-unfolding sum
-sum-end xs i h = rw (drop-of-length-le xs h)
+counts-add-up = record { none = refl; more = λ x xs. refl }

@@ -1,4 +1,4 @@
--- What the listing answers and leaves at each of its tests.
+-- What the listing answers and leaves at each of its tests; and how long the listing of a table is, where it is not refused (`listing-fits`).
 use mathlib.Core.Path.{_≡_, sym, _∙_}
 use Prim.Native.Nat.{ℕ, zero, suc, _<_, _≤_}
 use native.Mathlib.Omega.{arith}

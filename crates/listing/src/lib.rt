@@ -30,22 +30,24 @@ fn put_mirror(out: &mut [u8], at: usize, mirror: u64) -> usize
     texts::put_text(out, at, b") (mirror complement))\n")
 }
 
+// The survey line, from the buffer's start on.
 fn put_survey(out: &mut [u8], letters: &[u8], k: usize, mirror: u64) -> usize
     ensures { λ r. ⌜ Puts (now (out .entry)) (now (out .exit)) 0 r (surveyLine (now (letters .entry)) k mirror) ⌝ }
 {
-    let a = texts::put_text(out, 0, b"(survey (letters ");
-    let b = texts::put_text(out, a, letters);
-    let c = texts::put_field(out, b, b") (k ", k as u64);
-    put_mirror(out, c, mirror)
+    let after_opening = texts::put_text(out, 0, b"(survey (letters ");
+    let after_letters = texts::put_text(out, after_opening, letters);
+    let after_k = texts::put_field(out, after_letters, b") (k ", k as u64);
+    put_mirror(out, after_k, mirror)
 }
 
+// The line of a word and its count.
 fn put_count_line(out: &mut [u8], at: usize, word: &[u8], n: u32) -> usize
     ensures { λ r. ⌜ Puts (now (out .entry)) (now (out .exit)) at r (countLine (now (word .entry)) n) ⌝ }
 {
-    let a = texts::put_text(out, at, b"(count ");
-    let b = texts::put_text(out, a, word);
-    let c = texts::put_field(out, b, b" ", n as u64);
-    texts::put_text(out, c, b")\n")
+    let after_opening = texts::put_text(out, at, b"(count ");
+    let after_word = texts::put_text(out, after_opening, word);
+    let after_count = texts::put_field(out, after_word, b" ", n as u64);
+    texts::put_text(out, after_count, b")\n")
 }
 
 // The line of the class with code q, if it has a count.
@@ -91,6 +93,7 @@ fn put_counts(
     next
 }
 
+// The sum of the counts.
 fn total(counts: &[u32]) -> u64
     requires { ⌜ length (now counts) ≤ 16777216 ⌝ }
     ensures { λ r. ⌜ r ≡ sum (now (counts .entry)) ⌝ }
@@ -104,24 +107,26 @@ fn total(counts: &[u32]) -> u64
     t
 }
 
+// The listing's last line: the sum of the counts.
 fn put_total(out: &mut [u8], at: usize, counts: &[u32]) -> usize
     requires { ⌜ length (now counts) ≤ 16777216 ⌝ }
     ensures { λ r. ⌜ Puts (now (out .entry)) (now (out .exit)) at r (totalLine (sum (now (counts .entry)))) ⌝ }
 {
     let t = total(counts);
-    let a = texts::put_field(out, at, b"(total ", t);
-    texts::put_text(out, a, b")\n")
+    let after_sum = texts::put_field(out, at, b"(total ", t);
+    texts::put_text(out, after_sum, b")\n")
 }
 
 // The listing of the counts of all classes from the buffer's start on, as far as the buffer goes; its length.
+// For `program`, past its checks: good settings and one count a class.
 pub fn put_listing(out: &mut [u8], letters: &[u8], k: usize, mirror: u64, counts: &[u32]) -> usize
     requires { ⌜ AllCounts (now letters) k mirror (now counts) ⌝ }
     ensures { λ r. ⌜ Puts (now (out .entry)) (now (out .exit)) 0 r (listingOf (now (letters .entry)) k mirror (now (counts .entry))) ⌝ }
     ensures { λ _. ⌜ length (listingOf (now (letters .entry)) k mirror (now (counts .entry))) ≤ 92 + 82 * length (now (counts .entry)) ⌝ }
 {
-    let a = put_survey(out, letters, k, mirror);
-    let b = put_counts(out, a, letters, k, mirror, counts);
-    put_total(out, b, counts)
+    let after_survey = put_survey(out, letters, k, mirror);
+    let after_counts = put_counts(out, after_survey, letters, k, mirror, counts);
+    put_total(out, after_counts, counts)
 }
 
 // The length of a class's line, its word having k letters.
@@ -135,6 +140,7 @@ fn line_length(k: usize, count: u32) -> usize
     10 + k + texts::digit_count(count as u64)
 }
 
+// The length of the lines of all classes with a count, each word having k letters.
 fn lines_length(k: usize, counts: &[u32]) -> usize
     requires { ⌜ (k ≤ 62) × (length (now counts) ≤ 16777216) ⌝ }
     ensures { λ r. ⌜ r ≡ linesLength k (now (counts .entry)) ⌝ }

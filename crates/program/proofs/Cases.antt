@@ -1,6 +1,7 @@
 -- Computed checks of the program's definition: the worked example of document 01 from input to output, and refusals.
 use mathlib.Core.Path.{_≡_, refl}
-use mathlib.Core.List.{_++_}
+use mathlib.Core.List.{List, _++_}
+use Prim.Native.Nat.{ℕ}
 use Prim.Native.String.{String}
 use Rattle.laws.specs.Text.{bytes}
 use Rattle.laws.specs.Windows.{windows}
@@ -21,41 +22,9 @@ use Rattle.survey.specs.Reading as reading
 use Rattle.listing.specs.Listing.{countLine, countLines, totalLine, listingOf}
 use Rattle.program.specs.Program.{fileLine, refusedLine, clearedTable, surveyText, lineText, programText}
 
-abbrev Prints : String → String → Type 0
-Prints input output = programText (bytes input) ≡ bytes output
-
--- The refusal of an input that is no survey line, of settings, of a file.
-refusals :
-    Prints "" "(refused 13 0)\n"
-    × Prints "(survey (letters ACGT) (k 2))\n>a\nAC\n" "(refused 13 0)\n"
-    × Prints "(survey (letters ACCT) (k 2) (mirror complement))\n" "(refused 1 0)\n"
-    × Prints "(survey (letters ACGT) (k 2) (mirror inverse))\n" "(refused 2 0)\n"
-    × Prints "(survey (letters ACGTN) (k 2) (mirror complement))\n" "(refused 3 0)\n"
-    × Prints "(survey (letters ACGT) (k 0) (mirror complement))\n" "(refused 4 0)\n"
-unfolding programText lineText surveyText refusedLine decimal decimalFrom addGround readyGround settingsGround goodLetters differentCapitals isCapital isIn
-    isOdd badSize reading.readLine reading.lineFrom reading.headOf reading.took reading.lineEnd reading.endAfter reading.nextForm reading.formAt
-    reading.formFrom reading.formOf reading.numberOf reading.mirrorNumber reading.sized reading.valueByte reading.stretch
-    reading.startsWith spelt
-refusals = (refl, refl, refl, refl, refl, refl)
-
--- Too many classes for any table; too many for the program's; a stray byte and an early letter, with their offsets in the file.
-more-refusals :
-    Prints "(survey (letters ACGT) (k 13) (mirror complement))\n" "(refused 6 0)\n"
-    × Prints "(survey (letters ACGT) (k 8) (mirror complement))\n" "(refused 7 32896)\n"
-    × Prints "(survey (letters ACGT) (k 2) (mirror complement))\n>a\nAC-GT\n" "(refused 10 5)\n"
-    × Prints "(survey (letters ACGT) (k 2) (mirror complement))\n\nACGT\n" "(refused 11 1)\n"
-unfolding programText lineText surveyText refusedLine decimal decimalFrom addGround readyGround settingsGround goodLetters differentCapitals isCapital isIn
-    isOdd halfUp classes badSize tooLong tooMany faultFrom itemsFrom item next lineItem isLetter lfNext
-    reading.readLine reading.lineFrom reading.headOf reading.took reading.lineEnd reading.endAfter reading.nextForm reading.formAt
-    reading.formFrom reading.formOf reading.numberOf reading.mirrorNumber reading.sized reading.valueByte reading.stretch
-    reading.startsWith spelt
-more-refusals = (refl, refl, refl, refl)
-
-worked-example :
-    programText (bytes "(survey (letters ACGT) (k 2) (mirror complement))\n>a\nACGTN\n>b\nAG\nCT\n")
-    ≡ bytes "(survey (letters ACGT) (k 2) (mirror complement))\n(count CG 1)\n(count GC 1)\n(count AG 2)\n(count AC 2)\n(total 6)\n"
-    ++ bytes "(file (records 2) (letters 9) (foreign 1) (edge 2) (windows 6))\n"
-unfolding programText lineText surveyText fileLine clearedTable listingOf surveyLine countLines countLine totalLine sum decimal decimalFrom
+-- What is printed for an input. A case that unfolds it computes with all that its `unfolding` line names.
+unfoldable outputOf : String → List ℕ
+unfolding programText lineText surveyText refusedLine fileLine clearedTable listingOf surveyLine countLines countLine totalLine sum decimal decimalFrom
     wordBytes inCapitals wordOf wordOfPlain pairOfRank middleOfCode mirrorRank
     addGround readyGround settingsGround goodLetters differentCapitals isCapital isIn
     isOdd halfUp classes badSize tooLong tooMany faultFrom itemsFrom item next lineItem isLetter lfNext
@@ -64,4 +33,34 @@ unfolding programText lineText surveyText fileLine clearedTable listingOf survey
     reading.readLine reading.lineFrom reading.headOf reading.took reading.lineEnd reading.endAfter reading.nextForm reading.formAt
     reading.formFrom reading.formOf reading.numberOf reading.mirrorNumber reading.sized reading.valueByte reading.stretch
     reading.startsWith spelt
+outputOf input = programText (bytes input)
+
+abbrev Gives : String → String → Type 0
+Gives input output = outputOf input ≡ bytes output
+
+-- The refusal of an input that is no survey line, of settings, of a file.
+refusals :
+    Gives "" "(refused 13 0)\n"
+    × Gives "(survey (letters ACGT) (k 2))\n>a\nAC\n" "(refused 13 0)\n"
+    × Gives "(survey (letters ACCT) (k 2) (mirror complement))\n" "(refused 1 0)\n"
+    × Gives "(survey (letters ACGT) (k 2) (mirror inverse))\n" "(refused 2 0)\n"
+    × Gives "(survey (letters ACGTN) (k 2) (mirror complement))\n" "(refused 3 0)\n"
+    × Gives "(survey (letters ACGT) (k 0) (mirror complement))\n" "(refused 4 0)\n"
+unfolding outputOf
+refusals = (refl, refl, refl, refl, refl, refl)
+
+-- Too many classes for any table; too many for the program's; a stray byte and an early letter, with their offsets in the file.
+more-refusals :
+    Gives "(survey (letters ACGT) (k 13) (mirror complement))\n" "(refused 6 0)\n"
+    × Gives "(survey (letters ACGT) (k 8) (mirror complement))\n" "(refused 7 32896)\n"
+    × Gives "(survey (letters ACGT) (k 2) (mirror complement))\n>a\nAC-GT\n" "(refused 10 5)\n"
+    × Gives "(survey (letters ACGT) (k 2) (mirror complement))\n\nACGT\n" "(refused 11 1)\n"
+unfolding outputOf
+more-refusals = (refl, refl, refl, refl)
+
+worked-example :
+    outputOf "(survey (letters ACGT) (k 2) (mirror complement))\n>a\nACGTN\n>b\nAG\nCT\n"
+    ≡ bytes "(survey (letters ACGT) (k 2) (mirror complement))\n(count CG 1)\n(count GC 1)\n(count AG 2)\n(count AC 2)\n(total 6)\n"
+    ++ bytes "(file (records 2) (letters 9) (foreign 1) (edge 2) (windows 6))\n"
+unfolding outputOf
 worked-example = refl

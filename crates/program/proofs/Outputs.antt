@@ -81,16 +81,16 @@ module _ (letters : List ℕ) (k m : ℕ) (file : List ℕ) where
       → surveyText letters k m file ≡ refusedLine f
   refused-text f e cleared A = answered-text cleared A ∙ ap (answerText letters k m file) e
 
-  -- A file that is taken in leaves the counts of all classes in the table, which has room for them.
-  pub record TakenIn (t′ : List ℕ) : Type 0 where
+  -- A file that is taken in leaves the counts of all classes, q of them, in the table, which has room for them.
+  pub record TakenIn (q : ℕ) (t′ : List ℕ) : Type 0 where
     pub grown : t′ ≡ bumps clearedTable (places letters k m file)
-    pub long : classCount letters k m ≤ length t′
-    pub all : AllCounts letters k m (take (classCount letters k m) t′)
-    pub few : classCount letters k m ≤ 16384
+    pub long : q ≤ length t′
+    pub all : AllCounts letters k m (take q t′)
+    pub few : q ≤ 16384
 
-  module _ {t t′ : List ℕ} {answer : Outcome Numbers} (n : Numbers) (e : answer ≡ given n) (cleared : t ≡ clearedTable)
-      (A : Added letters k m t file answer t′) where
-    pub taken-in : TakenIn t′
+  module _ {q : ℕ} (q-is : q ≡ classCount letters k m) {t t′ : List ℕ} {answer : Outcome Numbers} (n : Numbers) (e : answer ≡ given n)
+      (cleared : t ≡ clearedTable) (A : Added letters k m t file answer t′) where
+    pub taken-in : TakenIn q t′
     unfolding addGround
     taken-in =
         let no-ground = passed (fileNumbers (rankIn letters) k file) (tableGround letters k m t file) (sym e ∙ A .answers) .none-applies in
@@ -99,28 +99,29 @@ module _ (letters : List ℕ) (k m : ℕ) (file : List ℕ) where
         let room = ready-room letters k m (length t) file ready in
         let grown : t′ ≡ bumps clearedTable (places letters k m file) = A .leaves ∙ (rw (no-ground, cleared)) in
         let same : length t′ ≡ 16384 = ap length grown ∙ length-bumps (places letters k m file) clearedTable ∙ length-cleared in
-        let few : classCount letters k m ≤ 16384 = omega (arith, room, ap length cleared, length-cleared) in
-        let long : classCount letters k m ≤ length t′ = omega arith in
-        let counted = length-take-le (classCount letters k m) t′ long in
-        record { grown = grown; long = long; all = record { good = good; one-a-class = counted; few = omega (arith, counted) }; few = few }
+        let few : q ≤ 16384 = omega (arith, room, q-is, ap length cleared, length-cleared) in
+        let long : q ≤ length t′ = omega arith in
+        let counted = length-take-le q t′ long in
+        record { grown = grown; long = long; all = record { good = good; one-a-class = counted ∙ q-is; few = omega (arith, counted) }; few = few }
 
     -- The listing of its counts and then the file line are the output.
     pub taken-prints : {out out′ out″ : List ℕ} {a r : ℕ} → SmallNumbers n
-        → length (listingOf letters k m (take (classCount letters k m) t′)) ≤ 92 + 82 * length (take (classCount letters k m) t′)
-        → Puts out out′ 0 a (listingOf letters k m (take (classCount letters k m) t′))
+        → length (listingOf letters k m (take q t′)) ≤ 92 + 82 * length (take q t′)
+        → Puts out out′ 0 a (listingOf letters k m (take q t′))
         → Puts out′ out″ a r (fileLine n)
         → Prints (surveyText letters k m file) out r out″
     taken-prints small short P Q =
         let T = taken-in in
-        let text : surveyText letters k m file ≡ listingOf letters k m (take (classCount letters k m) t′) ++ fileLine n =
+        let text : surveyText letters k m file ≡ listingOf letters k m (take q t′) ++ fileLine n =
         answered-text cleared A ∙ ap (answerText letters k m file) e
-        ∙ ap (λ (t : List ℕ). listingOf letters k m (take (classCount letters k m) t) ++ fileLine n) (sym (T .grown)) in
-        let counted = length-take-le (classCount letters k m) t′ (T .long) in
+        ∙ ap (λ (t : List ℕ). listingOf letters k m (take (classCount letters k m) t) ++ fileLine n) (sym (T .grown))
+        ∙ ap (λ (p : ℕ). listingOf letters k m (take p t′) ++ fileLine n) (sym q-is) in
+        let counted = length-take-le q t′ (T .long) in
         rw text
         (printed (then P Q)
         (omega (
           arith,
-          length-append (listingOf letters k m (take (classCount letters k m) t′)) (fileLine n),
+          length-append (listingOf letters k m (take q t′)) (fileLine n),
           file-line-short n small,
           short,
           counted,

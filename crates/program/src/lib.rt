@@ -14,23 +14,25 @@ ghost use Rattle.settings.specs.Settings.{settingsGround, settingsOf};
 ghost use Rattle.texts.specs.Needs.{Puts};
 ghost use Rattle.program.specs.Program.{fileLine, refusedLine, clearedTable, surveyText, programText, Prints};
 
+// The line of a refusal, which is then the whole output.
 fn put_refused(out: &mut [u8], f: Refusal) -> usize
     ensures { λ r. ⌜ Prints (refusedLine (groundOf f)) (now (out .entry)) r (now (out .exit)) ⌝ }
 {
-    let a = texts::put_field(out, 0, b"(refused ", settings::number_of(f));
-    let b = texts::put_field(out, a, b" ", settings::place_of(f));
-    texts::put_text(out, b, b")\n")
+    let after_number = texts::put_field(out, 0, b"(refused ", settings::number_of(f));
+    let after_place = texts::put_field(out, after_number, b" ", settings::place_of(f));
+    texts::put_text(out, after_place, b")\n")
 }
 
+// The file line: the file's five numbers.
 fn put_file_line(out: &mut [u8], at: usize, n: Numbers) -> usize
     ensures { λ r. ⌜ Puts (now (out .entry)) (now (out .exit)) at r (fileLine n) ⌝ }
 {
-    let a = texts::put_field(out, at, b"(file (records ", n.records as u64);
-    let b = texts::put_field(out, a, b") (letters ", n.letters as u64);
-    let c = texts::put_field(out, b, b") (foreign ", n.foreign as u64);
-    let d = texts::put_field(out, c, b") (edge ", n.edge as u64);
-    let e = texts::put_field(out, d, b") (windows ", n.windows as u64);
-    texts::put_text(out, e, b"))\n")
+    let after_records = texts::put_field(out, at, b"(file (records ", n.records as u64);
+    let after_letters = texts::put_field(out, after_records, b") (letters ", n.letters as u64);
+    let after_foreign = texts::put_field(out, after_letters, b") (foreign ", n.foreign as u64);
+    let after_edge = texts::put_field(out, after_foreign, b") (edge ", n.edge as u64);
+    let after_windows = texts::put_field(out, after_edge, b") (windows ", n.windows as u64);
+    texts::put_text(out, after_windows, b"))\n")
 }
 
 // The program's places, all 0.
@@ -59,14 +61,14 @@ fn put_counted(
         Answer::Refused(f) => put_refused(out, f),
         Answer::Taken(n) => {
             let classes = st.classes as usize;
-            let a = listing::put_listing(out, letters, k, mirror, &table[..classes]);
-            put_file_line(out, a, n)
+            let after_listing = listing::put_listing(out, letters, k, mirror, &table[..classes]);
+            put_file_line(out, after_listing, n)
         }
     }
 }
 
 // The output for settings and a file.
-fn put_survey(out: &mut [u8], letters: &[u8], k: usize, mirror: u64, file: &[u8]) -> usize
+fn put_output(out: &mut [u8], letters: &[u8], k: usize, mirror: u64, file: &[u8]) -> usize
     ensures { λ r.
         ⌜ Prints (surveyText (now (letters .entry)) k mirror (now (file .entry))) (now (out .entry)) r (now (out .exit)) ⌝ }
 {
@@ -91,7 +93,7 @@ fn put_parts(
         ⌜ Prints (surveyText (take (to - from) (drop from (now (input .entry)))) k mirror (drop next (now (input .entry))))
         (now (out .entry)) r (now (out .exit)) ⌝ }
 {
-    put_survey(out, &input[from..to], k, mirror, &input[next..])
+    put_output(out, &input[from..to], k, mirror, &input[next..])
 }
 
 // The program: writes its output for an input to the start of out, as far as out goes, and answers the output's length.

@@ -23,7 +23,7 @@ use Rattle.sequence.specs.Sequences.{sequenceGround, FillsCodes}
 use Rattle.settings.specs.RankTables.{rankByTable, RankTable, RanksBelow}
 use Rattle.settings.proofs.RankTables.{table-below}
 use Rattle.sequence.specs.Needs.{Fills, Powers, Takes, Coding, codeBy}
-use Rattle.sequence.proofs.Windows.{length-windows}
+use Rattle.laws.proofs.Windows.{length-windows}
 use Rattle.sequence.proofs.RankTables.{Bytes, codes-by-table}
 
 module _ (letters : List ℕ) (k m : ℕ) (sequence old : List ℕ) where

@@ -1,31 +1,16 @@
--- The windows of a list: how many there are, the one at a place, and the law for batches: a list cut into pieces that overlap by k - 1 letters
--- has the windows of the pieces, one piece after the other.
+-- The windows of a list: the later and the first of them, the one at a place, and the law for batches: a list cut into pieces that overlap by
+-- k - 1 letters has the windows of the pieces, one piece after the other.
 use mathlib.Core.Path.{_≡_, refl, sym, ap, ap₂, _∙_}
 use mathlib.Core.List.{List, [], _∷_, _++_, map}
 use Prim.Native.Nat.{ℕ, zero, suc, _+_, _-_, _≤_}
 use native.Mathlib.Decide.{decLe}
 use native.Mathlib.Omega.{arith}
-use borrow.Author.Tests.{le-leb}
 use lib.ListN.{length, getD, take, drop, length-drop, length-map, take-append-drop}
 use lib.Seq.{take-take, length-take-le}
-use Rattle.laws.proofs.Windows.{windows-none}
+use Rattle.laws.proofs.Windows.{windows-none, windows-first, length-windows}
 use Rattle.sequence.specs.Windows.{windows}
 
-windows-first : (k x : ℕ) (xs : List ℕ) → k ≤ suc (length xs) → windows k (x ∷ xs) ≡ take k (x ∷ xs) ∷ windows k xs
-unfolding windows
-windows-first k x xs h = rw (le-leb k (suc (length xs)) h)
-
 module _ (k : ℕ) (some : 1 ≤ k) where
-  -- A list of n letters has n + 1 - k windows, and none where it is shorter than k.
-  pub length-windows : (w : List ℕ) → length (windows k w) ≡ length w + 1 - k
-  unfolding windows
-  length-windows [] = omega arith
-  length-windows (x ∷ xs) =
-      elim (decLe k (suc (length xs))) as (λ _. length (windows k (x ∷ xs)) ≡ suc (length xs) + 1 - k) [
-        | yes h ↦ ap length (windows-first k x xs h) ∙ omega (arith, length-windows xs)
-        | no h ↦ ap length (windows-none k (x ∷ xs) (omega arith)) ∙ omega arith
-      ]
-
   -- The windows from the one at a on are those of the letters from a on.
   pub windows-drop : (a : ℕ) (w : List ℕ) → drop a (windows k w) ≡ windows k (drop a w)
   unfolding windows
@@ -63,4 +48,4 @@ module _ (k : ℕ) (some : 1 ≤ k) where
       ap (λ (vs : List (List ℕ)). getD (map f vs) (suc j) 0) (windows-first k x xs (omega arith)) ∙ window-at f j xs (omega arith)
 
   pub length-codes : (f : List ℕ → ℕ) (w : List ℕ) → length (map f (windows k w)) ≡ length w + 1 - k
-  length-codes f w = length-map (windows k w) f ∙ length-windows w
+  length-codes f w = length-map (windows k w) f ∙ length-windows k some w

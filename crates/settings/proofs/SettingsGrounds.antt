@@ -8,6 +8,7 @@ use native.Mathlib.Omega.{arith}
 use borrow.Author.Tests.{lt-ltb, eq-eqb, ne-eqb, not-false, ltb-false, eqb-false}
 use lib.Dec.{ltb, eqb}
 use lib.ListN.{length}
+use Rattle.laws.proofs.Powers.{exponent-le}
 use Rattle.settings.specs.Grounds.{ground, refused, outcome, given}
 use Rattle.settings.specs.Limits.{EvenUnder, Limits}
 use Rattle.settings.specs.Settings.{goodLetters, settingsGround, settingsOf, isOdd, badSize, settingsFor, mirrorOf, classes}
@@ -47,11 +48,13 @@ not-and false b e f = let z : true ≡ false = cc in absurd (let y : _≡_ {A = 
 
 -- Settings within the limits of document 01.
 pub record GoodSettings (l : List ℕ) (k m : ℕ) : Type 0 where
+  pub capitals : goodLetters l ≡ true
   pub two : 1 < length l
   pub few : length l ≤ 16
   pub low : m ≤ 1
   pub even : m ≡ 1 → length l % 2 ≡ 0
   pub some-k : k ≡ 0 → ⊥
+  pub short-k : k ≤ 62
   pub small : length l ^ k ≤ 2 ^ 62
 
 -- Settings to which no ground applies are good.
@@ -65,13 +68,17 @@ good-settings l k m e =
     let not-odd : m ≡ 1 → eqb (length l % 2) 1 ≡ false =
     λ h. not-and (eqb m 1) (eqb (length l % 2) 1) (test-fails 3 _ (first-none _ _ g3)) (eq-eqb m 1 h) in
     let size = both-fail (eqb k 0) (ltb (2 ^ 62) (length l ^ k)) (test-fails 4 _ g4) in
+    let two = good-at-least l good in
+    let small = ltb-false (2 ^ 62) (length l ^ k) (size .1) in
     record {
-      two = good-at-least l good;
+      capitals = sym good;
+      two = two;
       few = good-at-most l good;
       low = ltb-false 1 m (test-fails 2 _ (first-none _ _ g2));
       even = λ h. let o : length l % 2 ≡ 1 → ⊥ = eqb-false (length l % 2) 1 (not-odd h) in omega arith;
       some-k = eqb-false k 0 (size .0);
-      small = ltb-false (2 ^ 62) (length l ^ k) (size .1);
+      short-k = exponent-le (length l) k two small;
+      small = small;
     }
 
 -- The mirror by its number: complement asks for an even s.

@@ -1,7 +1,8 @@
 -- Computed checks of the reading's definition: lines with their answers, and inputs that start with no survey line, by the rule that they keep or
 -- break. A place counts from the first byte: `Survey 17 4 2 1 50` has its letters in the 4 bytes from 17 on, k 2, mirror 1, and the file from 50 on.
 use mathlib.Core.Path.{_≡_, refl}
-use mathlib.Core.List.{_∷_, _++_}
+use mathlib.Core.List.{List, _∷_, _++_}
+use Prim.Native.Nat.{ℕ}
 use Prim.Native.String.{String}
 use Rattle.laws.specs.Text.{bytes}
 use Rattle.survey.specs.declared.Head.{Head}
@@ -10,8 +11,14 @@ use Rattle.settings.specs.Settings.{isIn}
 use Rattle.survey.specs.Grammar.{spelt}
 use Rattle.survey.specs.Reading.{startsWith, stretch, valueByte, sized, mirrorNumber, numberOf, formOf, formFrom, formAt, nextForm, endAfter, lineEnd, took, headOf, lineFrom, readLine}
 
+-- What an input is read as. A case that unfolds it computes with all that its `unfolding` line names.
+unfoldable reading : List ℕ → Head
+unfolding readLine lineFrom headOf took lineEnd endAfter nextForm formAt formFrom formOf numberOf mirrorNumber
+    sized valueByte isIn stretch startsWith spelt
+reading input = readLine input
+
 abbrev Reads : String → Head → Type 0
-Reads line answer = readLine (bytes line) ≡ answer
+Reads line answer = reading (bytes line) ≡ answer
 
 abbrev Refused : String → Type 0
 Refused line = Reads line NoSurvey
@@ -26,8 +33,7 @@ any-order :
     × Reads "(survey (k 2) (mirror complement) (letters ACGT))\n>a" (Survey 43 4 2 1 50)
     × Reads "(survey (mirror complement) (letters ACGT) (k 2))\n>a" (Survey 37 4 2 1 50)
     × Reads "(survey (mirror complement) (k 2) (letters ACGT))\n>a" (Survey 43 4 2 1 50)
-unfolding readLine lineFrom headOf took lineEnd endAfter nextForm formAt formFrom formOf numberOf mirrorNumber
-    sized valueByte isIn stretch startsWith spelt
+unfolding reading
 any-order = (refl, refl, refl, refl, refl, refl)
 
 -- "ends in LF, CR LF or with the input"
@@ -35,8 +41,7 @@ line-ends :
     Reads "(survey (letters AB) (k 7) (mirror reversal))\n" (Survey 17 2 7 0 46)
     × Reads "(survey (letters AB) (k 7) (mirror reversal))\r\n>a" (Survey 17 2 7 0 47)
     × Reads "(survey (letters AB) (k 7) (mirror reversal))" (Survey 17 2 7 0 45)
-unfolding readLine lineFrom headOf took lineEnd endAfter nextForm formAt formFrom formOf numberOf mirrorNumber
-    sized valueByte isIn stretch startsWith spelt
+unfolding reading
 line-ends = (refl, refl, refl)
 
 -- Whether k, the letters and the mirror are good settings is judged later: "`reversal` is 0, `complement` 1, others give 2".
@@ -46,14 +51,12 @@ values :
     × Reads "(survey (letters acgt) (k 10) (mirror foo))\n" (Survey 17 4 10 2 44)
     × Reads "(survey (letters A-Z>\"{}) (k 7) (mirror reversals))\n" (Survey 17 7 7 2 52)
     × Reads "(survey (letters A) (k 7) (mirror complemen))\n" (Survey 17 1 7 2 46)
-unfolding readLine lineFrom headOf took lineEnd endAfter nextForm formAt formFrom formOf numberOf mirrorNumber
-    sized valueByte isIn stretch startsWith spelt
+unfolding reading
 values = (refl, refl, refl, refl, refl)
 
 -- Bytes above 127 are letters too.
-high-bytes : readLine (bytes "(survey (letters A" ++ (128 ∷ 255 ∷ bytes ") (k 7) (mirror reversal))\n")) ≡ Survey 17 3 7 0 47
-unfolding readLine lineFrom headOf took lineEnd endAfter nextForm formAt formFrom formOf numberOf mirrorNumber
-    sized valueByte isIn stretch startsWith spelt
+high-bytes : reading (bytes "(survey (letters A" ++ (128 ∷ 255 ∷ bytes ") (k 7) (mirror reversal))\n")) ≡ Survey 17 3 7 0 47
+unfolding reading
 high-bytes = refl
 
 -- ---- no survey lines
@@ -65,8 +68,7 @@ no-line :
     × Refused "(survey"
     × Refused " (survey (letters AB) (k 7) (mirror reversal))\n"
     × Refused "(Survey (letters AB) (k 7) (mirror reversal))\n"
-unfolding readLine lineFrom headOf took lineEnd endAfter nextForm formAt formFrom formOf numberOf mirrorNumber
-    sized valueByte isIn stretch startsWith spelt
+unfolding reading
 no-line = (refl, refl, refl, refl, refl)
 
 -- "Forms are parted by one space."
@@ -75,8 +77,7 @@ parted :
     × Refused "(survey (letters AB)(k 7) (mirror reversal))\n"
     × Refused "(survey (letters AB)\t(k 7) (mirror reversal))\n"
     × Refused "(survey  (letters AB) (k 7) (mirror reversal))\n"
-unfolding readLine lineFrom headOf took lineEnd endAfter nextForm formAt formFrom formOf numberOf mirrorNumber
-    sized valueByte isIn stretch startsWith spelt
+unfolding reading
 parted = (refl, refl, refl, refl)
 
 -- "its three inner forms .. each once"
@@ -87,8 +88,7 @@ each-once :
     × Refused "(survey (letters AB) (k 7) (k 7))\n"
     × Refused "(survey (letters AB) (letters AB) (mirror reversal))\n"
     × Refused "(survey (letters AB) (k 7) (mirror reversal) (k 7))\n"
-unfolding readLine lineFrom headOf took lineEnd endAfter nextForm formAt formFrom formOf numberOf mirrorNumber
-    sized valueByte isIn stretch startsWith spelt
+unfolding reading
 each-once = (refl, refl, refl, refl, refl, refl)
 
 -- "k is 1 to 3 digits with no leading zero except 0 itself"
@@ -98,16 +98,14 @@ k-digits :
     × Refused "(survey (letters AB) (k 1000) (mirror reversal))\n"
     × Refused "(survey (letters AB) (k ) (mirror reversal))\n"
     × Refused "(survey (letters AB) (k -1) (mirror reversal))\n"
-unfolding readLine lineFrom headOf took lineEnd endAfter nextForm formAt formFrom formOf numberOf mirrorNumber
-    sized valueByte isIn stretch startsWith spelt
+unfolding reading
 k-digits = (refl, refl, refl, refl, refl)
 
 -- "The mirror is one or more small letters"
 mirror-letters :
     Refused "(survey (letters AB) (k 7) (mirror Reversal))\n"
     × Refused "(survey (letters AB) (k 7) (mirror ))\n"
-unfolding readLine lineFrom headOf took lineEnd endAfter nextForm formAt formFrom formOf numberOf mirrorNumber
-    sized valueByte isIn stretch startsWith spelt
+unfolding reading
 mirror-letters = (refl, refl)
 
 -- "letters are one or more bytes other than brackets, spaces, CR and LF"
@@ -118,8 +116,7 @@ letter-bytes :
     × Refused "(survey (letters A B) (k 7) (mirror reversal))\n"
     × Refused "(survey (letters A\rB) (k 7) (mirror reversal))\n"
     × Refused "(survey (letters A\nB) (k 7) (mirror reversal))\n"
-unfolding readLine lineFrom headOf took lineEnd endAfter nextForm formAt formFrom formOf numberOf mirrorNumber
-    sized valueByte isIn stretch startsWith spelt
+unfolding reading
 letter-bytes = (refl, refl, refl, refl, refl, refl)
 
 -- "ends in LF, CR LF or with the input": not in a CR, nor after anything else.
@@ -131,6 +128,5 @@ no-end :
     × Refused "(survey (letters AB) (k 7) (mirror reversal))\r"
     × Refused "(survey (letters AB) (k 7) (mirror reversal))\r>a\n"
     × Refused "(survey (letters AB) (k 7) (mirror reversal))>a\n"
-unfolding readLine lineFrom headOf took lineEnd endAfter nextForm formAt formFrom formOf numberOf mirrorNumber
-    sized valueByte isIn stretch startsWith spelt
+unfolding reading
 no-end = (refl, refl, refl, refl, refl, refl, refl)

@@ -7,6 +7,7 @@ use native.Mathlib.Omega.{arith}
 use lib.ListN.{length, take, drop, length-drop, take-append-drop}
 use lib.Seq.{drop-drop, drop-append-seam}
 use Rattle.laws.specs.Text.{bytes}
+use Rattle.laws.proofs.Tests.{by-test}
 use Rattle.survey.specs.declared.Name.{Name}
 use Rattle.survey.specs.declared.Name.the-variants.{Letters, K, Mirror}
 use Rattle.survey.specs.declared.Form.{Form}
@@ -16,7 +17,7 @@ use Rattle.survey.specs.declared.End.{End}
 use Rattle.survey.specs.Needs.{Within}
 use Rattle.survey.specs.Grammar.{parted}
 use Rattle.survey.specs.Reading.{startsWith, stretch, valueByte, sized, numberOf, formOf, formFrom, formAt, nextForm, lineEnd, took, noneMet, headOf, lineFrom}
-use Rattle.survey.proofs.TextLaws.{by-test, starts-at}
+use Rattle.survey.proofs.TextLaws.{starts-at}
 use Rattle.survey.proofs.ByteLaws.{stretch-le}
 use Rattle.survey.proofs.ValueLaws.{ValueText, some-bytes, value-read, value-there}
 

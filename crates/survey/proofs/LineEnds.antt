@@ -1,7 +1,7 @@
 -- The end of a survey line. `end-lf` and the others: what `end_after` finds, test by test. `end-good`: an end that the reader finds is one of the
 -- grammar's; `end-there`: an end of the grammar is found.
 use mathlib.Core.Path.{_≡_, ap}
-use mathlib.Core.Bool.{true, false, _&&_}
+use mathlib.Core.Bool.{true, false, _&&_, and-eq-true-iff}
 use mathlib.Core.List.{List, [], _++_}
 use Prim.Native.Nat.{ℕ, _+_, _≤_}
 use native.Mathlib.Omega.{arith}
@@ -9,11 +9,12 @@ use lib.ListN.{length, drop, length-drop, drop-of-length-le}
 use lib.Dec.{eqb}
 use borrow.Author.Tests.{eqb-true, eq-eqb, ne-eqb}
 use Rattle.laws.specs.Text.{bytes}
+use Rattle.laws.proofs.Tests.{by-test}
 use Rattle.survey.specs.declared.End.{End}
 use Rattle.survey.specs.declared.End.the-variants.{At, Nowhere}
 use Rattle.survey.specs.Grammar.{LineEnd, lf, crlf, with-the-input}
 use Rattle.survey.specs.Reading.{startsWith, endAfter}
-use Rattle.survey.proofs.TextLaws.{by-test, both, starts-at, starts-within}
+use Rattle.survey.proofs.TextLaws.{starts-at, starts-within}
 use Rattle.survey.proofs.FormLaws.{drop-more}
 
 -- ---- the line's end, test by test, as `end_after` tries them
@@ -65,7 +66,7 @@ end-good t at =
   where
     last : startsWith (bytes "))") (drop at t) && eqb (at + 2) (length t) ≡ true → EndRead t at (at + 2)
     last g =
-        let h = both (startsWith (bytes "))") (drop at t)) (eqb (at + 2) (length t)) g in
+        let h = and-eq-true-iff (startsWith (bytes "))") (drop at t)) (eqb (at + 2) (length t)) .0 g in
         let all : at + 2 ≡ length t = eqb-true (at + 2) (length t) (h .1) in
         let none : drop (at + 2) t ≡ [] = drop-of-length-le t {i = at + 2} (omega arith) in
         record { end = []; text = starts-at _ t at (h .0); ends = rw none with-the-input; inside = omega arith }

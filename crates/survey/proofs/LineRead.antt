@@ -6,6 +6,7 @@ use mathlib.Core.List.{List, _++_}
 use Prim.Native.Nat.{ℕ, _+_, _≤_}
 use lib.ListN.{length, take, drop}
 use Rattle.laws.specs.Text.{bytes}
+use Rattle.laws.proofs.Tests.{by-test}
 use Rattle.survey.specs.declared.Name.{Name}
 use Rattle.survey.specs.declared.Name.the-variants.{Letters, K, Mirror}
 use Rattle.survey.specs.declared.Form.{Form}
@@ -17,7 +18,7 @@ use Rattle.survey.specs.declared.Head.the-variants.{Survey, NoSurvey}
 use Rattle.survey.specs.Grammar.{parted, AnyOrder, xyz, xzy, yxz, yzx, zxy, zyx, LineEnd, LettersText, KText, MirrorText}
 use Rattle.survey.specs.Claims.{Says}
 use Rattle.survey.specs.Reading.{startsWith, formAt, nextForm, endAfter, lineEnd, took, headOf, answerOf, lineFrom, readLine}
-use Rattle.survey.proofs.TextLaws.{by-test, starts-at}
+use Rattle.survey.proofs.TextLaws.{starts-at}
 use Rattle.survey.proofs.ValueLaws.{ValueText}
 use Rattle.survey.proofs.FormLaws.{opening, written, row, flat-row, FormRead, FormGood, form-good}
 use Rattle.survey.proofs.LineEnds.{EndRead, EndGood, end-good}

@@ -1,6 +1,6 @@
 -- Texts and stretches at a place of an input: what the loops of `starts` and `value_end` step through, and how far a text reaches.
-use mathlib.Core.Path.{_≡_, refl, sym, ap, _∙_}
-use mathlib.Core.Bool.{Bool, true, false, _&&_, cond}
+use mathlib.Core.Path.{_≡_, refl, ap, _∙_}
+use mathlib.Core.Bool.{Bool, true, false, and-eq-true-iff, false≢true}
 use mathlib.Core.List.{List, [], _∷_, _++_}
 use Prim.Native.Nat.{ℕ, suc, _+_, _≤_, _<_}
 use native.Mathlib.Numerals.{add-one}
@@ -10,22 +10,6 @@ use lib.Seq.{drop-cons, drop-drop}
 use lib.Dec.{eqb}
 use borrow.Author.Tests.{eq-eqb, ne-eqb, eqb-true}
 use Rattle.survey.specs.Reading.{startsWith, stretch}
-
--- What both sides of a test have, its value has.
-pub by-test : {A : Type 0} (P : A → Type 0) (b : Bool) {x y : A} → (b ≡ true → P x) → (b ≡ false → P y) → P (cond b x y)
-by-test P true f g = f refl
-by-test P false f g = g refl
-
-pub not-so : (b : Bool) → (b ≡ true → ⊥) → b ≡ false
-not-so true h = absurd (h refl)
-not-so false h = refl
-
-pub never : true ≡ false → ⊥
-never e = let z : _≡_ {A = ℕ} 0 1 = cc in omega arith
-
-pub both : (a b : Bool) → a && b ≡ true → (a ≡ true) × (b ≡ true)
-both true b e = (refl, e)
-both false b e = absurd (never (sym e))
 
 -- ---- a text, byte by byte
 
@@ -53,9 +37,9 @@ module _ (text t : List ℕ) (j i : ℕ) where
 starts-split : (text u : List ℕ) → startsWith text u ≡ true → u ≡ text ++ drop (length text) u
 unfolding startsWith
 starts-split [] u e = refl
-starts-split (b ∷ text) [] e = absurd (never (sym e))
+starts-split (b ∷ text) [] e = absurd (false≢true e)
 starts-split (b ∷ text) (x ∷ u) e =
-    let h = both (eqb x b) (startsWith text u) e in
+    let h = and-eq-true-iff (eqb x b) (startsWith text u) .0 e in
     rw (eqb-true x b (h .0)) (ap (λ (l : List ℕ). b ∷ l) (starts-split text u (h .1)))
 
 pub starts-at : (text t : List ℕ) (at : ℕ) → startsWith text (drop at t) ≡ true → drop at t ≡ text ++ drop (at + length text) t

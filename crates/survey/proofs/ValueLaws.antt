@@ -1,7 +1,7 @@
 -- The value of a form: the lengths that the reader admits and the numbers that it reads are the grammar's. `value-read` goes from the reader to
 -- the grammar, `value-there` from the grammar to the reader. From the laws of the value's bytes (ByteLaws) and of the mirrors' names (MirrorNames).
 use mathlib.Core.Path.{_≡_, refl, sym, ap, _∙_}
-use mathlib.Core.Bool.{Bool, true, false, not, _&&_, _||_, and-true}
+use mathlib.Core.Bool.{Bool, true, false, not, _&&_, _||_, and-true, and-eq-true-iff, true≢false}
 use mathlib.Core.List.{List, [], _∷_, _++_}
 use Prim.Native.Nat.{ℕ, zero, suc, _+_, _-_, _*_, _^_, _≤_, _<_}
 use native.Mathlib.Nat.{pow-suc, pow-le-pow-right}
@@ -18,7 +18,6 @@ use Rattle.survey.specs.declared.Form.the-variants.{Of}
 use Rattle.laws.specs.Each.{Each}
 use Rattle.survey.specs.Grammar.{LettersText, KText, SmallLetter, MirrorText, spelt}
 use Rattle.survey.specs.Reading.{startsWith, stretch, valueByte, sized, numberOf, formOf}
-use Rattle.survey.proofs.TextLaws.{both, never}
 use Rattle.survey.proofs.ByteLaws.{ByteOf, stretch-le, stretch-each, stretch-all}
 use Rattle.survey.proofs.MirrorNames.{mirror-read, mirror-there}
 
@@ -60,8 +59,8 @@ module _ (u : List ℕ) (n : ℕ) where
   k-tests : sized K u n ≡ true → (1 ≤ n) × (n ≤ 3) × ((eqb n 1 || not (startsWith (bytes "0") u)) ≡ true)
   unfolding sized
   k-tests e =
-      let first = both (leb 1 n) (leb n 3 && (eqb n 1 || not (startsWith (bytes "0") u))) e in
-      let others = both (leb n 3) (eqb n 1 || not (startsWith (bytes "0") u)) (first .1) in
+      let first = and-eq-true-iff (leb 1 n) (leb n 3 && (eqb n 1 || not (startsWith (bytes "0") u))) .0 e in
+      let others = and-eq-true-iff (leb n 3) (eqb n 1 || not (startsWith (bytes "0") u)) .0 (first .1) in
       (leb-true 1 n (first .0), leb-true n 3 (others .0), others .1)
 
   pub few-digits : sized K u n ≡ true → n ≤ 3
@@ -72,7 +71,7 @@ module _ (u : List ℕ) (n : ℕ) where
     where
       go : (c : Bool) → eqb n 1 ≡ c → (c || not (startsWith (bytes "0") u)) ≡ true → n ≡ 1
       go true f g = eqb-true n 1 f
-      go false f g = absurd (never (sym z ∙ not-true (startsWith (bytes "0") u) g))
+      go false f g = absurd (true≢false (sym z ∙ not-true (startsWith (bytes "0") u) g))
 
   pub some-bytes : (name : Name) → sized name u n ≡ true → 1 ≤ n
   unfolding sized
@@ -82,16 +81,16 @@ module _ (u : List ℕ) (n : ℕ) where
 
 -- ---- digits, one at a time
 
-module _ (s : List ℕ) (from len v j : ℕ) where
-  pub spelt-turn : j < len → from + len ≤ length s → (d : ℕ) → d ≡ getD s (from + j) 0 - 48
-      → spelt v (take (len - j) (drop (from + j) s)) ≡ spelt (v * 10 + d) (take (len - (j + 1)) (drop (from + (j + 1)) s))
+module _ (t : List ℕ) (from len v j : ℕ) where
+  pub spelt-turn : j < len → from + len ≤ length t → (d : ℕ) → d ≡ getD t (from + j) 0 - 48
+      → spelt v (take (len - j) (drop (from + j) t)) ≡ spelt (v * 10 + d) (take (len - (j + 1)) (drop (from + (j + 1)) t))
   unfolding spelt
   spelt-turn h g d e =
       let left : len - j ≡ suc (len - (j + 1)) = omega arith in
       let next : from + (j + 1) ≡ suc (from + j) = omega arith in
-      rw (left, drop-cons s (from + j) 0 (omega arith), e, next)
+      rw (left, drop-cons t (from + j) 0 (omega arith), e, next)
 
-  pub spelt-done : len ≤ j → spelt v (take (len - j) (drop (from + j) s)) ≡ v
+  pub spelt-done : len ≤ j → spelt v (take (len - j) (drop (from + j) t)) ≡ v
   unfolding spelt
   spelt-done h = let none : len - j ≡ 0 = omega arith in rw none
 

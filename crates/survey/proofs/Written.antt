@@ -1,18 +1,43 @@
--- The survey line that we print is one of the grammar's: k up to 999 in decimal is a k, the two mirrors' names are mirrors. From the laws of
--- decimal digits of the texts.
+-- The survey line that we print is one of the grammar's: k up to 999 in decimal is a k, the two mirrors' names are mirrors, and the letters of
+-- settings that pass the check are letters. From the laws of decimal digits of the texts and what is known of such settings.
 use mathlib.Core.Path.{_≡_, refl}
-use mathlib.Core.Bool.{Bool, true, false}
-use mathlib.Core.List.{List, _++_, append-assoc}
+use mathlib.Core.Bool.{Bool, true, false, not, _&&_, and-eq-true-iff}
+use mathlib.Core.Option.{none}
+use mathlib.Core.List.{List, [], _∷_, _++_, append-assoc}
 use Prim.Native.Nat.{ℕ, zero, suc, _+_, _/_, _%_, _≤_}
 use native.Mathlib.Omega.{arith}
-use lib.Dec.{ltb}
-use borrow.Author.Tests.{ltb-true, ltb-false}
+use lib.ListN.{length}
+use lib.Dec.{leb, ltb}
+use borrow.Author.Tests.{leb-true, ltb-true, ltb-false}
 use Rattle.laws.specs.Text.{bytes}
+use Rattle.laws.specs.Each.{Each}
+use Rattle.settings.specs.Settings.{isCapital, isIn, differentCapitals, goodLetters, settingsGround}
+use Rattle.settings.proofs.SettingsGrounds.{good-settings}
 use Rattle.texts.specs.Decimals.{decimal}
 use Rattle.texts.proofs.Decimals.{one-digit, more-digits}
 use Rattle.survey.specs.Line.{mirrorName, surveyLine}
-use Rattle.survey.specs.Grammar.{LettersText, Digit, KText, MirrorText, reversal, complement, spelt, xyz, lf, SurveyInput}
+use Rattle.survey.specs.Grammar.{LetterByte, LettersText, Digit, KText, MirrorText, reversal, complement, spelt, xyz, lf, SurveyInput}
+use Rattle.survey.proofs.ByteLaws.{letter-above}
 use Rattle.survey.proofs.MirrorNames.{reversal-small, complement-small}
+
+-- ---- letters of settings that pass the check
+
+capital-letters : (letters : List ℕ) → differentCapitals letters ≡ true → Each LetterByte letters
+unfolding differentCapitals isCapital
+capital-letters [] e = tt
+capital-letters (b ∷ letters) e =
+    let first = and-eq-true-iff (leb 65 b && leb b 90) (not (isIn b letters) && differentCapitals letters) .0 e in
+    let low = leb-true 65 b (and-eq-true-iff (leb 65 b) (leb b 90) .0 (first .0) .0) in
+    let others = and-eq-true-iff (not (isIn b letters)) (differentCapitals letters) .0 (first .1) .1 in
+    (letter-above b (omega arith), capital-letters letters others)
+
+pub good-letters : (letters : List ℕ) (k mirror : ℕ) → settingsGround letters k mirror ≡ none → LettersText letters
+unfolding goodLetters
+good-letters letters k mirror passed =
+    let good = good-settings letters k mirror passed in
+    let sizes = and-eq-true-iff (leb 2 (length letters)) (leb (length letters) 16 && differentCapitals letters) .0 (good .capitals) in
+    let capitals = and-eq-true-iff (leb (length letters) 16) (differentCapitals letters) .0 (sizes .1) .1 in
+    record { some = omega (arith, good .two); each = capital-letters letters capitals }
 
 -- ---- k in decimal, by its number of digits
 

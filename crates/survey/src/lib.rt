@@ -55,15 +55,15 @@ pub enum Head {
 }
 
 // The form whose value starts at a place.
-fn form_from(s: &[u8], name: Name, from: usize) -> Form
-    ensures { λ r. ⌜ r ≡ formFrom (now (s .entry)) name from ⌝ }
+fn form_from(input: &[u8], name: Name, from: usize) -> Form
+    ensures { λ r. ⌜ r ≡ formFrom (now (input .entry)) name from ⌝ }
 {
-    let end = value_end(s, name, from);
+    let end = value_end(input, name, from);
     let len = end - from;
-    if !sized(s, name, from, len) {
+    if !sized(input, name, from, len) {
         return Form::NoForm;
     }
-    let number = number_of(s, name, from, len);
+    let number = number_of(input, name, from, len);
     Form::Of {
         name,
         from,
@@ -73,48 +73,48 @@ fn form_from(s: &[u8], name: Name, from: usize) -> Form
 }
 
 // The form that stands at a place, without its closing bracket.
-fn form_at(s: &[u8], at: usize) -> Form
-    ensures { λ r. ⌜ r ≡ formAt (now (s .entry)) at ⌝ }
+fn form_at(input: &[u8], at: usize) -> Form
+    ensures { λ r. ⌜ r ≡ formAt (now (input .entry)) at ⌝ }
 {
-    if starts(s, at, b"(letters ") {
-        return form_from(s, Name::Letters, at + 9);
+    if starts(input, at, b"(letters ") {
+        return form_from(input, Name::Letters, at + 9);
     }
-    if starts(s, at, b"(k ") {
-        return form_from(s, Name::K, at + 3);
+    if starts(input, at, b"(k ") {
+        return form_from(input, Name::K, at + 3);
     }
-    if starts(s, at, b"(mirror ") {
-        return form_from(s, Name::Mirror, at + 8);
+    if starts(input, at, b"(mirror ") {
+        return form_from(input, Name::Mirror, at + 8);
     }
     Form::NoForm
 }
 
 // The form after a form, parted from it by one space.
-fn next_form(s: &[u8], f: Form) -> Form
-    requires { ⌜ Within (now s) f ⌝ }
-    ensures { λ r. ⌜ r ≡ nextForm (now (s .entry)) f ⌝ }
+fn next_form(input: &[u8], f: Form) -> Form
+    requires { ⌜ Within (now input) f ⌝ }
+    ensures { λ r. ⌜ r ≡ nextForm (now (input .entry)) f ⌝ }
 {
     let Form::Of { from, len, .. } = f else {
         return Form::NoForm;
     };
     let end = from + len;
-    if starts(s, end, b") ") {
-        return form_at(s, end + 2);
+    if starts(input, end, b") ") {
+        return form_at(input, end + 2);
     }
     Form::NoForm
 }
 
 // The place after the line whose last value ends before a place.
-fn end_after(s: &[u8], at: usize) -> End
-    ensures { λ r. ⌜ r ≡ endAfter (now (s .entry)) at ⌝ }
+fn end_after(input: &[u8], at: usize) -> End
+    ensures { λ r. ⌜ r ≡ endAfter (now (input .entry)) at ⌝ }
 {
-    if starts(s, at, b"))\n") {
+    if starts(input, at, b"))\n") {
         return End::At(at + 3);
     }
-    if starts(s, at, b"))\r\n") {
+    if starts(input, at, b"))\r\n") {
         return End::At(at + 4);
     }
-    if starts(s, at, b"))") {
-        if at + 2 == s.len() {
+    if starts(input, at, b"))") {
+        if at + 2 == input.len() {
             return End::At(at + 2);
         }
     }
@@ -122,13 +122,13 @@ fn end_after(s: &[u8], at: usize) -> End
 }
 
 // The place after the line whose last form this is.
-fn line_end(s: &[u8], f: Form) -> End
-    requires { ⌜ Within (now s) f ⌝ }
-    ensures { λ r. ⌜ r ≡ lineEnd (now (s .entry)) f ⌝ }
+fn line_end(input: &[u8], f: Form) -> End
+    requires { ⌜ Within (now input) f ⌝ }
+    ensures { λ r. ⌜ r ≡ lineEnd (now (input .entry)) f ⌝ }
 {
     match f {
         Form::NoForm => End::Nowhere,
-        Form::Of { from, len, .. } => end_after(s, from + len),
+        Form::Of { from, len, .. } => end_after(input, from + len),
     }
 }
 
@@ -187,30 +187,30 @@ fn head_of(end: End, letters: Form, k: Form, mirror: Form) -> Head
 }
 
 // Three forms in a row, from the first form's place on.
-fn line_from(s: &[u8], at: usize) -> Head
-    ensures { λ r. ⌜ r ≡ lineFrom (now (s .entry)) at ⌝ }
+fn line_from(input: &[u8], at: usize) -> Head
+    ensures { λ r. ⌜ r ≡ lineFrom (now (input .entry)) at ⌝ }
 {
-    let a = form_at(s, at);
-    let b = next_form(s, a);
-    let c = next_form(s, b);
+    let first = form_at(input, at);
+    let second = next_form(input, first);
+    let third = next_form(input, second);
     let none = Forms {
         letters: Form::NoForm,
         k: Form::NoForm,
         mirror: Form::NoForm,
     };
-    let p = took(took(took(none, a), b), c);
+    let p = took(took(took(none, first), second), third);
     let letters = p.letters;
     let k = p.k;
     let mirror = p.mirror;
-    head_of(line_end(s, c), letters, k, mirror)
+    head_of(line_end(input, third), letters, k, mirror)
 }
 
 // Reads the survey line that an input starts with.
-pub fn read_line(s: &[u8]) -> Head
-    ensures { λ r. ⌜ r ≡ readLine (now (s .entry)) ⌝ }
+pub fn read_line(input: &[u8]) -> Head
+    ensures { λ r. ⌜ r ≡ readLine (now (input .entry)) ⌝ }
 {
-    if starts(s, 0, b"(survey ") {
-        return line_from(s, 8);
+    if starts(input, 0, b"(survey ") {
+        return line_from(input, 8);
     }
     Head::NoSurvey
 }

@@ -8,16 +8,16 @@ ghost use Rattle.survey.specs.Reading.{startsWith, stretch, valueByte, s
 use crate::Name;
 
 // Whether a text stands at a place.
-pub fn starts(s: &[u8], at: usize, text: &[u8]) -> bool
-    ensures { λ r. ⌜ r ≡ startsWith (now (text .entry)) (drop at (now (s .entry))) ⌝ }
+pub fn starts(input: &[u8], at: usize, text: &[u8]) -> bool
+    ensures { λ r. ⌜ r ≡ startsWith (now (text .entry)) (drop at (now (input .entry))) ⌝ }
 {
     let mut i = at;
     let mut j: usize = 0;
     while j < text.len() {
-        if i >= s.len() {
+        if i >= input.len() {
             return false;
         }
-        if s[i] != text[j] {
+        if input[i] != text[j] {
             return false;
         }
         i += 1;
@@ -47,12 +47,12 @@ fn value_byte(name: Name, b: u8) -> bool
 }
 
 // The place after a form's value.
-pub fn value_end(s: &[u8], name: Name, from: usize) -> usize
-    ensures { λ r. ⌜ r ≡ from + stretch (valueByte name) (drop from (now (s .entry))) ⌝ }
+pub fn value_end(input: &[u8], name: Name, from: usize) -> usize
+    ensures { λ r. ⌜ r ≡ from + stretch (valueByte name) (drop from (now (input .entry))) ⌝ }
 {
     let mut i = from;
-    while i < s.len() {
-        let b = s[i];
+    while i < input.len() {
+        let b = input[i];
         if !value_byte(name, b) {
             return i;
         }
@@ -62,8 +62,8 @@ pub fn value_end(s: &[u8], name: Name, from: usize) -> usize
 }
 
 // Whether a form's value may have this length: one or more, and for k 1 to 3 digits with no leading zero except 0 itself.
-pub fn sized(s: &[u8], name: Name, from: usize, len: usize) -> bool
-    ensures { λ r. ⌜ r ≡ Sized name (drop from (now (s .entry))) len ⌝ }
+pub fn sized(input: &[u8], name: Name, from: usize, len: usize) -> bool
+    ensures { λ r. ⌜ r ≡ Sized name (drop from (now (input .entry))) len ⌝ }
 {
     if len == 0 {
         return false;
@@ -78,7 +78,7 @@ pub fn sized(s: &[u8], name: Name, from: usize, len: usize) -> bool
             if len == 1 {
                 return true;
             }
-            !starts(s, from, b"0")
+            !starts(input, from, b"0")
         }
     }
 }
@@ -94,14 +94,14 @@ fn digit(b: u8) -> u64
 }
 
 // The number that up to 3 digits spell.
-fn spelt_at(s: &[u8], from: usize, len: usize) -> u64
-    requires { ⌜ (len ≤ 3) × (from + len ≤ length (now s)) ⌝ }
-    ensures { λ r. ⌜ r ≡ spelt 0 (take len (drop from (now (s .entry)))) ⌝ }
+fn spelt_at(input: &[u8], from: usize, len: usize) -> u64
+    requires { ⌜ (len ≤ 3) × (from + len ≤ length (now input)) ⌝ }
+    ensures { λ r. ⌜ r ≡ spelt 0 (take len (drop from (now (input .entry)))) ⌝ }
 {
     let mut v: u64 = 0;
     let mut j: usize = 0;
     while j < len {
-        let b = s[from + j];
+        let b = input[from + j];
         v = v * 10 + digit(b);
         j += 1;
     }
@@ -109,26 +109,26 @@ fn spelt_at(s: &[u8], from: usize, len: usize) -> u64
 }
 
 // The number of the mirror whose name stands at a place.
-fn mirror_number(s: &[u8], from: usize) -> u64
-    ensures { λ r. ⌜ r ≡ mirrorNumber (drop from (now (s .entry))) ⌝ }
+fn mirror_number(input: &[u8], from: usize) -> u64
+    ensures { λ r. ⌜ r ≡ mirrorNumber (drop from (now (input .entry))) ⌝ }
 {
-    if starts(s, from, b"reversal)") {
+    if starts(input, from, b"reversal)") {
         return 0;
     }
-    if starts(s, from, b"complement)") {
+    if starts(input, from, b"complement)") {
         return 1;
     }
     2
 }
 
 // The number that a form's value stands for.
-pub fn number_of(s: &[u8], name: Name, from: usize, len: usize) -> u64
-    requires { ⌜ (Sized name (drop from (now s)) len ≡ true) × (from + len ≤ length (now s)) ⌝ }
-    ensures { λ r. ⌜ r ≡ numberOf name (drop from (now (s .entry))) len ⌝ }
+pub fn number_of(input: &[u8], name: Name, from: usize, len: usize) -> u64
+    requires { ⌜ (Sized name (drop from (now input)) len ≡ true) × (from + len ≤ length (now input)) ⌝ }
+    ensures { λ r. ⌜ r ≡ numberOf name (drop from (now (input .entry))) len ⌝ }
 {
     match name {
         Name::Letters => 0,
-        Name::K => spelt_at(s, from, len),
-        Name::Mirror => mirror_number(s, from),
+        Name::K => spelt_at(input, from, len),
+        Name::Mirror => mirror_number(input, from),
     }
 }

@@ -17,10 +17,10 @@ use Rattle.table.specs.Table.{classCount, placeOf, windowsOfFile, places
 use Rattle.table.specs.Book.{sameClass, hits, CanonicalWord}
 use Rattle.table.specs.Demand.{OnePlaceAClass}
 use Rattle.laws.specs.Each.{Each}
+use Rattle.laws.proofs.Tests.{bool-ext}
 use Rattle.table.specs.Needs.{Below}
 use Rattle.table.proofs.Each.{each-map}
 use Rattle.table.proofs.Bumps.{occurrences}
-use Rattle.table.proofs.Full.{bool-ext}
 use Rattle.table.proofs.WordLists.{class-same, same-class}
 use Rattle.table.proofs.FileWords.{windows-are-words}
 

@@ -12,12 +12,6 @@ use borrow.Author.Tests.{ltb-true, lt-ltb, le-ltb}
 use Rattle.table.specs.Table.{full}
 use Rattle.table.specs.Needs.{highestOf}
 
--- Two tests are equal where each holds if the other does.
-pub bool-ext : (x y : Bool) → (x ≡ true → y ≡ true) → (y ≡ true → x ≡ true) → x ≡ y
-bool-ext true y h g = sym (h refl)
-bool-ext false true h g = g refl
-bool-ext false false h g = refl
-
 -- ---- counts in a table
 
 -- A count that is too high makes ground 12 apply.

@@ -4,21 +4,20 @@ use Prim.Native.Nat.{ℕ, zero, suc, _+_, _<_, _≤_}
 use native.Mathlib.Decide.{ℕ-discrete}
 use native.Mathlib.Numerals.{add-one}
 use native.Mathlib.Omega.{arith}
-use mathlib.Core.Bool.{Bool, true, false, cond, _&&_, _||_}
+use mathlib.Core.Bool.{Bool, true, false, cond}
 use mathlib.Core.Option.{Option, none, some}
 use mathlib.Core.List.{List, [], _∷_, _++_, append-nil}
 use lib.ListN.{length, getD, take, drop, set, length-set}
 use lib.Seq.{take-set-le, take-suc-set}
-use lib.Dec.{eqb}
 use Rattle.encoding.specs.Words.{Ranks}
 use Rattle.encoding.proofs.Ends.{Ranks-append}
 use Rattle.fasta.specs.declared.Item.{Item}
 use Rattle.fasta.specs.declared.Item.the-variants.{Opens, Skip, Stray, Letter}
 use Rattle.fasta.specs.declared.Mode.{Mode}
-use Rattle.fasta.specs.declared.Mode.the-variants.{Start, Header, Sequence}
 use Rattle.fasta.specs.Items.{marks}
-use Rattle.fasta.specs.File.{isLetter, lfNext, lineItem, item, next, itemsFrom}
+use Rattle.fasta.specs.File.{lfNext, item, next, itemsFrom}
 use Rattle.settings.specs.RankTables.{rankByTable, RanksBelow}
+use Rattle.fasta.proofs.Bytes.{item-cases}
 use Rattle.fasta.proofs.Scans.{items-step, items-end}
 use Rattle.laws.specs.Windows.{windows}
 use Rattle.table.specs.declared.batches.Mark.{Mark}
@@ -46,25 +45,10 @@ module _ {s : ℕ} {table : List ℕ} (T : RanksBelow s table) (b : ℕ) (byte :
   letter-rank none e = tt
   letter-rank (some x) e = (T .below b x byte e, tt)
 
-  line-rank : (lf : Bool) → Ranks s (added (rankByTable table) (lineItem b lf))
-  unfolding lineItem
-  line-rank lf = go (eqb b 10 || (eqb b 13 && lf)) (isLetter b)
-    where
-      go : (skip letter : Bool) → Ranks s (added (rankByTable table) (cond skip Skip (cond letter (Letter b) Stray)))
-      go true letter = tt
-      go false true = letter-rank (rankByTable table b) refl
-      go false false = tt
-
   -- The letter that a byte adds is a rank below s.
   item-rank : (mode : Mode) (lf : Bool) → Ranks s (added (rankByTable table) (item mode b lf))
-  unfolding item
-  item-rank Header lf = tt
-  item-rank Sequence lf = line-rank lf
-  item-rank Start lf = go (eqb b 62)
-    where
-      go : (opens : Bool) → Ranks s (added (rankByTable table) (cond opens Opens (lineItem b lf)))
-      go true = tt
-      go false = line-rank lf
+  item-rank mode lf =
+      item-cases (λ (it : Item). Ranks s (added (rankByTable table) it)) mode b lf tt tt tt (λ e. letter-rank (rankByTable table b) refl)
 
 -- A letter written behind the first n of the array, or none.
 put : (array : List ℕ) (n x l : ℕ) → l ≤ 1 → n < length array → take (n + l) (set array n x) ≡ take n array ++ take l (x ∷ [])

@@ -8,6 +8,7 @@ use mathlib.Core.List.{List}
 use lib.ListN.{length, take, drop, getD, length-map}
 use lib.Seq.{length-take-le, getD-take}
 use borrow.Author.Tests.{le-ltb}
+use Rattle.laws.proofs.Tests.{bool-ext}
 use Rattle.settings.specs.Grounds.{Ground, Outcome, given, refused, outcome, unlessRefused}
 use Rattle.settings.specs.Settings.{rankIn, mirrorOf, settingsGround}
 use Rattle.fasta.specs.declared.Numbers.{Numbers}
@@ -16,7 +17,7 @@ use Rattle.table.specs.Table.{classCount, placeOf, windowsOfFile, places
 use Rattle.table.specs.Book.{Book, bookFull, canonicalOnes, allWords, bookGround, bookAnswer, bookAfter}
 use Rattle.table.specs.Demand.{sum, counts, Agrees}
 use Rattle.table.proofs.Bumps.{length-bumps, getD-bumps, drop-bumps, sum-bumps}
-use Rattle.table.proofs.Full.{bool-ext, full-at, full-where, full-of-member, full-member}
+use Rattle.table.proofs.Full.{full-at, full-where, full-of-member, full-member}
 use Rattle.table.proofs.WordLists.{listed, unlisted}
 use Rattle.table.proofs.FileWords.{windows-are-words}
 use Rattle.table.proofs.Classes.{place-below, places-and-classes, occurrences-are-hits, places-below}

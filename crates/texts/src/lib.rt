@@ -17,6 +17,7 @@ fn next_place(at: usize) -> usize
     at + 1
 }
 
+// One byte.
 pub fn put_byte(out: &mut [u8], at: usize, b: u8) -> usize
     ensures { λ r. ⌜ Puts (now (out .entry)) (now (out .exit)) at r (b ∷ []) ⌝ }
 {
@@ -27,6 +28,7 @@ pub fn put_byte(out: &mut [u8], at: usize, b: u8) -> usize
     next_place(at)
 }
 
+// The bytes of a text.
 pub fn put_text(out: &mut [u8], at: usize, text: &[u8]) -> usize
     ensures { λ r. ⌜ Puts (now (out .entry)) (now (out .exit)) at r (now (text .entry)) ⌝ }
 {
@@ -39,12 +41,14 @@ pub fn put_text(out: &mut [u8], at: usize, text: &[u8]) -> usize
     next
 }
 
+// The last digit of a number, as it is written.
 fn last_digit(n: u64) -> u8
     ensures { λ r. ⌜ r ≡ 48 + n % 10 ⌝ }
 {
     48 + (n % 10) as u8
 }
 
+// A number in decimal.
 pub fn put_decimal(out: &mut [u8], at: usize, n: u64) -> usize
     ensures { λ r. ⌜ Puts (now (out .entry)) (now (out .exit)) at r (decimal n) ⌝ }
 {

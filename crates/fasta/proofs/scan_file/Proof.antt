@@ -5,7 +5,8 @@ use native.Mathlib.Omega.{arith}
 use borrow.Author.Needs.{needs}
 use lib.ListN.{length}
 use Rattle.settings.specs.RankTables.{rankByTable}
-use Rattle.fasta.proofs.Scans.{Scanning, start, done, at-stray, at-early, turn}
+use denote.Ref.{now}
+use Rattle.fasta.proofs.Scans.{Scanning, start, done, Turn, at-stray, at-early, goes-on}
 use Rattle.fasta.proofs.scan_file.Statement.{statement}
 use Rattle.fasta.proofs.scan_file.Tie as tie
 
@@ -24,25 +25,34 @@ item-at-requires c κs = omega arith
 take-item-requires : tie.Need-take-item-requires Inv-loop μ-loop
 take-item-requires c κs = search needs
 
+-- What a turn knows once it took its item.
+abbrev TurnFrom : tie.After-take-item Inv-loop μ-loop → Type 0
+TurnFrom c =
+    let at = c .before .before .before in
+    let a = at .before .before .args in
+    Turn (now (a .file)) (rankByTable (now (a .ranks))) (a .k) (at .loop .mode) (at .loop .t) (at .loop .i) (c .before .item-at .result) (c .take-item .result)
+
+turn : (c : tie.After-take-item Inv-loop μ-loop) → TurnFrom c
+turn c =
+    let test = c .before .before in
+    record {
+      scanning = test .before .loop .inv .1;
+      more = test .loop-test .taken;
+      it-is = c .before .item-at .ensures;
+      st-is = c .take-item .ensures;
+    }
+
 enum-told : tie.Need-enum-told Inv-loop μ-loop
 enum-told c = search needs
 
 returns : tie.Need-returns Inv-loop μ-loop
-returns c =
-    let took = c .before .before in
-    let test = took .before .before in
-    let inv = test .before .loop .inv in
-    at-stray _ _ _ _ _ _ (inv .1) _ _ (test .loop-test .taken) (took .before .item-at .ensures) (took .take-item .ensures) (c .enum-told .given .1)
+returns c = at-stray (turn (c .before .before)) (c .enum-told .given .1)
 
 enum-told-2 : tie.Need-enum-told-2 Inv-loop μ-loop
 enum-told-2 c = search needs
 
 returns-2 : tie.Need-returns-2 Inv-loop μ-loop
-returns-2 c =
-    let took = c .before .before in
-    let test = took .before .before in
-    let inv = test .before .loop .inv in
-    at-early _ _ _ _ _ _ (inv .1) _ _ (test .loop-test .taken) (took .before .item-at .ensures) (took .take-item .ensures) (c .enum-told2 .given .1)
+returns-2 c = at-early (turn (c .before .before)) (c .enum-told2 .given .1)
 
 enum-known-u : tie.Need-enum-known-u Inv-loop μ-loop
 enum-known-u c = search needs
@@ -63,15 +73,10 @@ loop-again : tie.Need-loop-again Inv-loop μ-loop
 loop-again c =
     let u = c .before .before .before in
     let took = u .before .before in
-    let test = took .before .before in
-    let inv = test .before .loop .inv in (
-      inv .0,
-      turn _ _ _ _ _ _ (inv .1) _ _ (test .loop-test .taken) (took .before .item-at .ensures) (took .take-item .ensures) _ _ (u .u .given .1)
-          (c .next-mode .ensures),
-    )
+    (took .before .before .before .loop .inv .0, goes-on (turn took) _ _ (u .u .given .1) (c .next-mode .ensures))
 
 returns-3 : tie.Need-returns-3 Inv-loop μ-loop
-returns-3 c = done _ _ _ _ _ _ (c .before .loop .inv .1) (c .loop-test .left)
+returns-3 c = done (c .before .loop .inv .1) (c .loop-test .left)
 
 pub scan-file-spec : {M : Type 1} → statement M
 scan-file-spec =

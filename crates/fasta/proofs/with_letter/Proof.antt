@@ -1,5 +1,6 @@
 -- `fasta::with_letter` meets its contract: a foreign letter ends the run, and of the others the k-th and each later one closes a window.
 use Prim.Native.Nat.{_+_, _<_, _≤_}
+use native.Mathlib.Nat.{add-zero}
 use borrow.Author.Tests.{ne-eqb, le-leb, lt-leb}
 use Rattle.settings.specs.RankTables.{asRank}
 use Rattle.fasta.specs.Needs.{withLetter}
@@ -44,7 +45,7 @@ returns-2 c =
     let if2 = c .before .before .before in
     let a = if2 .before .before .before .args in
     let closes : a .k ≤ a .t .run + 1 = if2 .if2 .taken in
-    rw (ne-eqb _ 255 (if2 .before .before .if1 .left), le-leb _ _ closes)
+    rw (ne-eqb _ 255 (if2 .before .before .if1 .left), le-leb _ _ closes, add-zero)
 
 returns-3 : tie.Need-returns-3
 unfolding asRank withLetter
@@ -52,7 +53,7 @@ returns-3 c =
     let if2 = c .before .before .before in
     let a = if2 .before .before .before .args in
     let too-few : a .t .run + 1 < a .k = if2 .if2 .left in
-    rw (ne-eqb _ 255 (if2 .before .before .if1 .left), lt-leb _ _ too-few)
+    rw (ne-eqb _ 255 (if2 .before .before .if1 .left), lt-leb _ _ too-few, add-zero)
 
 pub with-letter-spec : {M : Type 1} → statement M
 with-letter-spec =

@@ -1,4 +1,4 @@
--- `listing::line_length` meets its contract.
+-- `listing::line_length` meets its contract: past the test for 0 (`counted-length`) the length is that of the line's texts, and a decimal is short.
 use borrow.Author.Needs.{needs}
 use native.Mathlib.Omega.{arith}
 use Rattle.texts.proofs.Decimals.{decimal-length}

@@ -4,8 +4,9 @@ use Prim.Native.Nat.{_+_, _-_, _*_, _≤_}
 use native.Mathlib.Omega.{arith}
 use denote.Ref.{now}
 use lib.ListN.{length, drop, getD}
+use Rattle.laws.proofs.Sums.{sum-step, sum-end}
 use Rattle.listing.specs.Needs.{linesLength}
-use Rattle.listing.proofs.Lengths.{line-short, lines-step, lines-end}
+use Rattle.listing.proofs.Lengths.{line-short, lines-add-up}
 use Rattle.listing.proofs.lines_length.Statement.{statement}
 use Rattle.listing.proofs.lines_length.Tie as tie
 
@@ -27,14 +28,20 @@ shared-slice-read-line-length c = omega arith
 line-length-requires : tie.Need-line-length-requires Inv-loop μ-loop
 line-length-requires c κs = c .before .before .before .before .pre .0
 
-add-sum : tie.Need-add-sum Inv-loop μ-loop
-add-sum c =
+-- The line of the class that the loop is at is short.
+short : (c : tie.After-line-length Inv-loop μ-loop) → c .line-length .result ≤ 82
+short c =
     let known = c .before in
     let loop = known .before .before in
     let start = loop .before .before in
     let n = getD (now (start .args .counts)) (loop .loop .j) 0 in
-    let short = line-short (start .args .k) n (start .pre .0) (omega (arith, known .shared-slice-known2 .given (loop .loop .j))) in
-    omega (arith, c .line-length .ensures, short, loop .loop .inv .2, start .pre .1)
+    let fits = known .shared-slice-known2 .given (loop .loop .j) in
+    omega (arith, c .line-length .ensures, line-short (start .args .k) n (start .pre .0) (omega (arith, fits)))
+
+add-sum : tie.Need-add-sum Inv-loop μ-loop
+add-sum c =
+    let loop = c .before .before .before in
+    omega (arith, short c, loop .loop .inv .2, loop .before .before .pre .1)
 
 add-j : tie.Need-add-j Inv-loop μ-loop
 add-j c = omega arith
@@ -44,21 +51,18 @@ loop-less c = omega arith
 
 loop-again : tie.Need-loop-again Inv-loop μ-loop
 loop-again c =
-    let known = c .before in
-    let test = known .before in
+    let test = c .before .before in
     let loop = test .before in
     let start = loop .before .before in
-    let counts = now (start .args .counts) in
-    let n = getD counts (loop .loop .j) 0 in
-    let short = line-short (start .args .k) n (start .pre .0) (omega (arith, known .shared-slice-known2 .given (loop .loop .j))) in
-    let step = lines-step (start .args .k) counts (loop .loop .j) (test .loop-test .taken) in
-    (omega (arith, loop .loop .inv .0, step, c .line-length .ensures), omega arith, omega (arith, c .line-length .ensures, short, loop .loop .inv .2))
+    let step = sum-step (lines-add-up (start .args .k)) (now (start .args .counts)) (loop .loop .j) (test .loop-test .taken) in
+    (omega (arith, loop .loop .inv .0, step, c .line-length .ensures), omega arith, omega (arith, short c, loop .loop .inv .2))
 
 returns : tie.Need-returns Inv-loop μ-loop
 returns c =
     let loop = c .before in
     let start = loop .before .before in
-    omega (arith, loop .loop .inv .0, lines-end (start .args .k) (now (start .args .counts)) (loop .loop .j) (c .loop-test .left))
+    let end = sum-end (lines-add-up (start .args .k)) (now (start .args .counts)) (loop .loop .j) (c .loop-test .left) in
+    omega (arith, loop .loop .inv .0, end)
 
 pub lines-length-spec : {M : Type 1} → statement M
 lines-length-spec =

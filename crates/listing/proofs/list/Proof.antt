@@ -1,8 +1,11 @@
--- `listing::list` meets its contract.
+-- `listing::list` meets its contract: at each test the ground that applies, and else what `list_counts` answers and leaves.
 use borrow.Author.Needs.{needs}
-use mathlib.Core.Path.{sym, ap, _∙_}
+use mathlib.Core.Path.{_≡_, sym, ap, _∙_}
+use denote.Ref.{now}
 use lib.Seq.{length-take-le}
-use Rattle.settings.specs.Settings.{ofChecked}
+use Rattle.settings.specs.declared.Settings.{Settings}
+use Rattle.settings.specs.Grounds.{Outcome, given, outcome}
+use Rattle.settings.specs.Settings.{settingsGround, settingsOf, ofChecked}
 use Rattle.listing.proofs.ListingAnswers.{settings-refused, many-classes, short-table, table-counts, listed}
 use Rattle.listing.proofs.list.Statement.{statement}
 use Rattle.listing.proofs.list.Tie as tie
@@ -16,16 +19,22 @@ enum-known-f c = search needs
 enum-known-st : tie.Need-enum-known-st
 enum-known-st c = search needs
 
+-- What the check answers, and that it gave the settings that the match tells.
+abbrev Answers : tie.Start → Outcome Settings → Type 0
+Answers c answer =
+    let a = c .args in
+    answer ≡ outcome (settingsGround (now (a .letters)) (a .k) (a .mirror)) (settingsOf (now (a .letters)) (a .k) (a .mirror))
+
+checked : (c : tie.After-st) → Answers (c .before .before .before .before .before .before) (given (c .st .given .0 .0))
+checked c = ap ofChecked (sym (c .st .given .1)) ∙ c .before .before .check .ensures
+
 returns : tie.Need-returns
-returns c =
-    let told = c .before .before .before in
-    many-classes _ _ _ _ _ _ (ap ofChecked (sym (told .st .given .1)) ∙ told .before .before .check .ensures) (c .if1 .taken)
+returns c = many-classes _ _ _ _ _ _ (checked (c .before .before .before)) (c .if1 .taken)
 
 returns-2 : tie.Need-returns-2
 returns-2 c =
     let few = c .before in
-    let told = few .before .before .before in
-    short-table _ _ _ _ _ _ (ap ofChecked (sym (told .st .given .1)) ∙ told .before .before .check .ensures) (few .if1 .left) (c .if2 .taken)
+    short-table _ _ _ _ _ _ (checked (few .before .before .before)) (few .if1 .left) (c .if2 .taken)
 
 slice-aggregate-list-counts : tie.Need-slice-aggregate-list-counts
 slice-aggregate-list-counts c = sym (length-take-le _ _ (c .before .if2 .left))
@@ -34,8 +43,7 @@ list-counts-requires : tie.Need-list-counts-requires
 list-counts-requires c κs =
     let long = c .before .before in
     let few = long .before in
-    let told = few .before .before .before in
-    table-counts _ _ _ _ _ (ap ofChecked (sym (told .st .given .1)) ∙ told .before .before .check .ensures) (few .if1 .left) (long .if2 .left)
+    table-counts _ _ _ _ _ (checked (few .before .before .before)) (few .if1 .left) (long .if2 .left)
 
 returns-3 : tie.Need-returns-3
 returns-3 c = let told = c .before in settings-refused _ _ _ _ _ _ (ap ofChecked (sym (told .f .given .1)) ∙ told .before .before .check .ensures)
@@ -48,9 +56,7 @@ returns-4 c =
     let call = c .before .before in
     let long = call .before .before .before in
     let few = long .before in
-    let told = few .before .before .before in
-    listed _ _ _ _ _ _ (ap ofChecked (sym (told .st .given .1)) ∙ told .before .before .check .ensures) (few .if1 .left) (long .if2 .left)
-    (call .list-counts .ensures)
+    listed _ _ _ _ _ _ (checked (few .before .before .before)) (few .if1 .left) (long .if2 .left) (call .list-counts .ensures)
 
 pub list-spec : {M : Type 1} → statement M
 list-spec =

@@ -1,4 +1,4 @@
--- `listing::list_counts` meets its contract.
+-- `listing::list_counts` meets its contract: what is refused or written is the listing (`text-short`, `text-written`), by the callees' contracts.
 use borrow.Author.Needs.{needs}
 use Rattle.listing.proofs.ListingAnswers.{text-short, text-written}
 use Rattle.listing.proofs.list_counts.Statement.{statement}

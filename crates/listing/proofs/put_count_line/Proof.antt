@@ -1,4 +1,4 @@
--- `listing::put_count_line` meets its contract.
+-- `listing::put_count_line` meets its contract: the line's texts stand one after the other (`then`), by the callees' contracts.
 use borrow.Author.Needs.{needs}
 use Rattle.laws.specs.Text.{bytes}
 use Rattle.texts.proofs.Writing.{then, then-field}

@@ -1,4 +1,4 @@
--- `listing::put_listing` meets its contract.
+-- `listing::put_listing` meets its contract: the three parts stand one after the other (`then`), by the callees' contracts, and are short (`listing-length`).
 use borrow.Author.Needs.{needs}
 use native.Mathlib.Omega.{arith}
 use Rattle.texts.proofs.Writing.{then}

@@ -1,4 +1,4 @@
--- `listing::put_mirror` meets its contract.
+-- `listing::put_mirror` meets its contract: the name that each test leaves is the mirror's.
 use borrow.Author.Needs.{needs}
 use Rattle.listing.proofs.Lines.{complement-named}
 use Rattle.listing.proofs.put_mirror.Statement.{statement}

@@ -1,4 +1,4 @@
--- `listing::put_total` meets its contract.
+-- `listing::put_total` meets its contract: the sum and its text stand one after the other (`then-field`), by the callees' contracts.
 use borrow.Author.Needs.{needs}
 use denote.Ref.{now}
 use Rattle.laws.specs.Text.{bytes}

@@ -4,8 +4,9 @@ use Prim.Native.Nat.{_+_, _-_, _*_, _≤_}
 use native.Mathlib.Omega.{arith}
 use denote.Ref.{now}
 use lib.ListN.{length, drop}
+use Rattle.laws.proofs.Sums.{sum-step, sum-end}
 use Rattle.table.specs.Demand.{sum}
-use Rattle.listing.proofs.Lines.{sum-step, sum-end}
+use Rattle.listing.proofs.Lines.{counts-add-up}
 use Rattle.listing.proofs.total.Statement.{statement}
 use Rattle.listing.proofs.total.Tie as tie
 
@@ -41,13 +42,13 @@ loop-again c =
     let test = c .before in
     let loop = test .before in
     let counts = now (loop .before .args .counts) in
-    let step = sum-step counts (loop .loop .i) (test .loop-test .taken) in
+    let step = sum-step counts-add-up counts (loop .loop .i) (test .loop-test .taken) in
     (omega (arith, loop .loop .inv .0, step), omega arith, omega (arith, c .shared-slice-known .given (loop .loop .i)))
 
 returns : tie.Need-returns Inv-loop μ-loop
 returns c =
     let loop = c .before in
-    omega (arith, loop .loop .inv .0, sum-end (now (loop .before .args .counts)) (loop .loop .i) (c .loop-test .left))
+    omega (arith, loop .loop .inv .0, sum-end counts-add-up (now (loop .before .args .counts)) (loop .loop .i) (c .loop-test .left))
 
 pub total-spec : {M : Type 1} → statement M
 total-spec =

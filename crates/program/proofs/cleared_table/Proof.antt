@@ -1,4 +1,4 @@
--- `program::cleared_table` meets its contract.
+-- `program::cleared_table` meets its contract: the array is the definition's list.
 use mathlib.Core.Path.{refl}
 use Rattle.program.specs.Program.{clearedTable}
 use Rattle.program.proofs.cleared_table.Statement.{statement}

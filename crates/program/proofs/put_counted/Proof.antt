@@ -1,12 +1,14 @@
--- `program::put_counted` meets its contract.
+-- `program::put_counted` meets its contract: the add's answer says which text is due (`refused-text`, `taken-prints`), and the callees put it.
 use borrow.Author.Needs.{needs}
-use mathlib.Core.Path.{sym, ap}
+use mathlib.Core.Path.{_≡_, sym, ap}
+use mathlib.Core.List.{List}
+use Prim.Native.Nat.{ℕ}
 use denote.Ref.{now}
-use native.Mathlib.Omega.{arith}
 use lib.Seq.{length-take-le}
 use Rattle.settings.specs.declared.Settings.{Settings}
+use Rattle.table.specs.Table.{classCount}
 use Rattle.fasta.specs.Scan.{ofAnswer}
-use Rattle.program.proofs.Outputs.{SmallNumbers, refused-text, taken-in, taken-prints}
+use Rattle.program.proofs.Outputs.{SmallNumbers, TakenIn, refused-text, taken-in, taken-prints}
 use Rattle.program.proofs.put_counted.Statement.{statement}
 use Rattle.program.proofs.put_counted.Tie as tie
 
@@ -28,32 +30,28 @@ put-refused-requires c κs = search needs
 enum-known-n : tie.Need-enum-known-n
 enum-known-n c = search needs
 
+-- Where the function began, from the place where the file is taken in; and what the table is there.
+abbrev start : tie.After-n → tie.Start
+start c = c .before .before .before .before .before .before .before .before .before
+
+classes-are : (c : tie.Start) → c .args .st .classes ≡ classCount (now (c .args .letters)) (c .args .k) (c .args .mirror)
+classes-are c = ap (λ (st : Settings). st .classes) (c .pre .1)
+
+abbrev taken : (c : tie.After-n) → let a = start c .args in
+    (table : List ℕ) × TakenIn (now (a .letters)) (a .k) (a .mirror) (now (a .file)) (a .st .classes) table
+taken c =
+    let add = c .before .before .before in
+    let cleared = add .before .before .cleared-table .ensures in
+    (_, taken-in _ _ _ _ (classes-are (start c)) (c .n .given .0 .0) (ap ofAnswer (c .n .given .1)) cleared (add .add .ensures))
+
 array-share-prefix-table : tie.Need-array-share-prefix-table
-array-share-prefix-table c =
-    let told = c .before .before in
-    let add = told .before .before .before in
-    let table = add .before .before in
-    let start = table .before .before .before .before in
-    let T = taken-in _ _ _ _ (told .n .given .0 .0) (ap ofAnswer (told .n .given .1)) (table .cleared-table .ensures) (add .add .ensures) in
-    omega (arith, T .long, ap (λ (st : Settings). st .classes) (start .pre .1))
+array-share-prefix-table c = taken (c .before .before) .1 .long
 
 slice-aggregate-put-listing : tie.Need-slice-aggregate-put-listing
-slice-aggregate-put-listing c =
-    let told = c .before .before .before in
-    let add = told .before .before .before in
-    let table = add .before .before in
-    let start = table .before .before .before .before in
-    let T = taken-in _ _ _ _ (told .n .given .0 .0) (ap ofAnswer (told .n .given .1)) (table .cleared-table .ensures) (add .add .ensures) in
-    sym (length-take-le _ _ (omega (arith, T .long, ap (λ (st : Settings). st .classes) (start .pre .1))))
+slice-aggregate-put-listing c = sym (length-take-le _ _ (taken (c .before .before .before) .1 .long))
 
 put-listing-requires : tie.Need-put-listing-requires
-put-listing-requires c κs =
-    let told = c .before .before .before in
-    let add = told .before .before .before in
-    let table = add .before .before in
-    let start = table .before .before .before .before in
-    let T = taken-in _ _ _ _ (told .n .given .0 .0) (ap ofAnswer (told .n .given .1)) (table .cleared-table .ensures) (add .add .ensures) in
-    rw (ap (λ (st : Settings). st .classes) (start .pre .1)) (T .all)
+put-listing-requires c κs = taken (c .before .before .before) .1 .all
 
 put-file-line-requires : tie.Need-put-file-line-requires
 put-file-line-requires c κs = search needs
@@ -88,14 +86,9 @@ returns-2 c =
       windows = fields .1 .1 .1 .1 .0 .1;
     } in
     let add = told .before .before .before in
-    let table = add .before .before in
-    let start = table .before .before .before .before in
-    let classes = ap (λ (st : Settings). st .classes) (start .pre .1) in
-    taken-prints _ _ _ _ (told .n .given .0 .0) (ap ofAnswer (told .n .given .1)) (table .cleared-table .ensures) (add .add .ensures)
-    fits
-    (rw classes at (listing .put-listing .ensures .1))
-    (rw classes at (listing .put-listing .ensures .0))
-    (line .put-file-line .ensures)
+    let cleared = add .before .before .cleared-table .ensures in
+    taken-prints _ _ _ _ (classes-are (start told)) (told .n .given .0 .0) (ap ofAnswer (told .n .given .1)) cleared (add .add .ensures)
+    fits (listing .put-listing .ensures .1) (listing .put-listing .ensures .0) (line .put-file-line .ensures)
 
 pub put-counted-spec : {M : Type 1} → statement M
 put-counted-spec =

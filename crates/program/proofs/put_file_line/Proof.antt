@@ -1,4 +1,4 @@
--- `program::put_file_line` meets its contract.
+-- `program::put_file_line` meets its contract: the fields stand one after the other (`then-field`), by the callees' contracts.
 use borrow.Author.Needs.{needs}
 use Rattle.laws.specs.Text.{bytes}
 use Rattle.texts.proofs.Writing.{then-field}

@@ -1,4 +1,4 @@
--- `program::put_refused` meets its contract.
+-- `program::put_refused` meets its contract: the fields stand one after the other (`then-field`), by the callees' contracts, and are short.
 use borrow.Author.Needs.{needs}
 use native.Mathlib.Nat.{le-trans}
 use native.Mathlib.Omega.{arith}

@@ -1,8 +1,12 @@
--- `program::run` meets its contract.
-use mathlib.Core.Path.{sym, _∙_}
+-- `program::run` meets its contract: each test's text is the definition's (`long-text`, `no-survey-text`, `line-text`).
+use mathlib.Core.Path.{_≡_, sym, _∙_}
+use mathlib.Core.List.{List}
+use Prim.Native.Nat.{ℕ}
 use borrow.Author.Needs.{needs}
 use native.Mathlib.Omega.{arith}
 use denote.Ref.{now}
+use Rattle.survey.specs.declared.Head.the-variants.{Survey}
+use Rattle.survey.specs.Reading.{readLine}
 use Rattle.survey.proofs.Theorems.{reads-only}
 use Rattle.program.proofs.Outputs.{long-text, no-survey-text, line-text}
 use Rattle.program.proofs.run.Statement.{statement}
@@ -32,19 +36,18 @@ put-refused-requires-2 c κs = search needs
 enum-known-from : tie.Need-enum-known-from
 enum-known-from c = search needs
 
+-- The line that is read from the input, and that it is the survey line that the match tells.
+abbrev input : tie.After-from → List ℕ
+input c = now (c .before .before .before .before .before .before .args .input)
+
+read : (c : tie.After-from) → let v = c .from .given .0 in readLine (input c) ≡ Survey (v .0) (v .1 .0) (v .1 .1 .0) (v .1 .1 .1 .0) (v .1 .1 .1 .1 .0)
+read c = sym (c .before .before .read-line .ensures) ∙ c .from .given .1
+
 add-to : tie.Need-add-to
-add-to c =
-    let told = c .before in
-    let read = told .before .before in
-    let says = reads-only _ (sym (read .read-line .ensures) ∙ told .from .given .1) in
-    omega (arith, says .letters-inside)
+add-to c = omega (arith, reads-only _ (read (c .before)) .letters-inside)
 
 put-parts-requires : tie.Need-put-parts-requires
-put-parts-requires c κs =
-    let told = c .before .before in
-    let read = told .before .before in
-    let says = reads-only _ (sym (read .read-line .ensures) ∙ told .from .given .1) in
-    (omega arith, says .letters-inside, says .file-inside)
+put-parts-requires c κs = let says = reads-only _ (read (c .before .before)) in (omega arith, says .letters-inside, says .file-inside)
 
 same-length-2 : tie.Need-same-length-2
 same-length-2 c = search needs
@@ -65,10 +68,7 @@ returns-3 : tie.Need-returns-3
 returns-3 c =
     let parts = c .before .before in
     let told = parts .before .before .before in
-    let read = told .before .before in
-    let test = read .before in
-    let input = now (test .before .before .before .args .input) in
-    rw (line-text input (test .if1 .left) (sym (read .read-line .ensures) ∙ told .from .given .1)) (parts .put-parts .ensures)
+    rw (line-text (input told) (told .before .before .before .if1 .left) (read told)) (parts .put-parts .ensures)
 
 pub run-spec : {M : Type 1} → statement M
 run-spec =

@@ -1,12 +1,37 @@
 -- `survey::form_at` meets its contract: the three openings are tried in the definition's order, and one that stands there lies inside.
-use mathlib.Core.Path.{sym, _∙_}
+use mathlib.Core.Path.{_≡_, sym, _∙_}
+use mathlib.Core.Bool.{false}
+use mathlib.Core.List.{List}
+use Prim.Native.Nat.{ℕ}
 use native.Mathlib.Omega.{arith}
 use borrow.Author.Needs.{needs}
 use denote.Ref.{now}
-use Rattle.survey.specs.Reading.{formAt}
+use lib.ListN.{drop}
+use Rattle.laws.specs.Text.{bytes}
+use Rattle.survey.specs.Reading.{startsWith, formAt}
 use Rattle.survey.proofs.TextLaws.{starts-within}
 use Rattle.survey.proofs.form_at.Statement.{statement}
 use Rattle.survey.proofs.form_at.Tie as tie
+
+-- Where the function began, from the answer of each of its three tests; and the input from the place on.
+abbrev first-start : tie.After-starts → tie.Start
+first-start c = c .before .before .before
+
+abbrev second-start : tie.After-starts2 → tie.Start
+second-start c = first-start (c .before .before .before)
+
+abbrev third-start : tie.After-starts3 → tie.Start
+third-start c = second-start (c .before .before .before)
+
+abbrev rest : tie.Start → List ℕ
+rest c = drop (c .args .at) (now (c .args .input))
+
+-- The openings that do not stand there.
+not-letters : (c : tie.Else1) → startsWith (bytes "(letters ") (rest (first-start (c .before))) ≡ false
+not-letters c = sym (c .before .starts .ensures) ∙ c .if1 .left
+
+not-k : (c : tie.Else2) → startsWith (bytes "(k ") (rest (second-start (c .before))) ≡ false
+not-k c = sym (c .before .starts2 .ensures) ∙ c .if2 .left
 
 slice-aggregate-starts : tie.Need-slice-aggregate-starts
 slice-aggregate-starts c = search needs
@@ -16,8 +41,8 @@ starts-requires c κs = search needs
 
 add-form-from : tie.Need-add-form-from
 add-form-from c =
-    let args = c .before .before .before .before .args in
-    let inside = starts-within _ _ (now (args .s)) (args .at) (sym (c .before .starts .ensures) ∙ c .if1 .taken) in
+    let args = first-start (c .before) .args in
+    let inside = starts-within _ _ (now (args .input)) (args .at) (sym (c .before .starts .ensures) ∙ c .if1 .taken) in
     omega arith
 
 form-from-requires : tie.Need-form-from-requires
@@ -35,8 +60,8 @@ starts-requires-2 c κs = search needs
 
 add-form-from-2 : tie.Need-add-form-from-2
 add-form-from-2 c =
-    let args = c .before .before .before .before .before .before .before .args in
-    let inside = starts-within _ _ (now (args .s)) (args .at) (sym (c .before .starts2 .ensures) ∙ c .if2 .taken) in
+    let args = second-start (c .before) .args in
+    let inside = starts-within _ _ (now (args .input)) (args .at) (sym (c .before .starts2 .ensures) ∙ c .if2 .taken) in
     omega arith
 
 form-from-requires-2 : tie.Need-form-from-requires-2
@@ -45,11 +70,8 @@ form-from-requires-2 c κs = search needs
 returns-2 : tie.Need-returns-2
 unfolding formAt
 returns-2 c =
-    let not-letters = c .before .before .before .before in
-    rw (
-      sym (not-letters .before .starts .ensures) ∙ not-letters .if1 .left,
-      sym (c .before .before .starts2 .ensures) ∙ c .before .if2 .taken,
-    ) (c .form-from2 .ensures)
+    let test = c .before .before in
+    rw (not-letters (test .before .before), sym (test .starts2 .ensures) ∙ c .before .if2 .taken) (c .form-from2 .ensures)
 
 slice-aggregate-starts-3 : tie.Need-slice-aggregate-starts-3
 slice-aggregate-starts-3 c = search needs
@@ -59,8 +81,8 @@ starts-requires-3 c κs = search needs
 
 add-form-from-3 : tie.Need-add-form-from-3
 add-form-from-3 c =
-    let args = c .before .before .before .before .before .before .before .before .before .before .args in
-    let inside = starts-within _ _ (now (args .s)) (args .at) (sym (c .before .starts3 .ensures) ∙ c .if3 .taken) in
+    let args = third-start (c .before) .args in
+    let inside = starts-within _ _ (now (args .input)) (args .at) (sym (c .before .starts3 .ensures) ∙ c .if3 .taken) in
     omega arith
 
 form-from-requires-3 : tie.Need-form-from-requires-3
@@ -69,24 +91,16 @@ form-from-requires-3 c κs = search needs
 returns-3 : tie.Need-returns-3
 unfolding formAt
 returns-3 c =
-    let not-k = c .before .before .before .before in
-    let not-letters = not-k .before .before .before in
-    rw (
-      sym (not-letters .before .starts .ensures) ∙ not-letters .if1 .left,
-      sym (not-k .before .starts2 .ensures) ∙ not-k .if2 .left,
-      sym (c .before .before .starts3 .ensures) ∙ c .before .if3 .taken,
-    ) (c .form-from3 .ensures)
+    let test = c .before .before in
+    let no-k = test .before .before in
+    rw (not-letters (no-k .before .before .before), not-k no-k, sym (test .starts3 .ensures) ∙ c .before .if3 .taken) (c .form-from3 .ensures)
 
 returns-4 : tie.Need-returns-4
 unfolding formAt
 returns-4 c =
-    let not-k = c .before .before .before in
-    let not-letters = not-k .before .before .before in
-    rw (
-      sym (not-letters .before .starts .ensures) ∙ not-letters .if1 .left,
-      sym (not-k .before .starts2 .ensures) ∙ not-k .if2 .left,
-      sym (c .before .starts3 .ensures) ∙ c .if3 .left,
-    )
+    let test = c .before in
+    let no-k = test .before .before in
+    rw (not-letters (no-k .before .before .before), not-k no-k, sym (test .starts3 .ensures) ∙ c .if3 .left)
 
 pub form-at-spec : {M : Type 1} → statement M
 form-at-spec =

@@ -1,13 +1,28 @@
 -- `survey::form_from` meets its contract. The length that it works out is that of the definition's stretch.
-use mathlib.Core.Path.{sym, _∙_}
-use Prim.Native.Nat.{_-_}
+use mathlib.Core.Path.{_≡_, sym, _∙_}
+use mathlib.Core.Bool.{true}
+use Prim.Native.Nat.{ℕ, _-_}
 use native.Mathlib.Omega.{arith}
 use borrow.Author.Needs.{needs}
 use borrow.Author.Tests.{not-true, not-false}
 use denote.Ref.{now}
+use lib.ListN.{drop}
+use Rattle.survey.specs.Reading.{stretch, valueByte, sized}
 use Rattle.survey.proofs.FormLaws.{value-inside, form-refused, form-made}
 use Rattle.survey.proofs.form_from.Statement.{statement}
 use Rattle.survey.proofs.form_from.Tie as tie
+
+-- The length that is worked out: it is that of the definition's stretch.
+abbrev len : tie.After-value-end → ℕ
+len c = c .value-end .result - c .before .before .args .from
+
+measured : (c : tie.After-value-end) → let a = c .before .before .args in len c ≡ stretch (valueByte (a .name)) (drop (a .from) (now (a .input)))
+measured c = omega (arith, c .value-end .ensures)
+
+-- Past the test it is an admitted one.
+admitted : (c : tie.Else1) → let ended = c .before .before in let a = ended .before .before .args in
+    sized (a .name) (drop (a .from) (now (a .input))) (len ended) ≡ true
+admitted c = sym (c .before .sized .ensures) ∙ not-false (c .before .sized .result) (c .if1 .left)
 
 value-end-requires : tie.Need-value-end-requires
 value-end-requires c κs = search needs
@@ -20,28 +35,24 @@ sized-requires c κs = search needs
 
 returns : tie.Need-returns
 returns c =
-    let ended = c .before .before in
-    let args = ended .before .before .args in
     let tested = c .before in
+    let ended = tested .before in
+    let a = ended .before .before .args in
     let refused = sym (tested .sized .ensures) ∙ not-true (tested .sized .result) (c .if1 .taken) in
-    form-refused (now (args .s)) (args .name) (args .from) _ (omega (arith, ended .value-end .ensures)) refused
+    form-refused (now (a .input)) (a .name) (a .from) (len ended) (measured ended) refused
 
 number-of-requires : tie.Need-number-of-requires
 number-of-requires c κs =
     let ended = c .before .before in
-    let args = ended .before .before .args in
-    let tested = c .before in
-    let good = sym (tested .sized .ensures) ∙ not-false (tested .sized .result) (c .if1 .left) in
-    (good, value-inside (now (args .s)) (args .name) (args .from) (ended .value-end .result - args .from) (omega (arith, ended .value-end .ensures)) good)
+    let a = ended .before .before .args in
+    (admitted c, value-inside (now (a .input)) (a .name) (a .from) (len ended) (measured ended) (admitted c))
 
 returns-2 : tie.Need-returns-2
 returns-2 c =
-    let ended = c .before .before .before in
-    let args = ended .before .before .args in
-    let tested = c .before .before in
-    let good = sym (tested .sized .ensures) ∙ not-false (tested .sized .result) (c .before .if1 .left) in
-    form-made (now (args .s)) (args .name) (args .from) (ended .value-end .result - args .from) (omega (arith, ended .value-end .ensures)) _ good
-    (c .number-of .ensures)
+    let test = c .before in
+    let ended = test .before .before in
+    let a = ended .before .before .args in
+    form-made (now (a .input)) (a .name) (a .from) (len ended) (measured ended) _ (admitted test) (c .number-of .ensures)
 
 pub form-from-spec : {M : Type 1} → statement M
 form-from-spec =

@@ -10,10 +10,10 @@ form-at-requires : tie.Need-form-at-requires
 form-at-requires c κs = search needs
 
 next-form-requires : tie.Need-next-form-requires
-next-form-requires c κs = rw (c .form-at .ensures) (form-within (now (c .before .before .args .s)) (c .before .before .args .at))
+next-form-requires c κs = rw (c .form-at .ensures) (form-within (now (c .before .before .args .input)) (c .before .before .args .at))
 
 next-form-requires-2 : tie.Need-next-form-requires-2
-next-form-requires-2 c κs = rw (c .next-form .ensures) (next-within (now (c .before .before .before .args .s)) (c .before .form-at .result))
+next-form-requires-2 c κs = rw (c .next-form .ensures) (next-within (now (c .before .before .before .args .input)) (c .before .form-at .result))
 
 took-requires : tie.Need-took-requires
 took-requires c κs = search needs
@@ -28,7 +28,7 @@ line-end-requires : tie.Need-line-end-requires
 line-end-requires c κs =
     let third = c .before .before .before in
     let second = third .before in
-    rw (third .next-form2 .ensures) (next-within (now (second .before .before .before .args .s)) (second .next-form .result))
+    rw (third .next-form2 .ensures) (next-within (now (second .before .before .before .args .input)) (second .next-form .result))
 
 head-of-requires : tie.Need-head-of-requires
 head-of-requires c κs = search needs
@@ -41,7 +41,7 @@ returns c =
     let args = first .before .before .args in
     let met = c .before .before in
     c .head-of .ensures
-    ∙ line-made (now (args .s)) (args .at) _ _ _ _ _ _ _ (first .form-at .ensures) (second .next-form .ensures) (third .next-form2 .ensures)
+    ∙ line-made (now (args .input)) (args .at) _ _ _ _ _ _ _ (first .form-at .ensures) (second .next-form .ensures) (third .next-form2 .ensures)
     (met .before .before .took .ensures) (met .before .took2 .ensures) (met .took3 .ensures) (c .before .line-end .ensures)
 
 pub line-from-spec : {M : Type 1} → statement M

@@ -35,7 +35,7 @@ add-form-at c =
     let met = c .before .before .before .before in
     let value = met .f .given .0 .1 in
     let end = value .0 + value .1 .0 in
-    let text = now (met .before .before .before .args .s) in
+    let text = now (met .before .before .before .args .input) in
     let inside = starts-within _ _ text end (sym (c .before .starts .ensures) ∙ c .if1 .taken) in
     omega arith
 

@@ -1,4 +1,4 @@
--- `texts::put_byte` meets its contract.
+-- `texts::put_byte` meets its contract: the byte is set where the buffer has a place for it, and else nothing changes (`set-out`).
 use mathlib.Core.Path.{sym}
 use borrow.Author.Needs.{needs}
 use native.Mathlib.Omega.{arith}

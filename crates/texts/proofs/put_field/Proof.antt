@@ -1,4 +1,4 @@
--- `texts::put_field` meets its contract.
+-- `texts::put_field` meets its contract: the text and the number stand one after the other (`then`), by the callees' contracts.
 use borrow.Author.Needs.{needs}
 use Rattle.texts.proofs.Writing.{then}
 use Rattle.texts.proofs.put_field.Statement.{statement}

@@ -3,13 +3,14 @@ use mathlib.Core.Path.{_≡_, refl, sym, _∙_}
 use Prim.Native.Nat.{_-_, _≤_, _<_}
 use native.Mathlib.Omega.{arith}
 use lib.ListN.{length}
-use Rattle.fasta.specs.Records.{lfFrom, lineEnd}
-use Rattle.fasta.proofs.Searches.{lf-here, lf-next, lf-none}
+use borrow.Author.Tests.{eq-eqb, ne-eqb}
+use Rattle.fasta.specs.Records.{isLf, firstFrom, lineEnd}
+use Rattle.fasta.proofs.Searches.{first-here, first-next, first-none}
 use Rattle.fasta.proofs.records.line_end.Statement.{statement}
 use Rattle.fasta.proofs.records.line_end.Tie as tie
 
 abbrev Inv-loop : tie.InvT-loop
-Inv-loop file h i₀ i = (h < i) × (i ≤ length file) × (lineEnd file h ≡ lfFrom file i (length file - i))
+Inv-loop file h i₀ i = (h < i) × (i ≤ length file) × (lineEnd file h ≡ firstFrom (isLf file) i (length file - i))
 
 abbrev μ-loop : tie.MeasureT-loop
 μ-loop file h i₀ i = length file - i
@@ -27,7 +28,8 @@ returns : tie.Need-returns Inv-loop μ-loop
 returns c =
     let at = c .before .before .before in
     let f = at .before .args .file .now in
-    (sym (at .loop .inv .2 ∙ lf-here f (at .loop .i) (c .before .before .loop-test .taken) (c .if1 .taken)), at .loop .inv .0, omega arith)
+    let here = first-here (isLf f) _ (at .loop .i) (c .before .before .loop-test .taken) (eq-eqb _ 10 (c .if1 .taken)) in
+    (sym (at .loop .inv .2 ∙ here), at .loop .inv .0, omega arith)
 
 add-i-2 : tie.Need-add-i-2 Inv-loop μ-loop
 add-i-2 c = omega arith
@@ -39,13 +41,14 @@ loop-again : tie.Need-loop-again Inv-loop μ-loop
 loop-again c =
     let at = c .before .before .before in
     let f = at .before .args .file .now in
-    (omega arith, omega arith, at .loop .inv .2 ∙ lf-next f (at .loop .i) (c .before .before .loop-test .taken) (c .if1 .left))
+    let next = first-next (isLf f) _ (at .loop .i) (c .before .before .loop-test .taken) (ne-eqb _ 10 (c .if1 .left)) in
+    (omega arith, omega arith, at .loop .inv .2 ∙ next)
 
 returns-2 : tie.Need-returns-2 Inv-loop μ-loop
 returns-2 c =
     let at = c .before in
     let f = at .before .args .file .now in
-    (sym (at .loop .inv .2 ∙ lf-none f (at .loop .i) (c .loop-test .left)), at .loop .inv .0, at .loop .inv .1)
+    (sym (at .loop .inv .2 ∙ first-none (isLf f) _ (at .loop .i) (c .loop-test .left)), at .loop .inv .0, at .loop .inv .1)
 
 pub line-end-spec : {M : Type 1} → statement M
 line-end-spec =

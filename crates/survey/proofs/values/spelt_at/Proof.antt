@@ -13,11 +13,11 @@ use Rattle.survey.proofs.values.spelt_at.Statement.{statement}
 use Rattle.survey.proofs.values.spelt_at.Tie as tie
 
 abbrev Inv-loop : tie.InvT-loop
-Inv-loop s from len v₀ j₀ v j =
-    (j ≤ len) × (v < 256 ^ j) × (spelt 0 (take len (drop from s)) ≡ spelt v (take (len - j) (drop (from + j) s)))
+Inv-loop input from len v₀ j₀ v j =
+    (j ≤ len) × (v < 256 ^ j) × (spelt 0 (take len (drop from input)) ≡ spelt v (take (len - j) (drop (from + j) input)))
 
 abbrev μ-loop : tie.MeasureT-loop
-μ-loop s from len v₀ j₀ v j = len - j
+μ-loop input from len v₀ j₀ v j = len - j
 
 loop-holds : tie.Need-loop-holds Inv-loop μ-loop
 loop-holds c =
@@ -58,14 +58,14 @@ loop-again c =
     let small-digit : c .digit .result < 256 = omega (arith, c .digit .ensures, c .before .shared-slice-known2 .given (args .from + j)) in (
       omega arith,
       grows v (c .digit .result) j (turn .loop .inv .1) small-digit,
-      turn .loop .inv .2 ∙ spelt-turn (now (args .s)) (args .from) (args .len) v j (omega arith) (omega arith) (c .digit .result) (c .digit .ensures),
+      turn .loop .inv .2 ∙ spelt-turn (now (args .input)) (args .from) (args .len) v j (omega arith) (omega arith) (c .digit .result) (c .digit .ensures),
     )
 
 returns : tie.Need-returns Inv-loop μ-loop
 returns c =
     let args = c .before .before .before .args in
     let end = c .before .loop in
-    sym (end .inv .2 ∙ spelt-done (now (args .s)) (args .from) (args .len) (end .v) (end .j) (c .loop-test .left))
+    sym (end .inv .2 ∙ spelt-done (now (args .input)) (args .from) (args .len) (end .v) (end .j) (c .loop-test .left))
 
 pub spelt-at-spec : {M : Type 1} → statement M
 spelt-at-spec =

@@ -10,10 +10,10 @@ use Rattle.survey.proofs.values.starts.Statement.{statement}
 use Rattle.survey.proofs.values.starts.Tie as tie
 
 abbrev Inv-loop : tie.InvT-loop
-Inv-loop s at text i₀ j₀ i j = startsWith text (drop at s) ≡ startsWith (drop j text) (drop i s)
+Inv-loop input at text i₀ j₀ i j = startsWith text (drop at input) ≡ startsWith (drop j text) (drop i input)
 
 abbrev μ-loop : tie.MeasureT-loop
-μ-loop s at text i₀ j₀ i j = length text - j
+μ-loop input at text i₀ j₀ i j = length text - j
 
 loop-holds : tie.Need-loop-holds Inv-loop μ-loop
 loop-holds c = refl
@@ -22,7 +22,7 @@ returns : tie.Need-returns Inv-loop μ-loop
 returns c =
     let turn = c .before .before in
     let args = turn .before .args in
-    sym (turn .loop .inv ∙ start-short (now (args .text)) (now (args .s)) (turn .loop .j) (turn .loop .i) (c .before .loop-test .taken) (c .if1 .taken))
+    sym (turn .loop .inv ∙ start-short (now (args .text)) (now (args .input)) (turn .loop .j) (turn .loop .i) (c .before .loop-test .taken) (c .if1 .taken))
 
 shared-slice-read-if2 : tie.Need-shared-slice-read-if2 Inv-loop μ-loop
 shared-slice-read-if2 c = omega arith
@@ -35,8 +35,8 @@ returns-2 c =
     let inside = c .before .before .before in
     let turn = inside .before .before in
     let args = turn .before .args in
-    sym (turn .loop .inv
-    ∙ start-differs (now (args .text)) (now (args .s)) (turn .loop .j) (turn .loop .i) (inside .before .loop-test .taken) (inside .if1 .left) (c .if2 .taken))
+    let in-text = inside .before .loop-test .taken in
+    sym (turn .loop .inv ∙ start-differs (now (args .text)) (now (args .input)) (turn .loop .j) (turn .loop .i) in-text (inside .if1 .left) (c .if2 .taken))
 
 add-i : tie.Need-add-i Inv-loop μ-loop
 add-i c = omega arith
@@ -53,12 +53,12 @@ loop-again c =
     let turn = inside .before .before in
     let args = turn .before .args in
     turn .loop .inv
-    ∙ start-same (now (args .text)) (now (args .s)) (turn .loop .j) (turn .loop .i) (inside .before .loop-test .taken) (inside .if1 .left) (c .if2 .left)
+    ∙ start-same (now (args .text)) (now (args .input)) (turn .loop .j) (turn .loop .i) (inside .before .loop-test .taken) (inside .if1 .left) (c .if2 .left)
 
 returns-3 : tie.Need-returns-3 Inv-loop μ-loop
 returns-3 c =
     let args = c .before .before .args in
-    sym (c .before .loop .inv ∙ start-done (now (args .text)) (now (args .s)) (c .before .loop .j) (c .before .loop .i) (c .loop-test .left))
+    sym (c .before .loop .inv ∙ start-done (now (args .text)) (now (args .input)) (c .before .loop .j) (c .before .loop .i) (c .loop-test .left))
 
 pub starts-spec : {M : Type 1} → statement M
 starts-spec =

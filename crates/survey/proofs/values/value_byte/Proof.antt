@@ -6,7 +6,7 @@ use native.Mathlib.Omega.{arith}
 use borrow.Author.Needs.{needs}
 use Rattle.survey.specs.declared.Name.the-variants.{Letters, K, Mirror}
 use Rattle.survey.specs.Grammar.{LetterByte}
-use Rattle.survey.proofs.ByteLaws.{byte-passes, byte-fails}
+use Rattle.survey.proofs.ByteLaws.{letter-above, byte-passes, byte-fails}
 use Rattle.survey.proofs.values.value_byte.Statement.{statement}
 use Rattle.survey.proofs.values.value_byte.Tie as tie
 
@@ -19,12 +19,9 @@ blank b (inl e) h = h .1 .1 .1 .1 .0 e
 blank b (inr (inl e)) h = h .1 .1 .1 .0 e
 blank b (inr (inr e)) h = h .1 .1 .0 e
 
--- The bytes below the brackets but these, and those above the brackets, are letters.
+-- The bytes below the brackets but these are letters.
 below : (b : ℕ) → b < 40 → (Blank b → ⊥) → LetterByte b
 below b h other = (λ e. omega arith, (λ e. omega arith, (λ e. other (inr (inr e)), (λ e. other (inr (inl e)), (λ e. other (inl e), tt)))))
-
-above : (b : ℕ) → 41 < b → LetterByte b
-above b h = (λ e. omega arith, (λ e. omega arith, (λ e. omega arith, (λ e. omega arith, (λ e. omega arith, tt)))))
 
 enum-told : tie.Need-enum-told
 enum-told c = search needs
@@ -43,7 +40,7 @@ returns c =
 returns-2 : tie.Need-returns-2
 returns-2 c =
     let b = c .before .before .before .before .before .args .b in
-    rw (c .before .before .before .enum-told .given .1) (sym (byte-passes Letters b (above b (c .if2 .left))))
+    rw (c .before .before .before .enum-told .given .1) (sym (byte-passes Letters b (letter-above b (c .if2 .left))))
 
 returns-3 : tie.Need-returns-3
 returns-3 c =

@@ -12,10 +12,10 @@ use Rattle.survey.proofs.values.value_end.Statement.{statement}
 use Rattle.survey.proofs.values.value_end.Tie as tie
 
 abbrev Inv-loop : tie.InvT-loop
-Inv-loop s name from i₀ i = from + stretch (valueByte name) (drop from s) ≡ i + stretch (valueByte name) (drop i s)
+Inv-loop input name from i₀ i = from + stretch (valueByte name) (drop from input) ≡ i + stretch (valueByte name) (drop i input)
 
 abbrev μ-loop : tie.MeasureT-loop
-μ-loop s name from i₀ i = length s - i
+μ-loop input name from i₀ i = length input - i
 
 loop-holds : tie.Need-loop-holds Inv-loop μ-loop
 loop-holds c = refl
@@ -32,7 +32,7 @@ returns c =
     let turn = test .before in
     let args = turn .before .before .args in
     let differs = sym (c .before .value-byte .ensures) ∙ not-true (c .before .value-byte .result) (c .if1 .taken) in
-    omega (arith, turn .loop .inv, stretch-stop (valueByte (args .name)) (now (args .s)) (turn .loop .i) (test .loop-test .taken) differs)
+    omega (arith, turn .loop .inv, stretch-stop (valueByte (args .name)) (now (args .input)) (turn .loop .i) (test .loop-test .taken) differs)
 
 add-i : tie.Need-add-i Inv-loop μ-loop
 add-i c = omega arith
@@ -46,13 +46,13 @@ loop-again c =
     let turn = test .before in
     let args = turn .before .before .args in
     let passes = sym (c .before .value-byte .ensures) ∙ not-false (c .before .value-byte .result) (c .if1 .left) in
-    omega (arith, turn .loop .inv, stretch-go (valueByte (args .name)) (now (args .s)) (turn .loop .i) (test .loop-test .taken) passes)
+    omega (arith, turn .loop .inv, stretch-go (valueByte (args .name)) (now (args .input)) (turn .loop .i) (test .loop-test .taken) passes)
 
 returns-2 : tie.Need-returns-2 Inv-loop μ-loop
 returns-2 c =
     let turn = c .before in
     let args = turn .before .before .args in
-    omega (arith, turn .loop .inv, stretch-end (valueByte (args .name)) (now (args .s)) (turn .loop .i) (c .loop-test .left))
+    omega (arith, turn .loop .inv, stretch-end (valueByte (args .name)) (now (args .input)) (turn .loop .i) (c .loop-test .left))
 
 pub value-end-spec : {M : Type 1} → statement M
 value-end-spec =

@@ -1,12 +1,12 @@
--- `program::put_survey` meets its contract.
+-- `program::put_output` meets its contract: the check's answer says which text is due: a refusal's (`settings-text`), or what `put_counted` puts.
 use borrow.Author.Needs.{needs}
 use mathlib.Core.Path.{sym, ap, _∙_}
 use denote.Ref.{now}
 use Rattle.settings.specs.Settings.{ofChecked}
 use Rattle.settings.proofs.Outcomes.{passed}
 use Rattle.program.proofs.Outputs.{settings-text}
-use Rattle.program.proofs.put_survey.Statement.{statement}
-use Rattle.program.proofs.put_survey.Tie as tie
+use Rattle.program.proofs.put_output.Statement.{statement}
+use Rattle.program.proofs.put_output.Tie as tie
 
 check-requires : tie.Need-check-requires
 check-requires c κs = search needs
@@ -43,8 +43,8 @@ same-length-2 c = search needs
 returns-2 : tie.Need-returns-2
 returns-2 c = search needs
 
-pub put-survey-spec : {M : Type 1} → statement M
-put-survey-spec =
+pub put-output-spec : {M : Type 1} → statement M
+put-output-spec =
     tie.close
     (tie.spec
     check-requires
