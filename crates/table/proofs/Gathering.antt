@@ -60,6 +60,12 @@ put array n x (suc (suc l)) h g = absurd (omega arith)
 
 -- ---- the loop
 
+-- The byte of the file at a place was read in a mode: what it does to the run, and the mode after it.
+pub record ByteRead (table file : List ℕ) (at : ℕ) (mode : Mode) (mark : Mark) (mode′ : Mode) : Type 0 where
+  pub more : at < length file
+  pub mark-is : mark ≡ markOf (rankByTable table) (item mode (getD file at 0) (lfNext (drop (at + 1) file)))
+  pub mode-is : mode′ ≡ next mode (getD file at 0)
+
 pub record Gathering (table r file : List ℕ) (start : Mode) (from letters : ℕ) (array : List ℕ) (at : ℕ) (mode : Mode) (n : ℕ) : Type 0 where
   pub begun : from ≤ at
   pub untouched : at ≡ from → n ≡ letters
@@ -106,20 +112,19 @@ module _ {table r file : List ℕ} {start : Mode} {from letters : ℕ} {array : 
         whole = λ e. absurd (let z : _≡_ {A = ℕ} 0 1 = cc in omega arith);
       }
 
-  module _ (more : at < length file) (it : Item) (it-is : it ≡ item mode (getD file at 0) (lfNext (drop (at + 1) file))) (mark : Mark)
-      (mark-is : mark ≡ markOf (rankByTable table) it) (mode′ : Mode) (mode-is : mode′ ≡ next mode (getD file at 0)) where
+  module _ {mark : Mark} {mode′ : Mode} (R : ByteRead table file at mode mark mode′) where
     after : (k : ℕ) → cutFrom (rankByTable table) k r file start from
         ≡ cond (mark .ends) (windows k (take n array) ++ cutFrom (rankByTable table) k [] file mode′ (at + 1))
         (cutFrom (rankByTable table) k (take n array ++ take (mark .letters) (mark .rank ∷ [])) file mode′ (at + 1))
     after k =
         G .left k
-        ∙ ap (λ (is : List Item). cut k (take n array) (marks (rankByTable table) is)) (items-step file at mode more)
+        ∙ ap (λ (is : List Item). cut k (take n array) (marks (rankByTable table) is)) (items-step file at mode (R .more))
         ∙ cut-item (rankByTable table) k (take n array) (item mode (getD file at 0) (lfNext (drop (at + 1) file)))
         (itemsFrom (next mode (getD file at 0)) (drop (at + 1) file))
-        ∙ rw (mark-is, it-is, mode-is)
+        ∙ rw (R .mark-is, R .mode-is)
 
     pub adds-one : mark .letters ≤ 1
-    adds-one = rw mark-is (one-letter (rankByTable table) it)
+    adds-one = rw (R .mark-is) (one-letter (rankByTable table) (item mode (getD file at 0) (lfNext (drop (at + 1) file))))
 
     -- The run ended.
     pub gathered-run : mark .ends ≡ true
@@ -135,7 +140,7 @@ module _ {table r file : List ℕ} {start : Mode} {from letters : ℕ} {array : 
         }
 
     new-rank : getD file at 0 < 256 → (s : ℕ) → RanksBelow s table → Ranks s (take (mark .letters) (mark .rank ∷ []))
-    new-rank byte s T = rw (mark-is, it-is) (item-rank T (getD file at 0) byte mode (lfNext (drop (at + 1) file)))
+    new-rank byte s T = rw (R .mark-is) (item-rank T (getD file at 0) byte mode (lfNext (drop (at + 1) file)))
 
     -- One byte more.
     pub gathers-on : getD file at 0 < 256 → n < length array → mark .ends ≡ false

@@ -3,7 +3,7 @@
 use Prim.Native.Nat.{_-_}
 use native.Mathlib.Omega.{arith}
 use borrow.Author.Needs.{needs}
-use mathlib.Core.Path.{sym, _∙_}
+use mathlib.Core.Path.{_≡_, sym, _∙_}
 use lib.ListN.{length}
 use lib.Seq.{length-take-le}
 use Rattle.table.proofs.BatchLaws.{Counting, short-words, counting-none, counting-all, long-enough, few-letters, batch-ranks, batch-room, counts-batch}
@@ -15,6 +15,10 @@ Inv-loop counts₀ file table c powers array₀ at₀ mode₀ n₀ counts array 
 
 abbrev μ-loop : tie.MeasureT-loop
 μ-loop counts₀ file table c powers array₀ at₀ mode₀ n₀ counts array at mode n = length file - at
+
+-- The array is as long after a batch was gathered as before.
+array-kept : (c : tie.After-gather Inv-loop μ-loop) → length (c .gather .last .1 .1 .1 .1 .1 .0) ≡ length (c .before .before .before .loop .array)
+array-kept c = c .gather .kept .1 .1 .1 .1 .1 .0
 
 no-ranks-requires : tie.Need-no-ranks-requires Inv-loop μ-loop
 no-ranks-requires c κs = search needs
@@ -45,14 +49,14 @@ count-batch-requires c κs =
     let pre = loop .before .before .before .before .pre in
     let K = loop .loop .inv in
     let G = gather .gather .ensures in
-    let kept = gather .gather .kept .1 .1 .1 .1 .1 .0 in
+    let kept = array-kept gather in
     let ranks = batch-ranks (pre .0) K G kept (pre .1 .0) in
     (pre .0, (ranks, (few-letters (pre .0) K G kept, (K .same-length ∙ pre .1 .1 .0, batch-room (pre .0) K G kept))))
 
 slice-aggregate-carry : tie.Need-slice-aggregate-carry Inv-loop μ-loop
 slice-aggregate-carry c =
     let gather = c .before .before .before .before .before .before .before in
-    sym (gather .gather .kept .1 .1 .1 .1 .1 .0 ∙ gather .before .before .before .loop .inv .size)
+    sym (array-kept gather ∙ gather .before .before .before .loop .inv .size)
 
 carry-requires : tie.Need-carry-requires Inv-loop μ-loop
 carry-requires c κs =
@@ -60,7 +64,7 @@ carry-requires c κs =
     let loop = gather .before .before .before in
     let pre = loop .before .before .before .before .pre in
     let G = gather .gather .ensures in
-    ((pre .0 .some, G .fits), long-enough (pre .0) (loop .loop .inv) G (gather .gather .kept .1 .1 .1 .1 .1 .0))
+    ((pre .0 .some, G .fits), long-enough (pre .0) (loop .loop .inv) G (array-kept gather))
 
 loop-less : tie.Need-loop-less Inv-loop μ-loop
 loop-less c =
@@ -74,7 +78,7 @@ loop-again c =
     let gather = batch .before .before .before .before in
     let loop = gather .before .before .before in
     let pre = loop .before .before .before .before .pre in
-    counts-batch (pre .0) (loop .loop .inv) (gather .gather .ensures) (gather .gather .kept .1 .1 .1 .1 .1 .0) (pre .1 .0)
+    counts-batch (pre .0) (loop .loop .inv) (gather .gather .ensures) (array-kept gather) (pre .1 .0)
     (batch .count-batch .ensures) (carry .carry .ensures) (carry .carry .kept .0)
 
 same-length : tie.Need-same-length Inv-loop μ-loop

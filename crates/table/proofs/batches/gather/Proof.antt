@@ -1,11 +1,14 @@
 -- `table::batches::gather` meets its contract. The invariant, `Gathering`: the windows to come are those of the letters in the array and
 -- of what is left of the file.
-use Rattle.table.proofs.Gathering.{Gathering, gathering-none, gathered-full, gathered-all, gathered-run, gathers-on, adds-one}
+use Rattle.table.proofs.Gathering.{Gathering, ByteRead, gathering-none, gathered-full, gathered-all, gathered-run, gathers-on, adds-one}
 use native.Mathlib.Omega.{arith}
 use borrow.Author.Needs.{needs}
-use mathlib.Core.Path.{_≡_, refl}
+use mathlib.Core.Path.{_≡_, refl, ap, _∙_}
 use Prim.Native.Nat.{_-_}
 use lib.ListN.{length, take, length-set}
+use denote.Ref.{now}
+use Rattle.settings.specs.RankTables.{rankByTable}
+use Rattle.table.specs.Needs.{markOf}
 use Rattle.table.proofs.batches.gather.Statement.{statement}
 use Rattle.table.proofs.batches.gather.Tie as tie
 
@@ -15,6 +18,23 @@ Inv-loop file table from letters array₀ at₀ mode₀ n₀ array at mode n =
 
 abbrev μ-loop : tie.MeasureT-loop
 μ-loop file table from letters array₀ at₀ mode₀ n₀ array at mode n = length file - at
+
+-- The byte of a turn.
+byte-read : (c : tie.After-next-mode Inv-loop μ-loop)
+    → let mark = c .before .before in
+    let loop = mark .before .before .before .before in
+    let start = loop .before .before .before in
+    ByteRead (now (start .args .table)) (now (start .args .file)) (loop .loop .at) (loop .loop .mode) (mark .mark-of .result) (c .next-mode .result)
+byte-read c =
+    let mark = c .before .before in
+    let item = mark .before in
+    let test = item .before .before in
+    let start = test .before .before .before .before in
+    record {
+      more = test .loop-test .taken;
+      mark-is = mark .mark-of .ensures ∙ ap (markOf (rankByTable (now (start .args .table)))) (item .item-at .ensures);
+      mode-is = c .next-mode .ensures;
+    }
 
 loop-holds : tie.Need-loop-holds Inv-loop μ-loop
 loop-holds c = let pre = c .before .before .pre in (refl, gathering-none (pre .0) (pre .1))
@@ -58,12 +78,8 @@ returns-2 : tie.Need-returns-2 Inv-loop μ-loop
 returns-2 c =
     let ends = c .before in
     let next = ends .before in
-    let mark = next .before .before in
-    let item = mark .before in
-    let test = item .before .before in
-    rw (c .gathered-to2 .ensures)
-    (gathered-run (test .before .loop .inv .1) (test .loop-test .taken) _ (item .item-at .ensures) _ (mark .mark-of .ensures) _
-    (next .next-mode .ensures) (ends .if2 .taken))
+    let loop = next .before .before .before .before .before .before in
+    rw (c .gathered-to2 .ensures) (gathered-run (loop .loop .inv .1) (byte-read next) (ends .if2 .taken))
 
 slice-write-array : tie.Need-slice-write-array Inv-loop μ-loop
 slice-write-array c =
@@ -73,17 +89,8 @@ slice-write-array c =
 add-n : tie.Need-add-n Inv-loop μ-loop
 add-n c =
     let next = c .before .before in
-    let mark = next .before .before in
-    let item = mark .before in
-    let test = item .before .before in
-    let loop = test .before in
-    omega (
-      arith,
-      adds-one (loop .loop .inv .1) (test .loop-test .taken) _ (item .item-at .ensures) _ (mark .mark-of .ensures) _ (next .next-mode .ensures),
-      loop .loop .inv .1 .fits,
-      loop .loop .inv .0,
-      loop .before .before .before .good,
-    )
+    let loop = next .before .before .before .before .before .before in
+    omega (arith, adds-one (loop .loop .inv .1) (byte-read next), loop .loop .inv .1 .fits, loop .loop .inv .0, loop .before .before .before .good)
 
 loop-less : tie.Need-loop-less Inv-loop μ-loop
 loop-less c = omega arith
@@ -93,14 +100,11 @@ loop-again c =
     let if2 = c .before in
     let next = if2 .before in
     let known = next .before in
-    let mark = known .before in
-    let item = mark .before in
-    let if1 = item .before in
-    let test = if1 .before in
-    let loop = test .before in (
+    let if1 = known .before .before .before in
+    let loop = if1 .before .before in (
       simp length-set (loop .loop .inv .0),
-      gathers-on (loop .loop .inv .1) (test .loop-test .taken) _ (item .item-at .ensures) _ (mark .mark-of .ensures) _ (next .next-mode .ensures)
-          (omega (arith, known .shared-slice-known2 .given (loop .loop .at))) (omega (arith, loop .loop .inv .1 .fits, if1 .if1 .left)) (if2 .if2 .left),
+      gathers-on (loop .loop .inv .1) (byte-read next) (omega (arith, known .shared-slice-known2 .given (loop .loop .at)))
+          (omega (arith, loop .loop .inv .1 .fits, if1 .if1 .left)) (if2 .if2 .left),
     )
 
 gathered-to-requires-3 : tie.Need-gathered-to-requires-3 Inv-loop μ-loop
