@@ -21,8 +21,7 @@ rank-table-requires c κs = good-settings _ _ _ (ready-settings _ _ _ _ _ (start
 scan-file-requires : tie.Need-scan-file-requires
 scan-file-requires c κs =
     let ready = start (c .before .before) .pre .0 in
-    let some-k = good-settings _ _ _ (ready-settings _ _ _ _ _ ready) .some-k in
-    (ready-file _ _ _ _ _ ready, omega arith)
+    (ready-file _ _ _ _ _ ready, good-settings _ _ _ (ready-settings _ _ _ _ _ ready) .some-k)
 
 enum-known-f : tie.Need-enum-known-f
 enum-known-f c = search needs
