@@ -1,6 +1,5 @@
 -- `table::add_checked` meets its contract: a fault that the scan found refuses the file, and else what the scanned file gives.
 use mathlib.Core.Path.{sym, ap, _∙_}
-use native.Mathlib.Omega.{arith}
 use Rattle.settings.proofs.SettingsGrounds.{good-settings}
 use denote.Ref.{now}
 use Rattle.fasta.specs.declared.Numbers.{Numbers}
