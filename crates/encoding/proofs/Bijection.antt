@@ -3,20 +3,20 @@
 use mathlib.Core.Path.{_≡_, refl, sym, ap, _∙_, subst}
 use mathlib.Core.List.{List, [], _∷_, _++_}
 use Prim.Native.Nat.{ℕ, zero, suc, _+_, _-_, _*_, _/_, _%_, _^_, _<_, _≤_}
-use native.Mathlib.Nat.{pow-zero, pow-suc, div-add-mod', div-add-mod, mod-lt, div-lt-iff-lt-mul, mul-le-mul-left, mul-le-mul-right, mul-comm}
+use native.Mathlib.Nat.{pow-zero, div-add-mod', div-add-mod, mod-lt, div-lt-iff-lt-mul, mul-comm}
 use native.Mathlib.Decide.{ℕ-discrete, decLt}
 use native.Mathlib.Omega.{arith}
 use borrow.Author.Tests.{le-leb, lt-leb}
-use lib.Arith.{digits-div, digits-mod}
+use lib.Arith.{digits-div, digits-mod, digits-lt}
 use lib.ListN.{length}
 use Rattle.settings.specs.Settings.{halfUp, isOdd, classes}
 use Rattle.settings.specs.Limits.{EvenUnder}
-use Rattle.laws.proofs.Powers.{pairCount, pow-pos}
+use Rattle.laws.proofs.Powers.{pairCount, pow-pos, pow-one}
 use Rattle.encoding.specs.Words.{Mirror, Reversal, Complement, Ranks, mirrorRank, plain}
 use Rattle.encoding.specs.Codes.{pairRank}
 use Rattle.encoding.specs.WordsOfCodes.{wordOfPlain, pairOfRank, middleOfCode, wordOf}
 use Rattle.encoding.proofs.ClassNumbers.{classes-suc}
-use Rattle.encoding.proofs.Ends.{ends, length-ends, Ranks-append}
+use Rattle.encoding.proofs.Ends.{ends, length-ends, Ranks-ends}
 use Rattle.encoding.proofs.Canonical.{IsCanonical, mirrorRank-lt, mirrorRank-twice, first-lt, last-lt, inner-ranks, inner-lt, canonical-first, canonical-inner, differ-canonical, same-canonical, canonical-one, one-canonical, nil-canonical}
 use Rattle.encoding.proofs.Recursion.{codeRec, codeRec-same, codeRec-differ}
 use Rattle.encoding.proofs.Pairs.{below-pairs, pair-of-rank, rank-of-pair}
@@ -39,12 +39,6 @@ word-high s m n q =
 
 -- ---- numbers
 
-same-lt : (s c r k : ℕ) → c < k → r < s → s * c + r < s * k
-same-lt s c r k h g = omega (arith, mul-le-mul-left s h)
-
-differ-lt : (R t p x : ℕ) → R < t → x < p → R * p + x < t * p
-differ-lt R t p x h g = omega (arith, mul-le-mul-right p h)
-
 div-low : (s c r : ℕ) → r < s → (s * c + r) / s ≡ c
 div-low s c r h = rw (mul-comm s c) (digits-div c h)
 
@@ -60,8 +54,8 @@ classes-zero s Complement = rw (pow-zero s)
 
 middle-lt : (s : ℕ) (m : Mirror) → EvenUnder s m → (a : ℕ) → a < s → a ≤ mirrorRank s m a → middleOfCode s m a < classes s m 1
 unfolding classes isOdd halfUp middleOfCode mirrorRank
-middle-lt s Reversal he a h g = omega (arith, pow-suc s 0, ap (λ (x : ℕ). x * s) (pow-zero s))
-middle-lt s Complement he a h g = omega (arith, pow-suc s 0, ap (λ (x : ℕ). x * s) (pow-zero s))
+middle-lt s Reversal he a h g = omega (arith, pow-one s)
+middle-lt s Complement he a h g = omega (arith, pow-one s)
 
 middle-middle : (s : ℕ) (m : Mirror) → EvenUnder s m → (a : ℕ) → a < s → a ≤ mirrorRank s m a → middleOfCode s m (middleOfCode s m a) ≡ a
 unfolding middleOfCode mirrorRank
@@ -71,8 +65,8 @@ middle-middle s Complement he a h g = omega arith
 middle-of : (s : ℕ) (m : Mirror) → 1 < s → EvenUnder s m → (q : ℕ) → q < classes s m 1
     → (middleOfCode s m q < s) × (middleOfCode s m q ≤ mirrorRank s m (middleOfCode s m q)) × (middleOfCode s m (middleOfCode s m q) ≡ q)
 unfolding classes isOdd halfUp middleOfCode mirrorRank
-middle-of s Reversal hs he q h = omega (arith, pow-suc s 0, ap (λ (x : ℕ). x * s) (pow-zero s))
-middle-of s Complement hs he q h = omega (arith, pow-suc s 0, ap (λ (x : ℕ). x * s) (pow-zero s))
+middle-of s Reversal hs he q h = omega (arith, pow-one s)
+middle-of s Complement hs he q h = omega (arith, pow-one s)
 
 -- ---- from the word to the code and back
 
@@ -86,7 +80,7 @@ module _ (s : ℕ) (m : Mirror) (hs : 1 < s) (he : EvenUnder s m) where
       let c : ℕ = codeRec s m n u in
       let r : ℕ = mirrorRank s m b in
       let hr : r < s = mirrorRank-lt s m b hb in
-      let lt : s * c + r < s * classes s m n = same-lt s c r (classes s m n) (ih .below) hr in
+      let lt : s * c + r < s * classes s m n = omega (arith, digits-lt (ih .below) hr) in
       record {
         below = rw (codeRec-same s m n a b u l e, classes-suc s m n he) (omega arith);
         back =
@@ -109,7 +103,7 @@ module _ (s : ℕ) (m : Mirror) (hs : 1 < s) (he : EvenUnder s m) where
       let e : codeRec s m (suc (suc n)) (a ∷ (u ++ (b ∷ []))) ≡ s * classes s m n + (pairRank s a (mirrorRank s m b) * s ^ n + plain s u)
       = codeRec-differ s m n a b u l (omega arith) ∙ (omega arith) in
       record {
-        below = rw (e, classes-suc s m n he) (omega (arith, differ-lt (pairRank s a r) (pairCount s) (s ^ n) (plain s u) (below-pairs s a r lt hr) pu));
+        below = rw (e, classes-suc s m n he) (omega (arith, digits-lt (below-pairs s a r lt hr) pu));
         back =
             rw (
               e,
@@ -157,14 +151,11 @@ pub record Worded (s : ℕ) (m : Mirror) (n q : ℕ) (w : List ℕ) : Type 0 whe
   pub back : codeRec s m n w ≡ q
 
 module _ (s : ℕ) (m : Mirror) (hs : 1 < s) (he : EvenUnder s m) where
-  two-ranks : (a b : ℕ) (u : List ℕ) → a < s → b < s → Ranks s u → Ranks s (a ∷ (u ++ (b ∷ [])))
-  two-ranks a b u ha hb hu = (ha, Ranks-append s u (b ∷ []) hu (hb, tt))
-
   worded-same : (n c r : ℕ) (u : List ℕ) → r < s → Worded s m n c u → Worded s m (suc (suc n)) (s * c + r) (r ∷ (u ++ (mirrorRank s m r ∷ [])))
   worded-same n c r u hr g =
       let tr : mirrorRank s m r < s = mirrorRank-lt s m r hr in
       let e : r ≡ mirrorRank s m (mirrorRank s m r) = sym (mirrorRank-twice s m r hr) in
-      let hw : Ranks s (r ∷ (u ++ (mirrorRank s m r ∷ []))) = two-ranks r (mirrorRank s m r) u hr tr (g .ranks) in
+      let hw : Ranks s (r ∷ (u ++ (mirrorRank s m r ∷ []))) = Ranks-ends s r (mirrorRank s m r) u hr tr (g .ranks) in
       record {
         len = length-ends n r (mirrorRank s m r) u (g .len);
         ranks = hw;
@@ -179,7 +170,7 @@ module _ (s : ℕ) (m : Mirror) (hs : 1 < s) (he : EvenUnder s m) where
       let e : mirrorRank s m (mirrorRank s m r) ≡ r = mirrorRank-twice s m r hr in
       let lu : length (wordOfPlain s n x) ≡ n = length-wordOfPlain s n x in
       let hw : Ranks s (l ∷ (wordOfPlain s n x ++ (mirrorRank s m r ∷ [])))
-      = two-ranks l (mirrorRank s m r) (wordOfPlain s n x) (omega arith) tr (ranks-wordOfPlain s n x hs hx) in
+      = Ranks-ends s l (mirrorRank s m r) (wordOfPlain s n x) (omega arith) tr (ranks-wordOfPlain s n x hs hx) in
       record {
         len = length-ends n l (mirrorRank s m r) (wordOfPlain s n x) lu;
         ranks = hw;

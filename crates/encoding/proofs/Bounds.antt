@@ -8,7 +8,7 @@ use native.Mathlib.Omega.{arith}
 use borrow.Author.Tests.{eq-eqb, ne-eqb}
 use lib.Dec.{eqb}
 use lib.ListN.{length}
-use Rattle.laws.proofs.Powers.{pairCount, square}
+use Rattle.laws.proofs.Powers.{pairCount, square, pow-one}
 use Rattle.encoding.specs.Words.{Mirror, Ranks, mirrorRank, plain}
 use Rattle.encoding.specs.Codes.{digits, pairRank}
 use Rattle.encoding.proofs.Ends.{ends, endDigits, digits-ends, plain-one, plain-snoc}
@@ -56,7 +56,7 @@ module _ (s : ℕ) (m : Mirror) (hs : 1 < s) where
 
   low-one : (a : ℕ) → Low 1 (a ∷ [])
   unfolding digits
-  low-one a h g = omega (arith, plain-one s (mirrorRank s m a), mirrorRank-lt s m a (h .0), pow-suc s 0, ap (λ (x : ℕ). x * s) (pow-zero s))
+  low-one a h g = omega (arith, plain-one s (mirrorRank s m a), mirrorRank-lt s m a (h .0), pow-one s)
 
   pub value-lt : (n : ℕ) (w : List ℕ) → length w ≡ n → Ranks s w → IsCanonical s m w → plain s (digits s m n w) < s ^ n
   value-lt = ends Low low-zero low-one low-step

@@ -151,7 +151,7 @@ module _ (s : ℕ) (m : Mirror) (hs : 1 < s) (he : EvenUnder s m) where
             (inner-lt s m n a b u l h) (rest-lt s m n a b u l h) (mirror-rest-lt s m n a b u l h)))
       ])
 
-  pub ranked : (n : ℕ) (w : List ℕ) → length w ≡ n → Ranks s w → IsCanonical s m w
+  ranked : (n : ℕ) (w : List ℕ) → length w ≡ n → Ranks s w → IsCanonical s m w
       → codeRec s m n w ≡ byRanks s m n (equalPairs s m n w) (plain s w) (plain s (mirror s m w))
   ranked = ends Ranked ranked-zero ranked-one ranked-step
 

@@ -1,14 +1,15 @@
 -- The mirror and the canonical word by their ends: the mirror of a word is a word, a word is its mirror's mirror, and a word is canonical
 -- when its first letter is below the last one as the mirror shows it, or equal to it with a canonical word within.
-use mathlib.Core.Path.{_≡_, refl, ap, _∙_, subst}
+use mathlib.Core.Path.{_≡_, refl, ap, _∙_}
 use mathlib.Core.List.{List, [], _∷_, _++_}
 use Prim.Native.Nat.{ℕ, suc, _+_, _*_, _^_, _<_, _≤_}
 use native.Mathlib.Nat.{pow-zero, pow-suc, mul-le-mul-right, le-of-mul-le-mul-right}
 use native.Mathlib.Decide.{decLe}
 use native.Mathlib.Omega.{arith}
+use lib.Arith.{digits-lt}
 use lib.ListN.{length}
 use Rattle.encoding.specs.Words.{Mirror, Reversal, Complement, Ranks, mirrorRank, mirror, plain}
-use Rattle.encoding.proofs.Ends.{ends, Ranks-left, Ranks-right, Ranks-append, plain-one, plain-ends, mirror-ends, length-mirror}
+use Rattle.encoding.proofs.Ends.{ends, Ranks-left, Ranks-right, Ranks-ends, plain-one, plain-ends, mirror-ends, length-mirror}
 
 -- A word that is not above its mirror.
 abbrev pub IsCanonical : ℕ → Mirror → List ℕ → Type 0
@@ -29,6 +30,10 @@ unfolding plain
 plain-lt s [] h = omega (arith, pow-zero s)
 plain-lt s (a ∷ w) h = omega (arith, plain-lt s w (h .1), pow-suc s (length w), mul-le-mul-right (s ^ length w) (h .0))
 
+-- The same of a word of n letters.
+pub plain-below : (s n : ℕ) (w : List ℕ) → length w ≡ n → Ranks s w → plain s w < s ^ n
+plain-below s n w l h = rw l at (plain-lt s w h)
+
 -- The mirror of a word of ranks is one.
 pub Ranks-mirror : (s : ℕ) (m : Mirror) (n : ℕ) (w : List ℕ) → length w ≡ n → Ranks s w → Ranks s (mirror s m w)
 unfolding mirror
@@ -38,7 +43,7 @@ Ranks-mirror s m =
     let first = mirrorRank-lt s m a (h .0) in
     let last = mirrorRank-lt s m b (Ranks-right s u (b ∷ []) (h .1) .0) in
     let inner = ih (Ranks-left s u (b ∷ []) (h .1)) in
-    rw (mirror-ends s m a b u) (last, Ranks-append s (mirror s m u) (mirrorRank s m a ∷ []) inner (first, tt)))
+    rw (mirror-ends s m a b u) (Ranks-ends s (mirrorRank s m b) (mirrorRank s m a) (mirror s m u) last first inner))
 
 -- The mirror of the mirror is the word.
 pub mirror-mirror : (s : ℕ) (m : Mirror) (n : ℕ) (w : List ℕ) → length w ≡ n → Ranks s w → mirror s m (mirror s m w) ≡ w
@@ -56,9 +61,6 @@ mirror-mirror s m =
 first-digit : (s p a c x y b d : ℕ) → c < a → y * s + d < p → c * p + y * s + d < a * p + x * s + b
 first-digit s p a c x y b d h g = omega (arith, mul-le-mul-right p h)
 
-middle-lt : (s p x d : ℕ) → d < s → x < p → x * s + d < p * s
-middle-lt s p x d h g = omega (arith, mul-le-mul-right s g)
-
 module _ (s : ℕ) (m : Mirror) (n a b : ℕ) (u : List ℕ) (l : length u ≡ n) (h : Ranks s (a ∷ (u ++ (b ∷ [])))) where
   pub first-lt : a < s
   first-lt = h .0
@@ -73,18 +75,16 @@ module _ (s : ℕ) (m : Mirror) (n a b : ℕ) (u : List ℕ) (l : length u ≡ n
   mirror-plain-ends = rw (mirror-ends s m a b u) (plain-ends s n (mirrorRank s m b) (mirrorRank s m a) (mirror s m u) (length-mirror s m u ∙ l))
 
   pub inner-lt : plain s u < s ^ n
-  inner-lt = subst (λ (x : ℕ). plain s u < s ^ x) l (plain-lt s u inner-ranks)
+  inner-lt = plain-below s n u l inner-ranks
 
   pub inner-mirror-lt : plain s (mirror s m u) < s ^ n
-  inner-mirror-lt =
-      subst (λ (x : ℕ). plain s (mirror s m u) < s ^ x) (length-mirror s m u ∙ l)
-      (plain-lt s (mirror s m u) (Ranks-mirror s m n u l inner-ranks))
+  inner-mirror-lt = plain-below s n (mirror s m u) (length-mirror s m u ∙ l) (Ranks-mirror s m n u l inner-ranks)
 
   pub mirror-rest-lt : plain s (mirror s m u) * s + mirrorRank s m a < s ^ suc n
-  mirror-rest-lt = rw (pow-suc s n) (middle-lt s (s ^ n) (plain s (mirror s m u)) (mirrorRank s m a) (mirrorRank-lt s m a first-lt) inner-mirror-lt)
+  mirror-rest-lt = rw (pow-suc s n) (digits-lt inner-mirror-lt (mirrorRank-lt s m a first-lt))
 
   pub rest-lt : plain s u * s + b < s ^ suc n
-  rest-lt = rw (pow-suc s n) (middle-lt s (s ^ n) (plain s u) b last-lt inner-lt)
+  rest-lt = rw (pow-suc s n) (digits-lt inner-lt last-lt)
 
   -- in a canonical word the first letter is not above the last one's mirror
   pub canonical-first : IsCanonical s m (a ∷ (u ++ (b ∷ []))) → a ≤ mirrorRank s m b

@@ -3,7 +3,7 @@
 use mathlib.Core.Path.{_≡_, refl, ap, subst⁻¹}
 use mathlib.Core.Bool.{Bool, true, false, cond, false≢true}
 use Prim.Native.Nat.{ℕ, zero, suc, _+_, _-_, _*_, _/_, _%_, _^_, _<_, _≤_}
-use native.Mathlib.Nat.{pow-zero, pow-suc, pow-le-pow-right}
+use native.Mathlib.Nat.{pow-zero, pow-suc, pow-le-pow-right, div-eq-of-eq-mul-right}
 use native.Mathlib.Omega.{arith}
 use lib.Dec.{eqb}
 use borrow.Author.Tests.{eqb-false}
@@ -13,9 +13,6 @@ use Rattle.laws.proofs.Powers.{pairCount, square, parity, even-pow, gap}
 use Rattle.encoding.specs.Words.{Mirror, Reversal, Complement}
 use Rattle.encoding.specs.Codes.{shift, oddShift}
 use Rattle.encoding.specs.Needs.{palindromes}
-
-half-of : {a b : ℕ} → a ≡ 2 * b → a / 2 ≡ b
-half-of e = omega arith
 
 -- Halves of k, by recursion in steps of two.
 halfUp-suc : (n : ℕ) → halfUp (suc (suc n)) ≡ suc (halfUp n)
@@ -134,8 +131,9 @@ shift-first s m n h g =
 half-scaled : (s a b d : ℕ) → a ≡ b + 2 * d → (a * s - b * s) / 2 ≡ s * ((a - b) / 2)
 half-scaled s a b d e =
     let f : (a - b) / 2 ≡ d = omega arith in
-    let g : a * s ≡ b * s + 2 * (d * s) = omega (arith, ap (λ (x : ℕ). x * s) e) in
-    rw f (half-of (omega arith))
+    let two : 0 < 2 = omega arith in
+    let g : a * s - b * s ≡ 2 * (s * d) = omega (arith, ap (λ (x : ℕ). x * s) e) in
+    rw f (div-eq-of-eq-mul-right two g)
 
 shift-powers : (s a b : ℕ) → 1 < s → b ≤ a → (s ^ suc (suc a) - s ^ suc (suc b)) / 2 ≡ s * ((s ^ suc a - s ^ suc b) / 2)
 shift-powers s a b h g = rw (pow-suc s (suc a), pow-suc s (suc b)) (half-scaled s (s ^ suc a) (s ^ suc b) (gap s a b h g .0) (gap s a b h g .1))

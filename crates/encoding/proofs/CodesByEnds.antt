@@ -11,8 +11,8 @@ use Rattle.settings.specs.Limits.{EvenUnder}
 use Rattle.encoding.specs.Words.{Mirror, Reversal, Complement, Ranks, mirrorRank, mirror, plain}
 use Rattle.encoding.specs.Codes.{pairRank, code}
 use Rattle.encoding.specs.WordsOfCodes.{middleOfCode}
-use Rattle.encoding.proofs.Ends.{length-ends, mirror-ends, length-mirror, plain-one, Ranks-append}
-use Rattle.encoding.proofs.Canonical.{IsCanonical, mirrorRank-lt, mirrorRank-twice, Ranks-mirror, mirror-mirror, first-lt, last-lt, inner-ranks, differ-canonical, same-canonical}
+use Rattle.encoding.proofs.Ends.{length-ends, mirror-ends, length-mirror, Ranks-ends}
+use Rattle.encoding.proofs.Canonical.{IsCanonical, mirrorRank-lt, mirrorRank-twice, Ranks-mirror, mirror-mirror, first-lt, last-lt, inner-ranks, differ-canonical, same-canonical, nil-canonical, one-canonical}
 use Rattle.encoding.proofs.Recursion.{codeRec, code-is, codeRec-same, codeRec-differ}
 use Rattle.encoding.proofs.Codes.{canonical-low, code-mirror}
 
@@ -23,12 +23,12 @@ module _ (s : ℕ) (m : Mirror) (hs : 1 < s) (he : EvenUnder s m) where
   code-low n w l h g = rw (canonical-low s m w g) (code-is s m hs he n w l h g)
 
   pub code-none : code s m 0 [] ≡ 0
-  unfolding codeRec mirror plain
-  code-none = code-low 0 [] refl tt (omega arith)
+  unfolding codeRec
+  code-none = code-low 0 [] refl tt (nil-canonical s m)
 
   one-low : (a : ℕ) → a < s → a ≤ mirrorRank s m a → code s m 1 (a ∷ []) ≡ middleOfCode s m a
-  unfolding codeRec mirror
-  one-low a h g = code-low 1 (a ∷ []) refl (h, tt) (omega (arith, plain-one s a, plain-one s (mirrorRank s m a)))
+  unfolding codeRec
+  one-low a h g = code-low 1 (a ∷ []) refl (h, tt) (one-canonical s m a g)
 
   module _ (n a b : ℕ) (u : List ℕ) (l : length u ≡ n) (h : Ranks s (a ∷ (u ++ (b ∷ [])))) where
     -- Of a word read backwards.
@@ -37,7 +37,7 @@ module _ (s : ℕ) (m : Mirror) (hs : 1 < s) (he : EvenUnder s m) where
         let first = mirrorRank-lt s m a (first-lt s m n a b u l h) in
         let last = mirrorRank-lt s m b (last-lt s m n a b u l h) in
         let inner = Ranks-mirror s m n u l (inner-ranks s m n a b u l h) in
-        (last, Ranks-append s (mirror s m u) (mirrorRank s m a ∷ []) inner (first, tt))
+        Ranks-ends s (mirrorRank s m b) (mirrorRank s m a) (mirror s m u) last first inner
 
     turned-code : code s m (suc (suc n)) (mirrorRank s m b ∷ (mirror s m u ++ (mirrorRank s m a ∷ []))) ≡ code s m (suc (suc n)) (a ∷ (u ++ (b ∷ [])))
     turned-code =

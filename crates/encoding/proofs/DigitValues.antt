@@ -3,13 +3,14 @@ use mathlib.Core.Path.{_≡_, ap, subst, subst⁻¹, _∙_, sym, refl}
 use mathlib.Core.Bool.{cond}
 use mathlib.Core.List.{List, _∷_, _++_, []}
 use Prim.Native.Nat.{_-_, ℕ, _<_, _≤_, _*_, _/_, _+_, _%_, _^_, suc, min}
-use native.Mathlib.Nat.{mul-le-mul-right, div-add-mod', div-le-self, pow-suc, zero-add}
+use native.Mathlib.Nat.{mul-le-mul-right, div-add-mod', pow-suc, zero-add}
 use native.Mathlib.Omega.{arith}
 use borrow.Author.Tests.{eq-eqb, ne-eqb}
 use lib.Dec.{eqb}
-use lib.ListN.{length, take, drop, getD, length-drop}
-use lib.Seq.{length-take-le, take-all}
+use lib.ListN.{length, take, drop, getD}
+use lib.Seq.{take-all}
 use Rattle.laws.proofs.Powers.{pairCount, square}
+use Rattle.settings.proofs.Powers.{capped}
 use Rattle.encoding.specs.Codes.{pairRank, digits}
 use Rattle.encoding.specs.Needs.{FitDiffering, FitCanonical}
 use Rattle.encoding.specs.Words.{plain, Mirror, mirrorRank, Ranks}
@@ -17,8 +18,7 @@ use Rattle.encoding.proofs.Bounds.{value-differ-lt, value-lt}
 use Rattle.encoding.proofs.Canonical.{IsCanonical, canonical-inner, canonical-first, mirrorRank-lt}
 use Rattle.encoding.proofs.Ends.{plain-one}
 use Rattle.encoding.proofs.Pairs.{below-pairs}
-use Rattle.encoding.proofs.Shifts.{capped}
-use Rattle.encoding.proofs.WordParts.{inner-plain-lt, rank-at, span-ends, value-span, inner-of}
+use Rattle.encoding.proofs.WordParts.{inner-plain-lt, ranks-at, length-part, part-ends, value-part, inner-of}
 
 pub pair-small : (s l : ℕ) → l < s → s ≤ 16 → l * (2 * s - 3 - l) ≤ 512
 pair-small s l h g =
@@ -26,42 +26,38 @@ pair-small s l h g =
     let f : 2 * s - 3 - l ≤ 32 = omega arith in
     omega (arith, mul-le-mul-right (2 * s - 3 - l) e)
 
-module _ (s R : ℕ) (hs : 1 < s) (few : s ≤ 16) (hR : R < pairCount s) where
-  pub high-is : (R / s + 1) * s + R % s ≡ R + s
-  high-is = omega (arith, div-add-mod' R s)
+pub high-is : (s R : ℕ) → (R / s + 1) * s + R % s ≡ R + s
+high-is s R = omega (arith, div-add-mod' R s)
 
-  pub high-small : R + s ≤ 256
-  high-small = omega (arith, square s, mul-le-mul-right s few)
+pair-value-small : (s R : ℕ) → 1 < s → R < pairCount s → (n x : ℕ) → x < s ^ n → s ^ suc (suc n) ≤ 2 ^ 62 → (R + s) * s ^ n + x < 2 ^ 62
+pair-value-small s R hs hR n x hx g =
+    omega (arith, value-differ-lt s R (s ^ n) x hs hR hx, pow-suc s (suc n), ap (λ (y : ℕ). y * s) (pow-suc s n))
 
-  pub first-small : R / s ≤ R
-  first-small = div-le-self R s
-
-  pair-value-small : (n x : ℕ) → x < s ^ n → s ^ suc (suc n) ≤ 2 ^ 62 → (R + s) * s ^ n + x < 2 ^ 62
-  pair-value-small n x hx g =
-      omega (arith, value-differ-lt s R (s ^ n) x hs hR hx, pow-suc s (suc n), ap (λ (y : ℕ). y * s) (pow-suc s n))
-
--- What `differing_value` works out: it fits, and is the value.
-module _ (s : ℕ) (w : List ℕ) (l r : ℕ) (d : FitDiffering s w l r) (R p x : ℕ) (e : R ≡ pairRank s l r) (f : p ≡ min (s ^ (length w - 2)) 4611686018427387905)
-    (g : x ≡ plain s (take (length w - 1 - 1) (drop 1 w))) where
+-- What `differing_value` works out from the rank R of its pair: its two digits fit, and the value fits and is the one asked.
+module _ (s : ℕ) (w : List ℕ) (l r : ℕ) (d : FitDiffering s w l r) (R : ℕ) (e : R ≡ pairRank s l r) where
   low : R < pairCount s
   low = subst⁻¹ (λ (y : ℕ). y < pairCount s) e (below-pairs s l r (d .less) (d .rank))
 
-  p-is : p ≡ s ^ (length w - 2)
-  p-is = capped s (length w) (length w - 2) p (d .word .two) (omega arith) (d .word .small) f
+  pub high-small : R + s ≤ 256
+  high-small = omega (arith, low, square s, mul-le-mul-right s (d .few))
 
-  x-is : x ≡ plain s (take (length w - 2) (drop 1 w))
-  x-is = let h : length w - 1 - 1 ≡ length w - 2 = omega arith in g ∙ ap (λ (n : ℕ). plain s (take n (drop 1 w))) h
+  module _ (p x : ℕ) (f : p ≡ min (s ^ (length w - 2)) 4611686018427387905) (g : x ≡ plain s (take (length w - 1 - 1) (drop 1 w))) where
+    p-is : p ≡ s ^ (length w - 2)
+    p-is = capped s (length w) (length w - 2) p (d .word .two) (omega arith) (d .word .small) f
 
-  pub differing-is : ((R / s + 1) * s + R % s) * p + x ≡ (pairRank s l r + s) * s ^ (length w - 2) + plain s (take (length w - 2) (drop 1 w))
-  differing-is = rw (high-is s R (d .word .two) (d .few) low, p-is, x-is, e)
+    x-is : x ≡ plain s (take (length w - 2) (drop 1 w))
+    x-is = let h : length w - 1 - 1 ≡ length w - 2 = omega arith in g ∙ ap (λ (n : ℕ). plain s (take n (drop 1 w))) h
 
-  pub differing-small : ((R / s + 1) * s + R % s) * p + x < 2 ^ 62
-  differing-small =
-      let h : length w ≡ suc (suc (length w - 2)) = omega (arith, d .long) in
-      let small : s ^ suc (suc (length w - 2)) ≤ 2 ^ 62 = subst (λ (n : ℕ). s ^ n ≤ 2 ^ 62) h (d .word .small) in
-      let inner-small = inner-plain-lt s w (d .word .ranks) (length w - 2) (omega (arith, d .long)) in
-      rw (differing-is, ← e)
-      (pair-value-small s R (d .word .two) (d .few) low (length w - 2) (plain s (take (length w - 2) (drop 1 w))) inner-small small)
+    pub differing-is : ((R / s + 1) * s + R % s) * p + x ≡ (pairRank s l r + s) * s ^ (length w - 2) + plain s (take (length w - 2) (drop 1 w))
+    differing-is = rw (high-is s R, p-is, x-is, e)
+
+    pub differing-small : ((R / s + 1) * s + R % s) * p + x < 2 ^ 62
+    differing-small =
+        let h : length w ≡ suc (suc (length w - 2)) = omega (arith, d .long) in
+        let small : s ^ suc (suc (length w - 2)) ≤ 2 ^ 62 = subst (λ (n : ℕ). s ^ n ≤ 2 ^ 62) h (d .word .small) in
+        let inner-small = inner-plain-lt s w (d .word .ranks) (length w - 2) (omega (arith, d .long)) in
+        rw (differing-is, ← e)
+        (pair-value-small s R (d .word .two) low (length w - 2) (plain s (take (length w - 2) (drop 1 w))) inner-small small)
 
 -- ---- `digits_value`
 
@@ -74,11 +70,11 @@ unfolding digits
 digits-one s m w e = rw e (sym (plain-one s (mirrorRank s m (getD w 0 0))))
 
 pub last-lt : (s : ℕ) (w : List ℕ) → Ranks s w → (length w ≡ 0 → ⊥) → getD w (length w - 1) 0 < s
-last-lt s w h g = rank-at s w (length w - 1) h (omega arith)
+last-lt s w h g = ranks-at s w (length w - 1) h (omega arith)
 
 module _ (s : ℕ) (m : Mirror) (w : List ℕ) (c : FitCanonical s m w) (h0 : length w ≡ 0 → ⊥) (h1 : length w ≡ 1 → ⊥) where
   in-len : length (take (length w - 1 - 1) (drop 1 w)) ≡ length w - 1 - 1
-  in-len = length-take-le (length w - 1 - 1) (drop 1 w) (omega (arith, length-drop 1 w))
+  in-len = length-part 1 (length w - 1 - 1) w (omega arith)
 
   long : length w ≡ suc (suc (length w - 1 - 1))
   long = omega arith
@@ -93,7 +89,7 @@ module _ (s : ℕ) (m : Mirror) (w : List ℕ) (c : FitCanonical s m w) (h0 : le
   all = take-all (suc (suc (length w - 1 - 1))) w (omega arith)
 
   whole : w ≡ getD w 0 0 ∷ (take (length w - 1 - 1) (drop 1 w) ++ (getD w (length w - 1) 0 ∷ []))
-  whole = sym all ∙ (rw (zero-add (suc (length w - 1 - 1)), last-at) at (span-ends 0 (length w - 1 - 1) w (omega arith)))
+  whole = sym all ∙ (rw (zero-add (suc (length w - 1 - 1)), last-at) at (part-ends 0 (length w - 1 - 1) w (omega arith)))
 
   step : plain s (digits s m (length w) w)
       ≡ cond (eqb (getD w 0 0) (mirrorRank s m (getD w (length w - 1) 0)))
@@ -102,7 +98,7 @@ module _ (s : ℕ) (m : Mirror) (w : List ℕ) (c : FitCanonical s m w) (h0 : le
   step =
       ap (λ (n : ℕ). plain s (digits s m n w)) long
       ∙ ap (λ (l : List ℕ). plain s (digits s m (suc (suc (length w - 1 - 1))) l)) (sym all)
-      ∙ (rw (zero-add (suc (length w - 1 - 1)), last-at) at (value-span s m 0 (length w - 1 - 1) w (omega arith)))
+      ∙ (rw (zero-add (suc (length w - 1 - 1)), last-at) at (value-part s m 0 (length w - 1 - 1) w (omega arith)))
 
   whole-ranks : Ranks s (getD w 0 0 ∷ (take (length w - 1 - 1) (drop 1 w) ++ (getD w (length w - 1) 0 ∷ [])))
   whole-ranks = subst (Ranks s) whole (c .word .ranks)

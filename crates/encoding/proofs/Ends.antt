@@ -1,15 +1,15 @@
 -- A word from both ends: a ∷ (u ++ (b ∷ [])), where u is two letters shorter. The induction by it, and what each definition is at such a word,
--- so that no later proof meets take, drop or getD.
+-- so that the laws of codes do without take, drop and getD.
 use mathlib.Core.Path.{_≡_, sym, ap, _∙_, subst⁻¹}
 use mathlib.Core.Bool.{Bool, cond}
-use mathlib.Core.List.{List, [], _∷_, _++_, map, reverse, reverse-append, reverse-cons}
-use Prim.Native.Nat.{ℕ, zero, suc, _+_, _*_, _/_, _%_, _^_}
-use native.Mathlib.Nat.{pow-zero, pow-suc}
+use mathlib.Core.List.{List, [], _∷_, _++_, map, map-append, reverse, reverse-append, reverse-cons}
+use Prim.Native.Nat.{ℕ, zero, suc, _+_, _*_, _/_, _%_, _^_, _<_}
+use native.Mathlib.Nat.{pow-zero}
 use native.Mathlib.Omega.{arith}
 use lib.Dec.{eqb}
 use lib.ListN.{length, getD, take, length-append, length-map, length-reverse}
 use lib.Seq.{take-at, getD-at, take-suc, take-all, length-take-le}
-use Rattle.laws.proofs.Lists.{map-snoc}
+use Rattle.laws.proofs.Powers.{pow-one}
 use Rattle.encoding.specs.Words.{Mirror, Ranks, mirrorRank, mirror, plain}
 use Rattle.encoding.specs.Codes.{digits, differingPair, pairRank}
 use Rattle.encoding.specs.Needs.{equalPairs}
@@ -60,6 +60,9 @@ pub Ranks-right : (s : ℕ) (u v : List ℕ) → Ranks s (u ++ v) → Ranks s v
 Ranks-right s [] v h = h
 Ranks-right s (a ∷ u) v h = Ranks-right s u v (h .1)
 
+pub Ranks-ends : (s a b : ℕ) (u : List ℕ) → a < s → b < s → Ranks s u → Ranks s (a ∷ (u ++ (b ∷ [])))
+Ranks-ends s a b u ha hb hu = (ha, Ranks-append s u (b ∷ []) hu (hb, tt))
+
 plain-append : (s : ℕ) (u v : List ℕ) → plain s (u ++ v) ≡ plain s u * s ^ length v + plain s v
 unfolding plain
 plain-append s [] v = omega arith
@@ -77,7 +80,7 @@ plain-one s b = omega (arith, ap (λ (x : ℕ). b * x) (pow-zero s))
 pub plain-snoc : (s b : ℕ) (u : List ℕ) → plain s (u ++ (b ∷ [])) ≡ plain s u * s + b
 plain-snoc s b u =
     plain-append s u (b ∷ [])
-    ∙ omega (arith, plain-one s b, ap (λ (x : ℕ). plain s u * x) (pow-suc s 0), ap (λ (x : ℕ). plain s u * (x * s)) (pow-zero s))
+    ∙ omega (arith, plain-one s b, ap (λ (x : ℕ). plain s u * x) (pow-one s))
 
 pub plain-ends : (s n a b : ℕ) (u : List ℕ) → length u ≡ n → plain s (a ∷ (u ++ (b ∷ []))) ≡ a * s ^ suc n + plain s u * s + b
 unfolding plain
@@ -89,7 +92,7 @@ pub mirror-ends : (s : ℕ) (m : Mirror) (a b : ℕ) (u : List ℕ) → mirror s
 unfolding mirror
 mirror-ends s m a b u =
     ap (λ (l : List ℕ). map (mirrorRank s m) l) (reverse-cons a (u ++ (b ∷ [])) ∙ ap (λ (l : List ℕ). l ++ (a ∷ [])) (reverse-append u (b ∷ [])))
-    ∙ map-snoc (mirrorRank s m) (b ∷ reverse u) a
+    ∙ map-append (mirrorRank s m) (b ∷ reverse u) (a ∷ [])
 
 pub length-mirror : (s : ℕ) (m : Mirror) (w : List ℕ) → length (mirror s m w) ≡ length w
 unfolding mirror
@@ -119,7 +122,7 @@ equalPairs-ends s m n a b u h = rw (getD-at u b [] 0 n h, take-at u (b ∷ []) n
 
 pub mirror-cons : (s : ℕ) (m : Mirror) (a : ℕ) (u : List ℕ) → mirror s m (a ∷ u) ≡ mirror s m u ++ (mirrorRank s m a ∷ [])
 unfolding mirror
-mirror-cons s m a u = ap (map (mirrorRank s m)) (reverse-cons a u) ∙ map-snoc (mirrorRank s m) (reverse u) a
+mirror-cons s m a u = ap (map (mirrorRank s m)) (reverse-cons a u) ∙ map-append (mirrorRank s m) (reverse u) (a ∷ [])
 
 pub mirror-snoc : (s : ℕ) (m : Mirror) (b : ℕ) (u : List ℕ) → mirror s m (u ++ (b ∷ [])) ≡ mirrorRank s m b ∷ mirror s m u
 unfolding mirror

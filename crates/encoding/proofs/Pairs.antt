@@ -3,7 +3,7 @@ use mathlib.Core.Path.{_≡_, ap, _∙_, subst⁻¹}
 use Prim.Native.Nat.{ℕ, zero, suc, _+_, _-_, _*_, _/_, _<_, _≤_}
 use native.Mathlib.Decide.{decLe}
 use native.Mathlib.Omega.{arith}
-use borrow.Author.Tests.{le-leb, lt-leb}
+use borrow.Author.Tests.{lt-ltb, le-ltb}
 use Rattle.laws.proofs.Powers.{pairCount, square}
 use Rattle.encoding.specs.Codes.{pairRank}
 use Rattle.encoding.specs.WordsOfCodes.{pairOfRank}
@@ -27,33 +27,37 @@ rank-zero s r h g = omega (arith, rank-twice s 0 r h g)
 rank-suc : (t l r : ℕ) → l < r → r ≤ t → pairRank (suc (suc t)) (suc l) (suc r) ≡ suc t + pairRank (suc t) l r
 rank-suc t l r h g = omega (arith, rank-twice (suc (suc t)) (suc l) (suc r) (omega arith) (omega arith), rank-twice (suc t) l r h (omega arith))
 
-pub rank-lt : (t l r : ℕ) → l < r → r ≤ t → pairRank (suc t) l r < pairCount (suc t)
+rank-lt : (t l r : ℕ) → l < r → r ≤ t → pairRank (suc t) l r < pairCount (suc t)
 unfolding pairCount
 rank-lt zero l r h g = absurd (omega arith)
 rank-lt (suc t) zero r h g = omega (arith, rank-zero (suc (suc t)) r h (omega arith))
 rank-lt (suc t) (suc l) zero h g = absurd (omega arith)
 rank-lt (suc t) (suc l) (suc r) h g = omega (arith, rank-suc t l r (omega arith) (omega arith), rank-lt t l r (omega arith) (omega arith))
 
--- The pair of a rank.
-low-rank : (t R : ℕ) → R < suc t → pairOfRank (suc t) R ≡ (0, suc R)
+-- The pair of a rank: the first t ranks are those of the pairs with l = 0, and the others have both their numbers one higher.
+pub rank-here : (t R : ℕ) → R < t → pairOfRank t R ≡ (0, suc R)
 unfolding pairOfRank
-low-rank t R h = rw (le-leb (suc R) (suc t) h)
+rank-here zero R h = absurd (omega arith)
+rank-here (suc t) R h = rw (lt-ltb R (suc t) h)
 
-high-rank : (t R : ℕ) → pairOfRank (suc t) (suc t + R) ≡ (suc (pairOfRank t R .0), suc (pairOfRank t R .1))
+pub rank-next : (t R : ℕ) → 0 < t → t ≤ R → pairOfRank t R ≡ (suc (pairOfRank (t - 1) (R - t) .0), suc (pairOfRank (t - 1) (R - t) .1))
 unfolding pairOfRank
-high-rank t R =
-    let e : suc t + R - suc t ≡ R = omega arith in
-    rw (lt-leb (suc (suc t + R)) (suc t) (omega arith), e)
+rank-next zero R h g = absurd (omega arith)
+rank-next (suc t) R h g = let e : suc t - 1 ≡ t = omega arith in rw (e, le-ltb R (suc t) g)
 
 ofRank-rank : (t l r : ℕ) → l < r → r ≤ t → pairOfRank t (pairRank (suc t) l r) ≡ (l, r)
 ofRank-rank zero l r h g = absurd (omega arith)
 ofRank-rank (suc t) zero zero h g = absurd (omega arith)
 ofRank-rank (suc t) zero (suc r) h g =
     let e : pairRank (suc (suc t)) 0 (suc r) ≡ r = omega (arith, rank-zero (suc (suc t)) (suc r) h (omega arith)) in
-    rw e (low-rank t r (omega arith))
+    rw e (rank-here (suc t) r (omega arith))
 ofRank-rank (suc t) (suc l) zero h g = absurd (omega arith)
 ofRank-rank (suc t) (suc l) (suc r) h g =
-    rw (rank-suc t l r (omega arith) (omega arith), high-rank t (pairRank (suc t) l r), ofRank-rank t l r (omega arith) (omega arith))
+    let R : ℕ = pairRank (suc (suc t)) (suc l) (suc r) in
+    let R-is : R ≡ suc t + pairRank (suc t) l r = rank-suc t l r (omega arith) (omega arith) in
+    let one-less : suc t - 1 ≡ t = omega arith in
+    let inner : R - suc t ≡ pairRank (suc t) l r = omega arith in
+    rank-next (suc t) R (omega arith) (omega arith) ∙ rw (one-less, inner, ofRank-rank t l r (omega arith) (omega arith))
 
 -- What is to be shown of the pair of a rank.
 pub record IsPair (t R : ℕ) (p : ℕ × ℕ) : Type 0 where
@@ -66,21 +70,24 @@ unfolding pairCount
 ofRank-pair zero R h = absurd (omega arith)
 ofRank-pair (suc t) R h =
     elim (decLe (suc t) R) as (λ d. IsPair (suc t) R (pairOfRank (suc t) R)) [
-      | yes p ↦ high (R - suc t) (omega arith) (ofRank-pair t (R - suc t) (omega arith))
-      | no np ↦ subst⁻¹ (λ (x : ℕ × ℕ). IsPair (suc t) R x) (low-rank t R (omega arith))
+      | yes p ↦ subst⁻¹ (λ (x : ℕ × ℕ). IsPair (suc t) R x) (higher p) (high p (ofRank-pair t (R - suc t) (omega arith)))
+      | no np ↦ subst⁻¹ (λ (x : ℕ × ℕ). IsPair (suc t) R x) (rank-here (suc t) R (omega arith))
           (record { below = omega arith; within = omega arith; rank = omega (arith, rank-zero (suc (suc t)) (suc R) (omega arith) (omega arith)) })
     ]
   where
-    high : (R′ : ℕ) → R ≡ suc t + R′ → IsPair t R′ (pairOfRank t R′) → IsPair (suc t) R (pairOfRank (suc t) R)
-    high R′ e g =
-        rw (e, high-rank t R′)
-        (record {
+    inner : ℕ × ℕ
+    inner = pairOfRank t (R - suc t)
+
+    higher : suc t ≤ R → pairOfRank (suc t) R ≡ (suc (inner .0), suc (inner .1))
+    higher p = let one-less : suc t - 1 ≡ t = omega arith in rank-next (suc t) R (omega arith) p ∙ rw one-less
+
+    high : suc t ≤ R → IsPair t (R - suc t) inner → IsPair (suc t) R (suc (inner .0), suc (inner .1))
+    high p g =
+        record {
           below = omega (arith, g .below);
           within = omega (arith, g .within);
-          rank =
-              rank-suc t (pairOfRank t R′ .0) (pairOfRank t R′ .1) (g .below) (g .within)
-              ∙ ap (λ (x : ℕ). suc t + x) (g .rank);
-        })
+          rank = rank-suc t (inner .0) (inner .1) (g .below) (g .within) ∙ omega (arith, g .rank);
+        }
 
 -- The same over s letters.
 pub below-pairs : (s l r : ℕ) → l < r → r < s → pairRank s l r < pairCount s

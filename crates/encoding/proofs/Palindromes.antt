@@ -7,6 +7,7 @@ use Prim.Native.Nat.{ℕ, suc, _+_, _-_, _*_, _<_}
 use native.Mathlib.Nat.{pow-zero, mul-le-mul-left}
 use native.Mathlib.Decide.{ℕ-discrete, decLe}
 use native.Mathlib.Omega.{arith}
+use lib.Arith.{digits-lt}
 use lib.ListN.{length, take}
 use lib.Seq.{take-at}
 use Rattle.settings.specs.Settings.{halfUp, isOdd}
@@ -25,9 +26,6 @@ use Rattle.encoding.proofs.Codes.{is-canonical}
 -- Two words with as many letters within that are equal have equal first letters and equal words within.
 tails-equal : (n b d : ℕ) (u v : List ℕ) → length u ≡ n → length v ≡ n → u ++ (b ∷ []) ≡ v ++ (d ∷ []) → u ≡ v
 tails-equal n b d u v lu lv e = sym (take-at u (b ∷ []) n lu) ∙ ap (take n) e ∙ take-at v (d ∷ []) n lv
-
-scaled-lt : (s c r p : ℕ) → c < p → r < s → s * c + r < s * p
-scaled-lt s c r p h g = omega (arith, mul-le-mul-left s h)
 
 lt-scaled : (s c r p : ℕ) → s * c + r < s * p → c < p
 lt-scaled s c r p h =
@@ -64,7 +62,7 @@ module _ (s : ℕ) (m : Mirror) (hs : 1 < s) (he : EvenUnder s m) where
     same-lowest e ih =
         let last = mirrorRank-lt s m b (last-lt s m n a b u l h) in
         rw (codeRec-same s m n a b u l e, palindromes-suc s m n) (
-          λ p. scaled-lt s (codeRec s m n u) (mirrorRank s m b) (palindromes s m n) (ih .0 (inner-palindrome p)) last,
+          λ p. omega (arith, digits-lt (ih .0 (inner-palindrome p)) last),
           λ q. outer-palindrome e (ih .1 (lt-scaled s (codeRec s m n u) (mirrorRank s m b) (palindromes s m n) q)),
         )
 

@@ -9,7 +9,7 @@ use lib.ListN.{length}
 use Rattle.laws.proofs.Powers.{pow-pos}
 use Rattle.encoding.specs.Words.{Ranks, plain}
 use Rattle.encoding.specs.WordsOfCodes.{wordOfPlain}
-use Rattle.encoding.proofs.Canonical.{plain-lt}
+use Rattle.encoding.proofs.Canonical.{plain-below}
 
 pub length-wordOfPlain : (s n q : ℕ) → length (wordOfPlain s n q) ≡ n
 unfolding wordOfPlain
@@ -37,7 +37,7 @@ wordOfPlain-plain s zero (a ∷ w) h l g = absurd (omega arith)
 wordOfPlain-plain s (suc n) [] h l g = absurd (omega arith)
 wordOfPlain-plain s (suc n) (a ∷ w) h l g =
     let e : length w ≡ n = omega arith in
-    let lt : plain s w < s ^ n = subst (λ (x : ℕ). plain s w < s ^ x) e (plain-lt s w (g .1)) in
+    let lt : plain s w < s ^ n = plain-below s n w e (g .1) in
     rw (e, digits-div a lt, digits-mod a lt, wordOfPlain-plain s n w h e (g .1))
 
 -- Words of one length and one plain rank are equal.

@@ -1,16 +1,17 @@
 -- The word of a code as it is written into a buffer: the two ends, the letters of a plain rank, the pair of a rank, the word within.
 use mathlib.Core.Path.{_≡_, _∙_, ap, subst, sym, refl, subst⁻¹}
-use mathlib.Core.List.{List, _∷_, _++_, [], append-assoc}
+use mathlib.Core.List.{List, _∷_, _++_, [], append-assoc, append-nil}
 use Prim.Native.Nat.{_-_, ℕ, _+_, _≤_, suc, _<_, _^_, _/_, _%_, _*_, zero}
-use native.Mathlib.Nat.{div-lt-iff-lt-mul, pow-suc, div-add-mod', mod-lt, pow-le-pow-right, mul-le-mul-left}
+use native.Mathlib.Nat.{div-lt-iff-lt-mul, pow-suc, div-add-mod', mod-lt, mul-le-mul-left}
 use native.Mathlib.Omega.{arith}
-use borrow.Author.Tests.{le-ltb, lt-ltb}
 use borrow.Rule.Slice.PartMut.{putMid}
-use lib.ListN.{set, length, take, drop, length-append, length-set, length-drop, replicate}
-use lib.Seq.{set-split, drop-length, drop-cons, getD-set-same, drop-set-lt, length-take-le, take-at, drop-at}
+use lib.ListN.{set, length, take, drop, length-append, length-set, replicate}
+use lib.Seq.{set-split, drop-length, drop-cons, getD-set-same, drop-set-lt, length-take-le, drop-at}
 use Rattle.settings.specs.Limits.{Limits}
 use Rattle.settings.specs.Settings.{classes, isOdd}
-use Rattle.laws.proofs.Powers.{pairCount, square, pow-one, pow-pos, exponent-le}
+use Rattle.settings.proofs.Limits.{k-at-most, limits-less}
+use Rattle.laws.proofs.Powers.{pairCount, square, pow-one, pow-pos}
+use Rattle.laws.proofs.Buffers.{front-is, front-fits, front-length}
 use Rattle.encoding.specs.Calls.{inCapitals}
 use Rattle.encoding.specs.Needs.{RankOfPair, FitHighCode}
 use Rattle.encoding.specs.Words.{plain, Ranks, Complement, Mirror, mirrorRank}
@@ -21,6 +22,7 @@ use Rattle.encoding.proofs.Codes.{length-wordOf, ranks-wordOf}
 use Rattle.encoding.proofs.Ends.{plain-snoc, Ranks-append}
 use Rattle.encoding.proofs.Pairs.{rank-of-pair}
 use Rattle.encoding.proofs.Plain.{plain-wordOfPlain, length-wordOfPlain, ranks-wordOfPlain, wordOfPlain-plain}
+use Rattle.encoding.proofs.WordParts.{length-part}
 
 -- ---- the two ends
 
@@ -71,12 +73,8 @@ module _ (s i q : ℕ) (hs : 1 < s) (hi : 0 < i) (h : q < s ^ i) where
       ∙ append-assoc (wordOfPlain s (i - 1) (q / s)) (q % s ∷ []) (drop (suc (i - 1)) out)
       ∙ ap (λ (l : List ℕ). wordOfPlain s (i - 1) (q / s) ++ l) (sym d)
 
-append-nil : (l : List ℕ) → l ≡ l ++ []
-append-nil [] = refl
-append-nil (a ∷ l) = ap (λ (x : List ℕ). a ∷ x) (append-nil l)
-
 pub plain-start : (l out : List ℕ) → l ≡ l ++ drop (length out) out
-plain-start l out = rw (drop-length out) (append-nil l)
+plain-start l out = rw (drop-length out) (sym (append-nil l))
 
 pub plain-end : (s i left : ℕ) (w out : List ℕ) → i ≤ 0 → w ≡ wordOfPlain s i left ++ drop i out → out ≡ w
 unfolding wordOfPlain
@@ -98,26 +96,6 @@ unfolding pairCount
 rank-less zero R h g = absurd (omega arith)
 rank-less (suc t) R h g = let e : suc t - 1 ≡ t = omega arith in rw e (omega arith)
 
-pub rank-next-0 : (t R : ℕ) → R < pairCount (suc t) → t ≤ R → pairOfRank t R .0 ≡ 1 + pairOfRank (t - 1) (R - t) .0
-unfolding pairCount pairOfRank
-rank-next-0 zero R h g = absurd (omega arith)
-rank-next-0 (suc t) R h g = let e : suc t - 1 ≡ t = omega arith in rw (e, le-ltb R (suc t) g) (omega arith)
-
-pub rank-next-1 : (t R : ℕ) → R < pairCount (suc t) → t ≤ R → pairOfRank t R .1 ≡ 1 + pairOfRank (t - 1) (R - t) .1
-unfolding pairCount pairOfRank
-rank-next-1 zero R h g = absurd (omega arith)
-rank-next-1 (suc t) R h g = let e : suc t - 1 ≡ t = omega arith in rw (e, le-ltb R (suc t) g) (omega arith)
-
-pub rank-here-0 : (t R : ℕ) → R < t → pairOfRank t R .0 ≡ 0
-unfolding pairOfRank
-rank-here-0 zero R g = absurd (omega arith)
-rank-here-0 (suc t) R g = rw (lt-ltb R (suc t) g)
-
-pub rank-here-1 : (t R : ℕ) → R < t → pairOfRank t R .1 ≡ R + 1
-unfolding pairOfRank
-rank-here-1 zero R g = absurd (omega arith)
-rank-here-1 (suc t) R g = rw (lt-ltb R (suc t) g) (omega arith)
-
 -- ---- the middle
 
 pub middle-lt : (s q : ℕ) → q < classes s Complement 1 → q < s / 2
@@ -126,20 +104,18 @@ middle-lt s q h = omega (arith, ap (λ (x : ℕ). x / 2) (pow-one s))
 
 -- ---- the word with its ends set and its inside written
 
-length-inner : (out : List ℕ) → 2 ≤ length out → length (take (length out - 2) (drop 1 out)) ≡ length out - 2
-length-inner out h = length-take-le (length out - 2) (drop 1 out) (omega (arith, length-drop 1 out))
-
 -- X is the word with its ends set.
 module _ (out X : List ℕ) (h : 2 ≤ length out) (a b : ℕ) (e : X ≡ a ∷ (take (length out - 2) (drop 1 out) ++ (b ∷ []))) where
   pub part-length : length (take (length out - 1 - 1) (drop 1 X)) ≡ length out - 2
   part-length =
       let k : length out - 1 - 1 ≡ length out - 2 = omega arith in
-      rw (e, k) (ap length (take-at (take (length out - 2) (drop 1 out)) (b ∷ []) (length out - 2) (length-inner out h)) ∙ length-inner out h)
+      let inner = length-part 1 (length out - 2) out (omega arith) in
+      rw (e, k) (front-length (take (length out - 2) (drop 1 out)) (b ∷ []) refl inner)
 
   put-inside : (Y : List ℕ) → putMid 1 (length out - 1 - 1) X Y ≡ a ∷ (Y ++ (b ∷ []))
   put-inside Y =
       let k : length out - 1 - 1 ≡ length out - 2 = omega arith in
-      rw (e, k, drop-at (take (length out - 2) (drop 1 out)) (b ∷ []) (length out - 2) (length-inner out h))
+      rw (e, k, drop-at (take (length out - 2) (drop 1 out)) (b ∷ []) (length out - 2) (length-part 1 (length out - 2) out (omega arith)))
 
 module _ (s : ℕ) (m : Mirror) (out : List ℕ) (h : 2 ≤ length out) where
   two-more : length out ≡ suc (suc (length out - 2))
@@ -175,18 +151,13 @@ module _ (s : ℕ) (m : Mirror) (out : List ℕ) (h : 2 ≤ length out) where
         let g : s ^ suc (suc (length out - 2)) ≤ 2 ^ 62 = subst (λ (n : ℕ). s ^ n ≤ 2 ^ 62) two-more (f .small) in
         omega (arith, pow-suc s (suc (length out - 2)), ap (λ (x : ℕ). x * s) (pow-suc s (length out - 2)))
 
-    pub inner-small : s ^ (length out - 2) ≤ 2 ^ 62
-    inner-small =
-        let g : s ^ (length out - 2) ≤ s ^ length out = pow-le-pow-right (omega (arith, f .two)) (omega arith) in
-        omega (arith, f .small)
-
     pub low-small : s * classes s m (length out - 2) ≤ 2 ^ 62
     low-small =
         let g : classes s m (length out - 2) ≤ s ^ (length out - 2) = classes-le s m (length out - 2) (f .two) (f .even) in
         omega (arith, mul-le-mul-left s g, pow-le, mul-le-mul-left (s ^ (length out - 2) * s) (f .two))
 
-    pub inner-fine : (n : ℕ) → n ≡ length out - 2 → Limits s m n
-    inner-fine n e = record { two = f .two; few = f .few; even = f .even; small = rw e inner-small }
+    pub inner-limits : (n : ℕ) → n ≡ length out - 2 → Limits s m n
+    inner-limits n e = limits-less f (omega arith)
 
     pub inner-lt : (q : ℕ) → q < s * classes s m (length out - 2) → (n : ℕ) → n ≡ length out - 2 → q / s < classes s m n
     inner-lt q g n e =
@@ -197,23 +168,24 @@ module _ (s : ℕ) (m : Mirror) (out : List ℕ) (h : 2 ≤ length out) where
     all-classes : classes s m (length out) ≡ s * classes s m (length out - 2) + pairCount s * s ^ (length out - 2)
     all-classes = ap (classes s m) two-more ∙ classes-suc s m (length out - 2) (f .even)
 
-    module _ (q : ℕ) (u : s * classes s m (length out - 2) + q < classes s m (length out)) (p : ℕ) (z : p ≡ s ^ (length out - 2)) where
-      pub p-pos : 0 < p
-      p-pos = rw z (pow-pos s (length out - 2) (f .two))
+-- A code that is q above those of equal outer letters, and p as `power` gives it.
+module _ {s : ℕ} {m : Mirror} {out : List ℕ} {q : ℕ} (F : FitHighCode s m out q) {p : ℕ} (z : p ≡ s ^ (length out - 2)) where
+  pub p-pos : 0 < p
+  p-pos = rw z (pow-pos s (length out - 2) (F .limits .two))
 
-      rank-lt : q / p < pairCount s
-      rank-lt =
-          let k : q < pairCount s * p = rw z (omega (arith, all-classes)) in
-          div-lt-iff-lt-mul p-pos .1 k
+  rank-lt : q / p < pairCount s
+  rank-lt =
+      let k : q < pairCount s * p = rw z (omega (arith, F .below, all-classes s m out (F .long) (F .limits))) in
+      div-lt-iff-lt-mul p-pos .1 k
 
-      pub rank-below : RankOfPair s (q / p)
-      rank-below = (f .two, omega (arith, square s, rank-lt), f .few)
+  pub rank-below : RankOfPair s (q / p)
+  rank-below = (F .limits .two, omega (arith, square s, rank-lt), F .limits .few)
 
-      pub right-lt : pairOfRank (s - 1) (q / p) .1 < s
-      right-lt = omega (arith, rank-of-pair s (q / p) rank-lt .0 .within, f .two)
+  pub right-lt : pairOfRank (s - 1) (q / p) .1 < s
+  right-lt = omega (arith, rank-of-pair s (q / p) rank-lt .0 .within, F .limits .two)
 
-      pub rest-lt : (n : ℕ) → n ≡ length out - 2 → q % p < s ^ n
-      rest-lt n e = rw e (subst (λ (x : ℕ). q % p < x) z (mod-lt q p-pos))
+  pub rest-lt : (n : ℕ) → n ≡ length out - 2 → q % p < s ^ n
+  rest-lt n e = rw e (subst (λ (x : ℕ). q % p < x) z (mod-lt q p-pos))
 
 pub none-word : (s : ℕ) (m : Mirror) (q : ℕ) (out : List ℕ) → length out ≡ 0 → out ≡ wordOf s m (length out) q
 unfolding wordOf
@@ -244,6 +216,9 @@ module _ (s : ℕ) (m : Mirror) (out : List ℕ) (two : 2 ≤ length out) (f : L
 abbrev pub zeros : List ℕ
 zeros = replicate 64 0
 
+pub zeros-length : {s : ℕ} {m : Mirror} {k : ℕ} → Limits s m k → length (take k zeros) ≡ k
+zeros-length {s} {m} {k} f = length-take-le k zeros (omega (arith, k-at-most f))
+
 module _ (letters : List ℕ) (k : ℕ) (m : Mirror) (q : ℕ) (f : Limits (length letters) m k) (g : q < classes (length letters) m k) where
   pub word-length : length (wordOf (length letters) m k q) ≡ k
   word-length = length-wordOf (length letters) m (f .two) (f .even) k q g
@@ -251,28 +226,36 @@ module _ (letters : List ℕ) (k : ℕ) (m : Mirror) (q : ℕ) (f : Limits (leng
   word-ranks : Ranks (length letters) (wordOf (length letters) m k q)
   word-ranks = ranks-wordOf (length letters) m (f .two) (f .even) k q g
 
-  pub zeros-length : length (take k zeros) ≡ k
-  zeros-length = length-take-le k zeros (omega (arith, exponent-le (length letters) k (f .two) (f .small)))
+-- The places w that `fill_word` wrote over the first k zeros.
+pub record FilledWord (letters : List ℕ) (k : ℕ) (m : Mirror) (q : ℕ) (w : List ℕ) : Type 0 where
+  pub within : Limits (length letters) m k
+  pub below : q < classes (length letters) m k
+  pub holds : w ≡ wordOf (length letters) m (length (take k zeros)) q
 
-  module _ (w : List ℕ) (e : w ≡ wordOf (length letters) m (length (take k zeros)) q) (d : List ℕ) where
-    w-is : w ≡ wordOf (length letters) m k q
-    w-is = e ∙ ap (λ (n : ℕ). wordOf (length letters) m n q) zeros-length
+module _ {letters : List ℕ} {k : ℕ} {m : Mirror} {q : ℕ} {w : List ℕ} (W : FilledWord letters k m q w) where
+  filled-is : w ≡ wordOf (length letters) m k q
+  filled-is = W .holds ∙ ap (λ (n : ℕ). wordOf (length letters) m n q) (zeros-length (W .within))
 
-    w-len : length w ≡ k
-    w-len = ap length w-is ∙ word-length
+  own-length : length (wordOf (length letters) m k q) ≡ k
+  own-length = word-length letters k m q (W .within) (W .below)
 
+  filled-length : length w ≡ k
+  filled-length = ap length filled-is ∙ own-length
+
+  -- An array of which these are the first places.
+  module _ (d : List ℕ) where
     front : take k (w ++ d) ≡ wordOf (length letters) m k q
-    front = take-at w d k w-len ∙ w-is
+    front = front-is w d refl filled-length ∙ filled-is
 
-    pub front-fits : k ≤ length (w ++ d)
-    front-fits = omega (arith, length-append w d, w-len)
+    pub filled-fits : k ≤ length (w ++ d)
+    filled-fits = front-fits w d refl filled-length
 
-    pub front-length : length (take k (w ++ d)) ≡ k
-    front-length = ap length front ∙ word-length
+    pub filled-front : length (take k (w ++ d)) ≡ k
+    filled-front = front-length w d refl filled-length
 
-    pub front-ranks : Ranks (length letters) (take k (w ++ d))
-    front-ranks = subst⁻¹ (Ranks (length letters)) front word-ranks
+    pub filled-ranks : Ranks (length letters) (take k (w ++ d))
+    filled-ranks = subst⁻¹ (Ranks (length letters)) front (word-ranks letters k m q (W .within) (W .below))
 
-    pub front-written : (old new : List ℕ) → new ≡ inCapitals letters (take k (w ++ d)) ++ drop (length (take k (w ++ d))) old
+    pub filled-written : (old new : List ℕ) → new ≡ inCapitals letters (take k (w ++ d)) ++ drop (length (take k (w ++ d))) old
         → new ≡ inCapitals letters (wordOf (length letters) m k q) ++ drop k old
-    front-written old new x = x ∙ rw (front, word-length)
+    filled-written old new x = x ∙ rw (front, own-length)

@@ -5,12 +5,13 @@ use mathlib.Core.Bool.{Bool, true, false, cond}
 use mathlib.Core.List.{List, [], _∷_, _++_}
 use mathlib.Core.Logic.{_≢_}
 use Prim.Native.Nat.{ℕ, zero, suc, _+_, _*_, _/_, _%_, _^_, _<_, _≤_}
-use native.Mathlib.Nat.{pow-zero, pow-suc, div-add-mod'}
+use native.Mathlib.Nat.{pow-suc, div-add-mod'}
 use native.Mathlib.Omega.{arith}
 use borrow.Author.Tests.{eqb-true, eq-eqb, ne-eqb}
 use lib.Dec.{eqb, eqb·suc-zero}
 use lib.ListN.{length, getD, take, drop}
 use lib.Seq.{take-at, getD-at}
+use Rattle.laws.proofs.Powers.{pow-one}
 use Rattle.settings.specs.Settings.{halfUp, isOdd, classes}
 use Rattle.settings.specs.Limits.{EvenUnder}
 use Rattle.encoding.specs.Words.{Mirror, Reversal, Complement, Ranks, mirrorRank, plain}
@@ -105,7 +106,7 @@ zero-value s Complement = refl
 one-value : (s : ℕ) (m : Mirror) → EvenUnder s m → (a : ℕ) → a < s → a ≤ mirrorRank s m a → mirrorRank s m a ≡ middleOfCode s m a + shift s 1 0 + oddShift s m 1
 unfolding mirrorRank middleOfCode shift oddShift isOdd halfUp
 one-value s Reversal he a h g = omega arith
-one-value s Complement he a h g = omega (arith, pow-suc s 0, ap (λ (x : ℕ). x * s) (pow-zero s))
+one-value s Complement he a h g = omega (arith, pow-one s)
 
 module _ (s : ℕ) (m : Mirror) (hs : 1 < s) (he : EvenUnder s m) where
   value-zero : Value s m hs he 0 []

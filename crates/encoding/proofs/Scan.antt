@@ -21,18 +21,17 @@ pub record Stops (s : ℕ) (m : Mirror) (n : ℕ) (w : List ℕ) (p : ℕ) : Typ
   pub equal : (j i : ℕ) → j < p → i + suc j ≡ n → getD w j 0 ≡ mirrorRank s m (getD w i 0)
   pub differs : (i : ℕ) → 2 * suc p ≤ n → i + suc p ≡ n → getD w p 0 ≢ mirrorRank s m (getD w i 0)
 
-inner-at : (u : List ℕ) (b j : ℕ) → j < length u → getD (u ++ (b ∷ [])) j 0 ≡ getD u j 0
-inner-at u b j h = List·getD-append u (b ∷ []) 0 j h
-
 stops-inner : (s : ℕ) (m : Mirror) (n a b p : ℕ) (u : List ℕ) → length u ≡ n → Stops s m (suc (suc n)) (a ∷ (u ++ (b ∷ []))) (suc p) → Stops s m n u p
 stops-inner s m n a b p u l g =
     record {
       fits = omega (arith, g .fits);
       equal = λ j i h e.
-          sym (inner-at u b j (omega arith)) ∙ g .equal (suc j) (suc i) (omega arith) (omega arith) ∙ ap (mirrorRank s m) (inner-at u b i (omega arith));
+          sym (List·getD-append u (b ∷ []) 0 j (omega arith))
+          ∙ g .equal (suc j) (suc i) (omega arith) (omega arith)
+          ∙ ap (mirrorRank s m) (List·getD-append u (b ∷ []) 0 i (omega arith));
       differs = λ i h e d.
           g .differs (suc i) (omega arith) (omega arith)
-          (inner-at u b p (omega arith) ∙ d ∙ ap (mirrorRank s m) (sym (inner-at u b i (omega arith))));
+          (List·getD-append u (b ∷ []) 0 p (omega arith) ∙ d ∙ ap (mirrorRank s m) (sym (List·getD-append u (b ∷ []) 0 i (omega arith))));
     }
 
 stops-at : (s : ℕ) (m : Mirror) (n : ℕ) (w : List ℕ) → length w ≡ n → (p : ℕ) → Stops s m n w p → equalPairs s m n w ≡ p

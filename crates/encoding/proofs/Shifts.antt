@@ -7,17 +7,13 @@ use native.Mathlib.Omega.{arith}
 use borrow.Author.Tests.{lt-leb, le-leb, ne-eqb, eq-eqb}
 use lib.ListN.{length}
 use Rattle.settings.specs.Settings.{halfUp, isOdd}
+use Rattle.settings.proofs.Powers.{capped}
 use Rattle.encoding.specs.Codes.{shift, oddShift, digits, differingPair, codeOfCanonical}
 use Rattle.encoding.specs.Needs.{pairAfter, FitCanonical, equalPairs}
 use Rattle.encoding.specs.Words.{Reversal, Complement, Mirror, plain}
 use Rattle.encoding.proofs.ByRanks.{equalPairs-le}
 use Rattle.encoding.proofs.Recursion.{value}
 use Rattle.encoding.proofs.Scan.{differingPair-is}
-
-pub capped : (s k n x : ℕ) → 1 < s → n ≤ k → s ^ k ≤ 2 ^ 62 → x ≡ min (s ^ n) 4611686018427387905 → x ≡ s ^ n
-capped s k n x hs h g e =
-    let up : s ^ n ≤ s ^ k = pow-le-pow-right (omega arith) h in
-    omega arith
 
 -- ---- the shift
 
@@ -29,12 +25,12 @@ module _ (s k p : ℕ) (fits : 2 * p ≤ k) where
   pub shift-pow : 1 < s → p + 2 ≤ k - p → s ^ (k - k / 2) ≤ s ^ (k - p - 1)
   shift-pow hs h = pow-le-pow-right (omega arith) (omega arith)
 
-  pub some-shift : p + 2 ≤ k - p → (s ^ (k - p - 1) - s ^ (k - k / 2)) / 2 ≡ shift s k (pairAfter k p)
+  pub some-shift : p + 2 ≤ k - p → (x y : ℕ) → x ≡ s ^ (k - p - 1) → y ≡ s ^ (k - k / 2) → (x - y) / 2 ≡ shift s k (pairAfter k p)
   unfolding shift pairAfter halfUp
-  some-shift h =
+  some-shift h x y x-is y-is =
       let e : k - p - 1 ≡ k - suc p = omega arith in
       let f : k - k / 2 ≡ (k + 1) / 2 = omega arith in
-      rw (le-leb (2 * suc p) k (omega arith), e, f)
+      rw (le-leb (2 * suc p) k (omega arith), x-is, y-is, e, f)
 
 -- ---- under complement with odd k
 

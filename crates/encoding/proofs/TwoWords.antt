@@ -1,12 +1,13 @@
--- The canonical one of a word of letters and its mirror, and its code, as `word_code` has them in two arrays, own and other.
-use mathlib.Core.Path.{refl, _≡_, _∙_, ap, sym, subst⁻¹}
+-- The canonical one of a word of letters and its mirror, and its code, where `word_code`, `write_mirror` and `plain_of` have them in arrays: own, whose
+-- first places hold the ranks of the word, and other, whose first places hold their mirror.
+use mathlib.Core.Path.{refl, _≡_, _∙_, ap, subst⁻¹}
 use mathlib.Core.List.{List, _++_}
 use Prim.Native.Nat.{ℕ, _≤_, _<_}
 use native.Mathlib.Omega.{arith}
-use lib.ListN.{length, take, length-append, drop}
-use lib.Seq.{take-at}
+use lib.ListN.{length, take, drop}
 use Rattle.settings.specs.Limits.{Limits}
-use Rattle.laws.proofs.Powers.{exponent-le}
+use Rattle.settings.proofs.Limits.{k-at-most}
+use Rattle.laws.proofs.Buffers.{front-is, front-fits, front-length}
 use Rattle.encoding.specs.Calls.{ranksOf, inCapitals}
 use Rattle.encoding.specs.Codes.{code, codeOfCanonical}
 use Rattle.encoding.specs.Needs.{FitWord, FitCanonical}
@@ -29,7 +30,7 @@ module _ (letters word : List ℕ) (m : Mirror) (f : Limits (length letters) m (
   as-mirror : FitWord (length letters) (mirror (length letters) m (ranksOf letters word))
   as-mirror = record { two = f .two; ranks = mirror-ranks; small = rw mirror-len (f .small) }
 
-  pub own-canonical : plain (length letters) (ranksOf letters word) ≤ plain (length letters) (mirror (length letters) m (ranksOf letters word))
+  own-canonical : plain (length letters) (ranksOf letters word) ≤ plain (length letters) (mirror (length letters) m (ranksOf letters word))
       → FitCanonical (length letters) m (ranksOf letters word)
   own-canonical h = record { word = as-word; few = f .few; even = f .even; least = h }
 
@@ -43,7 +44,7 @@ module _ (letters word : List ℕ) (m : Mirror) (f : Limits (length letters) m (
         least = rw (mirror-mirror (length letters) m (length (ranksOf letters word)) (ranksOf letters word) refl (as-word .ranks)) (omega arith);
       }
 
-  pub own-code : plain (length letters) (ranksOf letters word) ≤ plain (length letters) (mirror (length letters) m (ranksOf letters word))
+  own-code : plain (length letters) (ranksOf letters word) ≤ plain (length letters) (mirror (length letters) m (ranksOf letters word))
       → codeOfCanonical (length letters) m (length (ranksOf letters word)) (ranksOf letters word) ≡ code (length letters) m (length word) (ranksOf letters word)
   unfolding code
   own-code h = rw (canonical-low (length letters) m (ranksOf letters word) h, length-ranksOf letters word)
@@ -54,70 +55,106 @@ module _ (letters word : List ℕ) (m : Mirror) (f : Limits (length letters) m (
   unfolding code
   other-code h = rw (canonical-high (length letters) m (ranksOf letters word) h, mirror-len)
 
--- ---- the two arrays of `word_code`, own and other
+-- ---- the array own
 
-module _ (letters word : List ℕ) (m : Mirror) (f : Limits (length letters) m (length word)) (own d : List ℕ) (e : own ≡ ranksOf letters word ++ d) where
+pub record OwnArray (letters word : List ℕ) (m : Mirror) (own : List ℕ) : Type 0 where
+  pub within : Limits (length letters) m (length word)
+  pub rest : List ℕ
+  pub holds : own ≡ ranksOf letters word ++ rest
+
+pub as-own : (letters word : List ℕ) (m : Mirror) → Limits (length letters) m (length word) → (own d : List ℕ) → own ≡ ranksOf letters word ++ d
+    → OwnArray letters word m own
+as-own letters word m f own d e = record { within = f; rest = d; holds = e }
+
+module _ {letters word : List ℕ} {m : Mirror} {own : List ℕ} (A : OwnArray letters word m own) where
   pub own-is : take (length word) own ≡ ranksOf letters word
-  own-is = rw e (take-at (ranksOf letters word) d (length word) (length-ranksOf letters word))
+  own-is = front-is (ranksOf letters word) (A .rest) (A .holds) (length-ranksOf letters word)
 
-  pub own-long : length word ≤ length own
-  own-long = rw e (omega (arith, length-append (ranksOf letters word) d, length-ranksOf letters word))
+  pub own-fits : length word ≤ length own
+  own-fits = front-fits (ranksOf letters word) (A .rest) (A .holds) (length-ranksOf letters word)
 
-  pub own-len : length word ≡ length (take (length word) own)
-  own-len = sym (ap length own-is ∙ length-ranksOf letters word)
-
-  pub own-ranks : Ranks (length letters) (take (length word) own)
-  own-ranks = subst⁻¹ (Ranks (length letters)) own-is (as-word letters word m f .ranks)
+  pub own-length : length (take (length word) own) ≡ length word
+  own-length = front-length (ranksOf letters word) (A .rest) (A .holds) (length-ranksOf letters word)
 
   pub own-word : FitWord (length letters) (take (length word) own)
-  own-word = subst⁻¹ (FitWord (length letters)) own-is (as-word letters word m f)
+  own-word = subst⁻¹ (FitWord (length letters)) own-is (as-word letters word m (A .within))
 
   pub own-short : length (take (length word) own) ≤ 64
-  own-short = omega (arith, own-len, exponent-le (length letters) (length word) (f .two) (f .small))
+  own-short = omega (arith, own-length, k-at-most (A .within))
 
-  module _ (other d′ : List ℕ) (g : other ≡ mirror (length letters) m (take (length word) own) ++ d′) where
-    other-split : other ≡ mirror (length letters) m (ranksOf letters word) ++ d′
-    other-split = g ∙ ap (λ (l : List ℕ). mirror (length letters) m l ++ d′) own-is
+-- ---- the array other beside it
 
-    other-is : take (length word) other ≡ mirror (length letters) m (ranksOf letters word)
-    other-is = rw other-split (take-at (mirror (length letters) m (ranksOf letters word)) d′ (length word) (mirror-len letters word m f))
+pub record BothArrays (letters word : List ℕ) (m : Mirror) (own other : List ℕ) : Type 0 where
+  pub own-array : OwnArray letters word m own
+  pub rest : List ℕ
+  pub holds : other ≡ mirror (length letters) m (take (length word) own) ++ rest
 
-    pub other-long : length word ≤ length other
-    other-long = rw other-split (omega (arith, length-append (mirror (length letters) m (ranksOf letters word)) d′, mirror-len letters word m f))
+pub as-both : {letters word : List ℕ} {m : Mirror} {own : List ℕ} → OwnArray letters word m own → (other d : List ℕ)
+    → other ≡ mirror (length letters) m (take (length word) own) ++ d → BothArrays letters word m own other
+as-both A other d e = record { own-array = A; rest = d; holds = e }
 
-    pub other-len : length word ≡ length (take (length word) other)
-    other-len = sym (ap length other-is ∙ mirror-len letters word m f)
+module _ {letters word : List ℕ} {m : Mirror} {own other : List ℕ} (B : BothArrays letters word m own other) where
+  other-holds : other ≡ mirror (length letters) m (ranksOf letters word) ++ B .rest
+  other-holds = B .holds ∙ ap (λ (l : List ℕ). mirror (length letters) m l ++ B .rest) (own-is (B .own-array))
 
-    pub other-word : FitWord (length letters) (take (length word) other)
-    other-word = subst⁻¹ (FitWord (length letters)) other-is (as-mirror letters word m f)
+  mirror-length : length (mirror (length letters) m (ranksOf letters word)) ≡ length word
+  mirror-length = mirror-len letters word m (B .own-array .within)
 
-    -- The mirror in capitals, as `write_mirror` leaves it.
-    pub other-written : (old new : List ℕ) → new ≡ inCapitals letters (take (length word) other) ++ drop (length (take (length word) other)) old
-        → new ≡ inCapitals letters (mirror (length letters) m (ranksOf letters word)) ++ drop (length word) old
-    other-written old new x =
-        x
-        ∙ ap (λ (l : List ℕ). inCapitals letters l ++ drop (length (take (length word) other)) old) other-is
-        ∙ ap (λ (n : ℕ). inCapitals letters (mirror (length letters) m (ranksOf letters word)) ++ drop n old) (sym other-len)
+  other-is : take (length word) other ≡ mirror (length letters) m (ranksOf letters word)
+  other-is = front-is (mirror (length letters) m (ranksOf letters word)) (B .rest) other-holds mirror-length
 
-    module _ (p q : ℕ) (hp : p ≡ plain (length letters) (take (length word) own)) (hq : q ≡ plain (length letters) (take (length word) other)) where
-      own-low : p ≤ q → plain (length letters) (ranksOf letters word) ≤ plain (length letters) (mirror (length letters) m (ranksOf letters word))
-      own-low h = omega (arith, hp ∙ ap (plain (length letters)) own-is, hq ∙ ap (plain (length letters)) other-is)
+  pub other-fits : length word ≤ length other
+  other-fits = front-fits (mirror (length letters) m (ranksOf letters word)) (B .rest) other-holds mirror-length
 
-      other-low : q < p → plain (length letters) (mirror (length letters) m (ranksOf letters word)) < plain (length letters) (ranksOf letters word)
-      other-low h = omega (arith, hp ∙ ap (plain (length letters)) own-is, hq ∙ ap (plain (length letters)) other-is)
+  pub other-length : length (take (length word) other) ≡ length word
+  other-length = front-length (mirror (length letters) m (ranksOf letters word)) (B .rest) other-holds mirror-length
 
-      pub own-least : p ≤ q → FitCanonical (length letters) m (take (length word) own)
-      own-least h = subst⁻¹ (FitCanonical (length letters) m) own-is (own-canonical letters word m f (own-low h))
+  pub other-word : FitWord (length letters) (take (length word) other)
+  other-word = subst⁻¹ (FitWord (length letters)) other-is (as-mirror letters word m (B .own-array .within))
 
-      pub other-least : q < p → FitCanonical (length letters) m (take (length word) other)
-      other-least h = subst⁻¹ (FitCanonical (length letters) m) other-is (other-canonical letters word m f (other-low h))
+  -- The mirror in capitals, as `write_mirror` leaves it.
+  pub other-written : (old new : List ℕ) → new ≡ inCapitals letters (take (length word) other) ++ drop (length (take (length word) other)) old
+      → new ≡ inCapitals letters (mirror (length letters) m (ranksOf letters word)) ++ drop (length word) old
+  other-written old new x =
+      x
+      ∙ ap (λ (l : List ℕ). inCapitals letters l ++ drop (length (take (length word) other)) old) other-is
+      ∙ ap (λ (n : ℕ). inCapitals letters (mirror (length letters) m (ranksOf letters word)) ++ drop n old) other-length
 
-      pub own-answer : p ≤ q → (r : ℕ)
-          → r ≡ codeOfCanonical (length letters) m (length (take (length word) own)) (take (length word) own)
-          → r ≡ code (length letters) m (length word) (ranksOf letters word)
-      own-answer h r x = x ∙ ap (λ (l : List ℕ). codeOfCanonical (length letters) m (length l) l) own-is ∙ own-code letters word m f (own-low h)
+-- ---- both, with the plain ranks p and q of what they hold
 
-      pub other-answer : q < p → (r : ℕ)
-          → r ≡ codeOfCanonical (length letters) m (length (take (length word) other)) (take (length word) other)
-          → r ≡ code (length letters) m (length word) (ranksOf letters word)
-      other-answer h r x = x ∙ ap (λ (l : List ℕ). codeOfCanonical (length letters) m (length l) l) other-is ∙ other-code letters word m f (other-low h)
+pub record RankedArrays (letters word : List ℕ) (m : Mirror) (own other : List ℕ) (p q : ℕ) : Type 0 where
+  pub arrays : BothArrays letters word m own other
+  pub own-plain : p ≡ plain (length letters) (take (length word) own)
+  pub other-plain : q ≡ plain (length letters) (take (length word) other)
+
+module _ {letters word : List ℕ} {m : Mirror} {own other : List ℕ} {p q : ℕ} (R : RankedArrays letters word m own other p q) where
+  within : Limits (length letters) m (length word)
+  within = R .arrays .own-array .within
+
+  p-is : p ≡ plain (length letters) (ranksOf letters word)
+  p-is = R .own-plain ∙ ap (plain (length letters)) (own-is (R .arrays .own-array))
+
+  q-is : q ≡ plain (length letters) (mirror (length letters) m (ranksOf letters word))
+  q-is = R .other-plain ∙ ap (plain (length letters)) (other-is (R .arrays))
+
+  own-low : p ≤ q → plain (length letters) (ranksOf letters word) ≤ plain (length letters) (mirror (length letters) m (ranksOf letters word))
+  own-low h = omega (arith, p-is, q-is)
+
+  other-low : q < p → plain (length letters) (mirror (length letters) m (ranksOf letters word)) < plain (length letters) (ranksOf letters word)
+  other-low h = omega (arith, p-is, q-is)
+
+  pub own-least : p ≤ q → FitCanonical (length letters) m (take (length word) own)
+  own-least h = subst⁻¹ (FitCanonical (length letters) m) (own-is (R .arrays .own-array)) (own-canonical letters word m within (own-low h))
+
+  pub other-least : q < p → FitCanonical (length letters) m (take (length word) other)
+  other-least h = subst⁻¹ (FitCanonical (length letters) m) (other-is (R .arrays)) (other-canonical letters word m within (other-low h))
+
+  pub own-answer : p ≤ q → (r : ℕ) → r ≡ codeOfCanonical (length letters) m (length (take (length word) own)) (take (length word) own)
+      → r ≡ code (length letters) m (length word) (ranksOf letters word)
+  own-answer h r x =
+      x ∙ ap (λ (l : List ℕ). codeOfCanonical (length letters) m (length l) l) (own-is (R .arrays .own-array)) ∙ own-code letters word m within (own-low h)
+
+  pub other-answer : q < p → (r : ℕ) → r ≡ codeOfCanonical (length letters) m (length (take (length word) other)) (take (length word) other)
+      → r ≡ code (length letters) m (length word) (ranksOf letters word)
+  other-answer h r x =
+      x ∙ ap (λ (l : List ℕ). codeOfCanonical (length letters) m (length l) l) (other-is (R .arrays)) ∙ other-code letters word m within (other-low h)

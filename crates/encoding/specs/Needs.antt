@@ -1,5 +1,5 @@
--- What functions below the calls ask of each other and laws speak of; no sentence of document 01 rests on it: where the scan of a word stops, the number of palindromes, and
--- words and codes that fit 62 bits.
+-- What functions below the calls ask of each other and laws speak of; no sentence of document 01 rests on it: parts of a word, where the scan of one stops, the
+-- number of palindromes, and words and codes that fit 62 bits.
 use mathlib.Core.Bool.{Bool, true, false, cond}
 use mathlib.Core.Option.{Option, none, some}
 use mathlib.Core.List.{List}
@@ -10,6 +10,12 @@ use Rattle.settings.specs.Grounds.{Ground}
 use Rattle.settings.specs.Settings.{halfUp, isOdd, classes}
 use Rattle.settings.specs.Limits.{EvenUnder, Limits}
 use Rattle.encoding.specs.Words.{Mirror, Reversal, Complement, Ranks, mirrorRank, mirror, plain}
+
+-- ---- parts of a word
+
+-- n letters of w from place i.
+abbrev pub part : ℕ → ℕ → List ℕ → List ℕ
+part i n w = take n (drop i w)
 
 -- ---- the scan
 

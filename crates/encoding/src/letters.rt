@@ -12,6 +12,7 @@ use crate::ranks;
 use settings::Mirror;
 use settings::Rank;
 
+// Where in a word a byte is found, or that it is nowhere.
 pub enum Place {
     At(usize),
     Nowhere,
@@ -84,7 +85,7 @@ pub fn write_mirror(letters: &[u8], word: &[u8], m: Mirror, out: &mut [u8])
     write_letters(letters, &other[..k], out);
 }
 
-// The plain rank of a word of letters.
+// The plain rank of a word of letters. It is the same under either mirror: so it asks for the limits of reversal, under which s may be odd.
 pub fn plain_of(letters: &[u8], word: &[u8]) -> PlainRank
     requires { ⌜ Limits (length (now letters)) Reversal (length (now word)) ⌝ }
     ensures { λ r. ⌜ r .0 ≡ plain (length (now (letters .entry))) (ranksOf (now (letters .entry)) (now (word .entry))) ⌝ }

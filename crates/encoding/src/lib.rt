@@ -22,6 +22,7 @@ pub struct PlainRank(pub u64);
 
 pub struct Code(pub u64);
 
+// What coding a word answers: its code, or why it is refused.
 pub enum Coding {
     Coded(Code),
     Refused(Refusal),

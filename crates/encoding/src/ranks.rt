@@ -8,7 +8,7 @@ ghost use Rattle.encoding.specs.Needs.{FitWord};
 use crate::PlainRank;
 use settings::Mirror;
 
-// What the mirror makes of a rank.
+// What the mirror makes of a rank. A rank below s is asked, so that s - 1 - rank does not wrap below 0.
 pub fn mirror_rank(s: u64, m: Mirror, rank: u64) -> u64
     requires { ⌜ rank < s ⌝ }
     ensures { λ r. ⌜ r ≡ mirrorRank s m rank ⌝ }

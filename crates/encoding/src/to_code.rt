@@ -117,14 +117,14 @@ pub fn word_code(letters: &[u8], word: &[u8], m: Mirror) -> Code
     let mut own = [0u64; 64];
     let mut other = [0u64; 64];
     letters::fill_ranks(letters, word, &mut own);
-    let a = &own[..k];
-    ranks::fill_mirror(a, s, m, &mut other);
-    let b = &other[..k];
-    let p = ranks::plain_rank(a, s);
-    let q = ranks::plain_rank(b, s);
-    if p.0 <= q.0 {
-        canonical_code(a, s, m)
+    let own_word = &own[..k];
+    ranks::fill_mirror(own_word, s, m, &mut other);
+    let other_word = &other[..k];
+    let own_rank = ranks::plain_rank(own_word, s);
+    let other_rank = ranks::plain_rank(other_word, s);
+    if own_rank.0 <= other_rank.0 {
+        canonical_code(own_word, s, m)
     } else {
-        canonical_code(b, s, m)
+        canonical_code(other_word, s, m)
     }
 }

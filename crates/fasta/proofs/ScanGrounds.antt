@@ -2,7 +2,6 @@
 -- first fault. And that what a scan takes in adds up.
 use mathlib.Core.Path.{_≡_}
 use Prim.Native.Nat.{ℕ, _+_, _<_, _≤_}
-use native.Mathlib.Omega.{arith}
 use mathlib.Core.Option.{none}
 use mathlib.Core.List.{List}
 use lib.ListN.{length}
@@ -47,4 +46,4 @@ unfolding scanGround
 taken-adds letters k mirror file n e =
     let p = passed (fileNumbers (rankIn letters) k file) (scanGround letters k mirror file) e in
     let h = good-settings letters k mirror (first-none (settingsGround letters k mirror) _ (p .none-applies)) .some-k in
-    rw (p .value) (letters-are (rankIn letters) k file (omega arith))
+    rw (p .value) (letters-are (rankIn letters) k file h)

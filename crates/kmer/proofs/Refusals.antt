@@ -108,7 +108,7 @@ unfolding sequenceGround
 sequence-small letters k m sequence room =
     sizes-small letters k m (ltb 16777216 (length sequence)) room (length (windows k sequence))
     (λ passed short.
-    let some-k : 1 ≤ k = omega (arith, good-settings letters k m passed .some-k) in
+    let some-k = good-settings letters k m passed .some-k in
     let within = ltb-false 16777216 (length sequence) (test-fails 6 (ltb 16777216 (length sequence)) short) in
     omega (arith, length-windows k some-k sequence, within))
 

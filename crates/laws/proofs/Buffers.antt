@@ -1,19 +1,22 @@
 -- A lent list that is written from its start with the numbers of a list C, one after the other or several at once. Its later places stay as
--- they were before the first was written.
+-- they were before the first was written. And the front of an array that was so written.
 use mathlib.Core.Path.{_≡_, refl, sym, ap, _∙_}
-use mathlib.Core.List.{List, _++_, append-assoc, append-nil}
-use Prim.Native.Nat.{ℕ, _+_, _<_, _≤_}
+use mathlib.Core.List.{List, [], _∷_, _++_, append-assoc, append-nil}
+use Prim.Native.Nat.{ℕ, suc, _+_, _<_, _≤_}
 use native.Mathlib.Numerals.{add-one}
 use native.Mathlib.Omega.{arith}
 use lib.ListN.{length, getD, take, drop, set, length-append, length-drop, length-set, drop-of-length-le}
-use lib.Seq.{take-suc, take-all, take-at, drop-at, take-add, drop-drop, drop-set-lt, length-take-le}
-use Rattle.laws.proofs.Lists.{write-next}
+use lib.Seq.{drop-cons, append-snoc, set-at, take-suc, take-all, take-at, drop-at, take-add, drop-drop, drop-set-lt, length-take-le}
 
 -- The first n places of out hold the first n numbers of C, the others what the list o held before.
 pub record Written (C o : List ℕ) (n : ℕ) (out : List ℕ) : Type 0 where
   pub is : out ≡ take n C ++ drop n o
   pub upto : n ≤ length C
   pub room : length C ≤ length o
+
+-- A buffer d that is written from its start, u so far: the next place is set.
+write-next : (u d : List ℕ) (i a : ℕ) → length u ≡ i → i < length d → set (u ++ drop i d) i a ≡ (u ++ (a ∷ [])) ++ drop (i + 1) d
+write-next u d i a l h = rw (add-one i, drop-cons d i 0 h) (set-at u (getD d i 0) (drop (suc i) d) a i l ∙ sym (append-snoc u a (drop (suc i) d)))
 
 -- Before the first is written.
 pub written-none : (C o : List ℕ) → length C ≤ length o → Written C o 0 o
@@ -69,3 +72,16 @@ module _ {C : List ℕ} (o : List ℕ) (x : ℕ) where
 
   pub written-rest : {n : ℕ} {out : List ℕ} → 0 < n → Written C (set o 0 x) n out → Written C o n out
   written-rest {n} h W = record { is = W .is ∙ rw (drop-set-lt n o 0 x h); upto = W .upto; room = rw (length-set o 0 x) at (W .room) }
+
+-- ---- the front of an array
+
+-- An array x whose first n places hold a list, and then a rest.
+module _ (front rest : List ℕ) {x : List ℕ} {n : ℕ} (is : x ≡ front ++ rest) (n-long : length front ≡ n) where
+  pub front-is : take n x ≡ front
+  front-is = rw is (take-at front rest n n-long)
+
+  pub front-fits : n ≤ length x
+  front-fits = omega (arith, ap length is, length-append front rest)
+
+  pub front-length : length (take n x) ≡ n
+  front-length = ap length front-is ∙ n-long

@@ -17,6 +17,14 @@ three s n e f h =
     let g : n ≡ n - e - f + f + e = omega arith in
     ap (λ (x : ℕ). s ^ x) g ∙ pow-add s (n - e - f + f) e ∙ ap (λ (x : ℕ). x * s ^ e) (pow-add s (n - e - f) f)
 
+-- A number with a digit more at each end, by its lowest digit.
+ends-low : (s n a x b : ℕ) → a * s ^ suc n + x * s + b ≡ (a * s ^ n + x) * s + b
+ends-low s n a x b = omega (arith, ap (λ (y : ℕ). a * y) (pow-suc s n))
+
+-- A number with a digit more at its front, by what stands above its e lowest digits.
+high-split : (s n a x e : ℕ) → e ≤ n → a * s ^ n + x ≡ x + (a * s ^ (n - e)) * s ^ e
+high-split s n a x e h = omega (arith, ap (λ (y : ℕ). a * y) (pow-split s n e h))
+
 -- A digit above the window does not show in it.
 window-high : (s n a x e f : ℕ) → 1 < s → e + f ≤ n → window s e f (a * s ^ n + x) ≡ window s e f x
 unfolding window
@@ -33,8 +41,7 @@ window-low s x b e f h = rw (pow-succ' s e, ← (div-div-eq-div-mul (x * s + b) 
 -- A digit more at each end moves the digits between by one place.
 pub window-ends : (s n a x b e f : ℕ) → 1 < s → b < s → e + f ≤ n → window s (suc e) f (a * s ^ suc n + x * s + b) ≡ window s e f x
 window-ends s n a x b e f hs hb h =
-    let g : a * s ^ suc n + x * s + b ≡ (a * s ^ n + x) * s + b = omega (arith, ap (λ (y : ℕ). a * y) (pow-suc s n)) in
-    ap (window s (suc e) f) g ∙ window-low s (a * s ^ n + x) b e f hb ∙ window-high s n a x e f hs h
+    ap (window s (suc e) f) (ends-low s n a x b) ∙ window-low s (a * s ^ n + x) b e f hb ∙ window-high s n a x e f hs h
 
 -- The first digit.
 pub window-first : (s n a y : ℕ) → a < s → y < s ^ n → window s n 1 (a * s ^ n + y) ≡ a
@@ -49,11 +56,15 @@ window-inner s n a x b hs hb hx = window-ends s n a x b 0 n hs hb (omega arith) 
 -- The low digits, with a digit more at each end.
 pub low-ends : (s n a x b p : ℕ) → 1 < s → b < s → p ≤ n → (a * s ^ suc n + x * s + b) % s ^ suc p ≡ x % s ^ p * s + b
 low-ends s n a x b p hs hb h =
-    let g : a * s ^ suc n + x * s + b ≡ (a * s ^ n + x) * s + b = omega (arith, ap (λ (y : ℕ). a * y) (pow-suc s n)) in
     let hs0 : 0 < s = omega arith in
-    let e : s ^ n ≡ s ^ (n - p) * s ^ p = pow-split s n p h in
-    let k : a * s ^ n + x ≡ x + (a * s ^ (n - p)) * s ^ p = omega (arith, ap (λ (y : ℕ). a * y) e) in
-    rw (g, pow-suc s p, mod-mul ((a * s ^ n + x) * s + b) (pow-pos s p hs) hs0, digits-div (a * s ^ n + x) hb, digits-mod (a * s ^ n + x) hb, k)
+    rw (
+      ends-low s n a x b,
+      pow-suc s p,
+      mod-mul ((a * s ^ n + x) * s + b) (pow-pos s p hs) hs0,
+      digits-div (a * s ^ n + x) hb,
+      digits-mod (a * s ^ n + x) hb,
+      high-split s n a x p h,
+    )
     (ap (λ (y : ℕ). y * s + b) (add-mul-mod-self-right x (a * s ^ (n - p)) (s ^ p)))
 
 -- ---- the first digits
@@ -61,9 +72,13 @@ low-ends s n a x b p hs hb h =
 -- The first digits of a number with a digit more at each end.
 pub prefix-ends : (s n a x b e : ℕ) → 1 < s → b < s → e ≤ n → (a * s ^ suc n + x * s + b) / s ^ suc e ≡ a * s ^ (n - e) + x / s ^ e
 prefix-ends s n a x b e hs hb h =
-    let g : a * s ^ suc n + x * s + b ≡ (a * s ^ n + x) * s + b = omega (arith, ap (λ (y : ℕ). a * y) (pow-suc s n)) in
-    let k : a * s ^ n + x ≡ x + (a * s ^ (n - e)) * s ^ e = omega (arith, ap (λ (y : ℕ). a * y) (pow-split s n e h)) in
-    rw (g, pow-succ' s e, ← (div-div-eq-div-mul ((a * s ^ n + x) * s + b) s (s ^ e)), digits-div (a * s ^ n + x) hb, k)
+    rw (
+      ends-low s n a x b,
+      pow-succ' s e,
+      ← (div-div-eq-div-mul ((a * s ^ n + x) * s + b) s (s ^ e)),
+      digits-div (a * s ^ n + x) hb,
+      high-split s n a x e h,
+    )
     (add-mul-div-right x (a * s ^ (n - e)) (pow-pos s e hs) ∙ omega arith)
 
 -- The digits from e on are a number of n - e digits.

@@ -1,16 +1,28 @@
--- Lists with one element more: at the end of a map, and written at the next place of a buffer.
-use mathlib.Core.Path.{_≡_, refl, sym, ap, _∙_}
-use mathlib.Core.List.{List, [], _∷_, _++_, map}
-use Prim.Native.Nat.{ℕ, suc, _+_, _<_}
-use native.Mathlib.Numerals.{add-one}
-use lib.ListN.{length, getD, drop, set}
-use lib.Seq.{drop-cons, append-snoc, set-at}
+-- One number of a list that is mapped, and of one that is read backwards.
+use mathlib.Core.Path.{_≡_, refl, ap, _∙_}
+use mathlib.Core.List.{List, [], _∷_, _++_, map, reverse, reverse-cons}
+use Prim.Native.Nat.{ℕ, zero, suc, _-_, _<_}
+use native.Mathlib.Decide.{decLt}
+use native.Mathlib.Omega.{arith}
+use lib.ListN.{length, getD, length-reverse, List·getD-append}
+use lib.Seq.{getD-at}
 
-pub map-snoc : (f : ℕ → ℕ) (u : List ℕ) (b : ℕ) → map f (u ++ (b ∷ [])) ≡ map f u ++ (f b ∷ [])
-map-snoc f [] b = refl
-map-snoc f (a ∷ u) b = ap (λ (l : List ℕ). f a ∷ l) (map-snoc f u b)
+-- Of a list that is mapped. (The library's law has the map of the default where there is no such number.)
+pub getD-map-in : (f : ℕ → ℕ) (l : List ℕ) (i : ℕ) → i < length l → getD (map f l) i 0 ≡ f (getD l i 0)
+getD-map-in f [] i h = absurd (omega arith)
+getD-map-in f (a ∷ l) zero h = refl
+getD-map-in f (a ∷ l) (suc i) h = getD-map-in f l i (omega arith)
 
--- A buffer d that is written from its start, u so far: the next place is set.
-pub write-next : (u d : List ℕ) (i a : ℕ) → length u ≡ i → i < length d → set (u ++ drop i d) i a ≡ (u ++ (a ∷ [])) ++ drop (i + 1) d
-write-next u d i a l h =
-    rw (add-one i, drop-cons d i 0 h) (set-at u (getD d i 0) (drop (suc i) d) a i l ∙ sym (append-snoc u a (drop (suc i) d) ∙ refl))
+-- Of a list that is read backwards.
+pub getD-reverse : (l : List ℕ) (i : ℕ) → i < length l → getD (reverse l) i 0 ≡ getD l (length l - 1 - i) 0
+getD-reverse [] i h = absurd (omega arith)
+getD-reverse (a ∷ l) i h =
+    ap (λ (x : List ℕ). getD x i 0) (reverse-cons a l)
+    ∙ elim (decLt i (length l)) as (λ _. getD (reverse l ++ (a ∷ [])) i 0 ≡ getD (a ∷ l) (length (a ∷ l) - 1 - i) 0) [
+      | yes g ↦
+          let e : length (a ∷ l) - 1 - i ≡ suc (length l - 1 - i) = omega arith in
+          List·getD-append (reverse l) (a ∷ []) 0 i (omega (arith, length-reverse l)) ∙ getD-reverse l i g ∙ rw e
+      | no g ↦
+          let e : length (a ∷ l) - 1 - i ≡ 0 = omega arith in
+          getD-at (reverse l) a [] 0 i (length-reverse l ∙ omega arith) ∙ rw e
+    ]

@@ -1,7 +1,7 @@
 -- Powers of a base s: they are positive, split, share the parity of s, and small powers have small exponents.
 use mathlib.Core.Path.{_≡_, refl, ap, _∙_}
 use Prim.Native.Nat.{ℕ, zero, suc, _+_, _-_, _*_, _/_, _%_, _^_, _<_, _≤_}
-use native.Mathlib.Nat.{pow-zero, pow-suc, one-le-pow, one-mul, pow-le-pow-right, pow-le-pow-left}
+use native.Mathlib.Nat.{pow-zero, pow-suc, one-le-pow, one-mul, le-trans, pow-le-pow-right, pow-le-pow-left}
 use native.Mathlib.Decide.{decLe}
 use native.Mathlib.Omega.{arith}
 use lib.Pow.{pow-add}
@@ -16,6 +16,10 @@ pub pow-split : (s n e : ℕ) → e ≤ n → s ^ n ≡ s ^ (n - e) * s ^ e
 pow-split s n e h =
     let g : n ≡ n - e + e = omega arith in
     ap (λ (x : ℕ). s ^ x) g ∙ pow-add s (n - e) e
+
+-- A power that fits 62 bits has lower powers that do.
+pub pow-fits : (s n k : ℕ) → 1 < s → n ≤ k → s ^ k ≤ 2 ^ 62 → s ^ n ≤ 2 ^ 62
+pow-fits s n k hs h g = le-trans (pow-le-pow-right (omega arith) h) g
 
 -- A power of 2 or more that is at most 2^62 has an exponent of at most 62.
 pub exponent-le : (s k : ℕ) → 1 < s → s ^ k ≤ 2 ^ 62 → k ≤ 62
@@ -43,7 +47,7 @@ square (suc n) = omega (arith, square n)
 
 -- A power of s has the parity of s.
 pub parity : (s n : ℕ) → (t : ℕ) × (s ^ suc n ≡ s + 2 * t)
-parity s zero = (0, omega (arith, pow-suc s 0, ap (λ (x : ℕ). x * s) (pow-zero s)))
+parity s zero = (0, omega (arith, pow-one s))
 parity s (suc n) =
     let (t, e) = parity s n in
     (pairCount s + t * s, omega (arith, pow-suc s (suc n), square s, ap (λ (x : ℕ). x * s) e))

@@ -1,1 +1,1 @@
-// The lowest layer: it has no function, only definitions (specs/) and laws of numbers and lists (proofs/) that several crates cite.
+// The lowest layer: it has no function, only definitions (specs/) and laws (proofs/) of numbers, lists and tests that know nothing of letters.

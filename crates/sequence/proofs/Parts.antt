@@ -1,48 +1,15 @@
--- Parts of a list of ranks: their ends, their ranks, their plain rank and their mirror's with a letter more at either end.
-use mathlib.Core.Path.{_≡_, ap, _∙_, subst}
-use mathlib.Core.List.{List, [], _∷_, _++_}
-use Prim.Native.Nat.{ℕ, zero, suc, _+_, _*_, _/_, _%_, _^_, _<_, _≤_}
+-- Parts of a list of ranks: their plain rank and their mirror's with a letter more at either end.
+use mathlib.Core.Path.{_≡_, ap, _∙_}
+use mathlib.Core.List.{List}
+use Prim.Native.Nat.{ℕ, suc, _+_, _*_, _/_, _%_, _^_, _<_, _≤_}
 use native.Mathlib.Omega.{arith}
 use lib.Arith.{digits-div, digits-mod}
-use lib.ListN.{length, getD, take, drop, length-drop}
-use lib.Seq.{drop-cons, take-suc, getD-drop, length-take-le}
+use lib.ListN.{length, getD}
 use Rattle.encoding.specs.Words.{Mirror, Ranks, mirrorRank, mirror, plain}
 use Rattle.encoding.proofs.Ends.{plain-snoc, length-mirror, mirror-cons, mirror-snoc}
-use Rattle.encoding.proofs.Canonical.{mirrorRank-lt, plain-lt, Ranks-mirror}
+use Rattle.encoding.proofs.Canonical.{mirrorRank-lt, plain-below, Ranks-mirror}
+pub use Rattle.encoding.proofs.WordParts.{ranks-at, ranks-part, length-part, part-cons, part-snoc, part-ends}
 use Rattle.sequence.specs.Needs.{part}
-
-pub ranks-at : (s : ℕ) (w : List ℕ) (i : ℕ) → Ranks s w → i < length w → getD w i 0 < s
-ranks-at s [] i h g = absurd (omega arith)
-ranks-at s (a ∷ w) zero h g = h .0
-ranks-at s (a ∷ w) (suc i) h g = ranks-at s w i (h .1) (omega arith)
-
-ranks-take : (s n : ℕ) (w : List ℕ) → Ranks s w → Ranks s (take n w)
-ranks-take s zero w h = tt
-ranks-take s (suc n) [] h = tt
-ranks-take s (suc n) (a ∷ w) h = (h .0, ranks-take s n w (h .1))
-
-ranks-drop : (s i : ℕ) (w : List ℕ) → Ranks s w → Ranks s (drop i w)
-ranks-drop s zero w h = h
-ranks-drop s (suc i) [] h = tt
-ranks-drop s (suc i) (a ∷ w) h = ranks-drop s i w (h .1)
-
-pub ranks-part : (s i n : ℕ) (w : List ℕ) → Ranks s w → Ranks s (part i n w)
-ranks-part s i n w h = ranks-take s n (drop i w) (ranks-drop s i w h)
-
-pub length-part : (i n : ℕ) (w : List ℕ) → i + n ≤ length w → length (part i n w) ≡ n
-length-part i n w h = length-take-le n (drop i w) (omega (arith, length-drop i w))
-
-pub part-cons : (i n : ℕ) (w : List ℕ) → i < length w → part i (suc n) w ≡ getD w i 0 ∷ part (suc i) n w
-part-cons i n w h = ap (take (suc n)) (drop-cons w i 0 h)
-
-pub part-snoc : (i n : ℕ) (w : List ℕ) → i + n < length w → part i (suc n) w ≡ part i n w ++ (getD w (i + n) 0 ∷ [])
-part-snoc i n w h = take-suc (drop i w) n 0 (omega (arith, length-drop i w)) ∙ rw (getD-drop i w n 0)
-
-pub part-ends : (i n : ℕ) (w : List ℕ) → i + suc (suc n) ≤ length w
-    → part i (suc (suc n)) w ≡ getD w i 0 ∷ (part (suc i) n w ++ (getD w (i + suc n) 0 ∷ []))
-part-ends i n w h =
-    let e : suc i + n ≡ i + suc n = omega arith in
-    part-cons i (suc n) w (omega arith) ∙ ap (λ (l : List ℕ). getD w i 0 ∷ l) (part-snoc (suc i) n w (omega arith) ∙ rw e)
 
 -- ---- plain ranks
 
@@ -55,7 +22,7 @@ module _ (s i n : ℕ) (w : List ℕ) where
   plain-first h = ap (plain s) (part-cons i n w (omega arith)) ∙ rw (length-part (suc i) n w (omega arith))
 
   pub part-lt : Ranks s w → i + n ≤ length w → plain s (part i n w) < s ^ n
-  part-lt h g = subst (λ (x : ℕ). plain s (part i n w) < s ^ x) (length-part i n w g) (plain-lt s (part i n w) (ranks-part s i n w h))
+  part-lt h g = plain-below s n (part i n w) (length-part i n w g) (ranks-part s i n w h)
 
 -- ---- plain ranks of mirrors
 
@@ -75,8 +42,8 @@ module _ (s : ℕ) (m : Mirror) (i n : ℕ) (w : List ℕ) where
 
   pub back-lt : Ranks s w → i + n ≤ length w → plain s (mirror s m (part i n w)) < s ^ n
   back-lt h g =
-      subst (λ (x : ℕ). plain s (mirror s m (part i n w)) < s ^ x) (length-mirror s m (part i n w) ∙ length-part i n w g)
-      (plain-lt s (mirror s m (part i n w)) (Ranks-mirror s m n (part i n w) (length-part i n w g) (ranks-part s i n w h)))
+      plain-below s n (mirror s m (part i n w)) (length-mirror s m (part i n w) ∙ length-part i n w g)
+      (Ranks-mirror s m n (part i n w) (length-part i n w g) (ranks-part s i n w h))
 
 -- ---- from the part of n + 1 letters at i to the next one
 

@@ -5,12 +5,12 @@ use mathlib.Core.Option.{none, some, Option}
 use mathlib.Core.List.{List, map, [], _∷_}
 use Prim.Native.Nat.{ℕ, zero, _<_, suc}
 use native.Mathlib.Omega.{arith}
-use borrow.Author.Tests.{eq-eqb, ne-eqb}
 use lib.Dec.{T, leb}
 use lib.ListN.{length, length-map, getD, take, length-take}
 use lib.Seq.{getD-take}
 use Rattle.encoding.specs.Calls.{rankOrZero, ranksOf}
 use Rattle.encoding.specs.Words.{Ranks}
+pub use Rattle.settings.proofs.RankTables.{as-none, as-itself}
 use Rattle.settings.specs.RankTables.{asRank, RankTable, RanksBelow, rankByTable}
 use Rattle.settings.specs.Settings.{rankIn, mirrorOf}
 use Rattle.laws.specs.Windows.{windows}
@@ -18,15 +18,6 @@ use Rattle.sequence.specs.Needs.{ranksBy, allRanked, codeBy}
 use Rattle.sequence.specs.Sequences.{allLetters, isRank, codeOrNone, sequenceCodes}
 
 -- ---- a rank as a byte
-
-module _ (x : ℕ) where
-  pub as-none : x ≡ 255 → asRank x ≡ none
-  unfolding asRank
-  as-none e = rw (eq-eqb x 255 e)
-
-  pub as-itself : (x ≡ 255 → ⊥) → asRank x ≡ some x
-  unfolding asRank
-  as-itself e = rw (ne-eqb x 255 e)
 
 -- The rank that stands for a byte in a list of ranks.
 module _ (x : ℕ) where

@@ -39,7 +39,7 @@ module _ (letters : List ℕ) (k m : ℕ) (sequence old : List ℕ) where
 
   module _ (good : settingsGround letters k m ≡ none) where
     some-k : 1 ≤ k
-    some-k = let ne = good-settings letters k m good .some-k in omega (arith, ne)
+    some-k = good-settings letters k m good .some-k
 
     pub too-large : 16777216 < length sequence → FillsCodes letters k m sequence old (Unfilled TooLarge) old
     unfolding sequenceGround
@@ -80,7 +80,7 @@ module _ (letters : List ℕ) (k m : ℕ) (good : settingsGround letters k m ≡
       let L = limits letters k m good in
       record {
         limits = L;
-        some = let ne = good-settings letters k m good .some-k in omega (arith, ne);
+        some = good-settings letters k m good .some-k;
         count = omega (arith, twice-classes (length letters) (mirrorOf m) k (L .even));
         takes = takes;
         table = P;

@@ -6,13 +6,14 @@ use mathlib.Core.List.{List, [], _∷_, _++_, map}
 use mathlib.Core.Option.{Option}
 use mathlib.Core.Logic.{_≢_}
 use Prim.Native.Nat.{ℕ, suc, _+_, _-_, _/_, _^_, _<_, _≤_, min, max}
-use lib.ListN.{length, getD, take, drop}
+use lib.ListN.{length, getD, drop}
 use Rattle.settings.specs.Limits.{Limits}
 use Rattle.settings.specs.RankTables.{rankByTable}
 use Rattle.encoding.specs.Words.{Mirror, Complement, Ranks, mirrorRank, mirror, plain}
 use Rattle.encoding.specs.Codes.{code}
 use Rattle.encoding.specs.Calls.{rankOrZero}
 use Rattle.encoding.specs.Needs.{palindromes}
+pub use Rattle.encoding.specs.Needs.{part}
 use Rattle.sequence.specs.Sequences.{noCode, isRank}
 use Rattle.sequence.specs.declared.general.Inner.{Inner}
 use Rattle.sequence.specs.declared.kernels.Kernel.{Kernel}
@@ -20,10 +21,6 @@ use Rattle.sequence.specs.declared.kernels.Kernel.the-variants.{AnyAlpha
 use Rattle.sequence.specs.declared.kernels.Coder.{Coder}
 
 -- ---- lists
-
--- n letters of w from place i.
-abbrev pub part : ℕ → ℕ → List ℕ → List ℕ
-part i n w = take n (drop i w)
 
 -- A lent list after its first places were written: the new numbers, then the old places.
 pub record Fills (places old new : List ℕ) : Type 0 where

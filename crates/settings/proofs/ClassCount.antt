@@ -1,10 +1,12 @@
 -- The number of classes as `class_count` works it out from s^k and s^(k/2), and ground 4 from the power that stops above 2^62.
 use mathlib.Core.Path.{_≡_, ap}
 use Prim.Native.Nat.{ℕ, suc, _+_, _*_, _/_, _%_, _^_, _<_, _≤_, min}
-use native.Mathlib.Nat.{pow-suc, pow-le-pow-right}
+use native.Mathlib.Nat.{pow-suc}
 use native.Mathlib.Omega.{arith}
 use mathlib.Core.Bool.{true, false}
 use borrow.Author.Tests.{eq-eqb, ne-eqb, lt-ltb, le-ltb}
+use Rattle.laws.proofs.Powers.{pow-fits}
+use Rattle.settings.proofs.Powers.{capped}
 use Rattle.settings.specs.declared.Mirror.the-variants.{Reversal, Complement}
 use Rattle.settings.specs.Settings.{classes, halfUp, isOdd, badSize}
 
@@ -17,18 +19,16 @@ pub record Powered (s k words half : ℕ) : Type 0 where
 
 module _ (s k words half : ℕ) (p : Powered s k words half) where
   words-is : words ≡ s ^ k
-  words-is = omega (arith, p .small, p .words-by)
+  words-is = capped s k k words (p .two) (omega arith) (p .small) (p .words-by)
 
   half-is : half ≡ s ^ (k / 2)
-  half-is =
-      let le : s ^ (k / 2) ≤ s ^ k = pow-le-pow-right (omega (arith, p .two)) (omega arith) in
-      omega (arith, p .small, p .half-by)
+  half-is = capped s k (k / 2) half (p .two) (omega arith) (p .small) (p .half-by)
 
   -- For odd k the palindromes under reversal are s^(k/2) · s many, no more than all words.
   pub odd-fits : k % 2 ≡ 1 → half * s ≤ 2 ^ 62
   odd-fits e =
-      let le : s ^ suc (k / 2) ≤ s ^ k = pow-le-pow-right (omega (arith, p .two)) (omega arith) in
-      omega (arith, p .small, pow-suc s (k / 2), ap (λ (h : ℕ). h * s) half-is)
+      let fits : s ^ suc (k / 2) ≤ 2 ^ 62 = pow-fits s (suc (k / 2)) k (p .two) (omega arith) (p .small) in
+      omega (arith, pow-suc s (k / 2), ap (λ (h : ℕ). h * s) half-is)
 
   pub odd-reversal : k % 2 ≡ 1 → (words + half * s) / 2 ≡ classes s Reversal k
   unfolding classes halfUp

@@ -1,9 +1,8 @@
 -- The test of the letters by what is left of them: one turn of the loops of `is_in` and `good_letters`, and what good letters are.
-use mathlib.Core.Path.{_≡_, refl, sym, ap}
+use mathlib.Core.Path.{_≡_, sym, ap}
 use Prim.Native.Nat.{ℕ, _+_, _<_, _≤_}
 use native.Mathlib.Numerals.{add-one}
-use native.Mathlib.Omega.{arith}
-use mathlib.Core.Bool.{Bool, true, false, and-false, _&&_}
+use mathlib.Core.Bool.{true, false, and-false, and-eq-true-iff, _&&_}
 use mathlib.Core.List.{List}
 use lib.ListN.{length, getD, drop, drop-of-length-le}
 use lib.Seq.{drop-cons}
@@ -25,55 +24,52 @@ module _ (l : List ℕ) (i b : ℕ) where
   in-none h = rw (drop-of-length-le l h)
 
 module _ (l : List ℕ) (i : ℕ) where
-  pub small : i < length l → getD l i 0 < 65 → false ≡ differentCapitals (drop i l)
+  pub below-A : i < length l → getD l i 0 < 65 → false ≡ differentCapitals (drop i l)
   unfolding differentCapitals isCapital
-  small h g = rw (drop-cons l i 0 h, lt-leb 65 (getD l i 0) g)
+  below-A h g = rw (drop-cons l i 0 h, lt-leb 65 (getD l i 0) g)
 
-  pub great : i < length l → 90 < getD l i 0 → false ≡ differentCapitals (drop i l)
+  pub above-Z : i < length l → 90 < getD l i 0 → false ≡ differentCapitals (drop i l)
   unfolding differentCapitals isCapital
-  great h g = rw (drop-cons l i 0 h, lt-leb (getD l i 0) 90 g, and-false (leb 65 (getD l i 0)))
+  above-Z h g = rw (drop-cons l i 0 h, lt-leb (getD l i 0) 90 g, and-false (leb 65 (getD l i 0)))
 
-  pub twice : i < length l → true ≡ isIn (getD l i 0) (drop (i + 1) l) → false ≡ differentCapitals (drop i l)
+  pub repeated : i < length l → true ≡ isIn (getD l i 0) (drop (i + 1) l) → false ≡ differentCapitals (drop i l)
   unfolding differentCapitals
-  twice h g = rw (drop-cons l i 0 h, ← (add-one i), ← g, and-false (isCapital (getD l i 0)))
+  repeated h g = rw (drop-cons l i 0 h, ← (add-one i), ← g, and-false (isCapital (getD l i 0)))
 
-  pub fine : i < length l → 65 ≤ getD l i 0 → getD l i 0 ≤ 90 → false ≡ isIn (getD l i 0) (drop (i + 1) l)
+  pub next-good : i < length l → 65 ≤ getD l i 0 → getD l i 0 ≤ 90 → false ≡ isIn (getD l i 0) (drop (i + 1) l)
       → differentCapitals (drop i l) ≡ differentCapitals (drop (i + 1) l)
   unfolding differentCapitals isCapital
-  fine h g f e =
+  next-good h g f e =
       rw (drop-cons l i 0 h, ← (add-one i), le-leb 65 (getD l i 0) g, le-leb (getD l i 0) 90 f, ← e)
       (ap (λ (n : ℕ). differentCapitals (drop n l)) (sym (add-one i)))
 
-  pub all-fine : length l ≤ i → true ≡ differentCapitals (drop i l)
+  pub all-good : length l ≤ i → true ≡ differentCapitals (drop i l)
   unfolding differentCapitals
-  all-fine h = rw (drop-of-length-le l h)
+  all-good h = rw (drop-of-length-le l h)
 
 module _ (l : List ℕ) where
-  pub few : length l < 2 → false ≡ goodLetters l
+  pub too-few : length l < 2 → false ≡ goodLetters l
   unfolding goodLetters
-  few h = rw (lt-leb 2 (length l) h)
+  too-few h = rw (lt-leb 2 (length l) h)
 
-  pub many : 16 < length l → false ≡ goodLetters l
+  pub too-many : 16 < length l → false ≡ goodLetters l
   unfolding goodLetters
-  many h = rw (lt-leb (length l) 16 h, and-false (leb 2 (length l)))
+  too-many h = rw (lt-leb (length l) 16 h, and-false (leb 2 (length l)))
 
   pub some-letters : 2 ≤ length l → length l ≤ 16 → goodLetters l ≡ differentCapitals l
   unfolding goodLetters
   some-letters h g = rw (le-leb 2 (length l) h, le-leb (length l) 16 g)
 
-  pub good-at-least : true ≡ goodLetters l → 2 ≤ length l
-  unfolding goodLetters
-  good-at-least e = go (leb 2 (length l)) (leb (length l) 16) (differentCapitals l) refl e
-    where
-      go : (a b c : Bool) → leb 2 (length l) ≡ a → true ≡ (a && (b && c)) → 2 ≤ length l
-      go true b c f g = leb-true 2 (length l) f
-      go false b c f g = let z : _≡_ {A = ℕ} 0 1 = cc in omega arith
+  -- The tests of the length of good letters.
+  module _ (good : true ≡ goodLetters l) where
+    tests : (leb 2 (length l) ≡ true) × (leb (length l) 16 ≡ true)
+    unfolding goodLetters
+    tests =
+        let rest = and-eq-true-iff (leb 2 (length l)) (leb (length l) 16 && differentCapitals l) .0 (sym good) in
+        (rest .0, and-eq-true-iff (leb (length l) 16) (differentCapitals l) .0 (rest .1) .0)
 
-  pub good-at-most : true ≡ goodLetters l → length l ≤ 16
-  unfolding goodLetters
-  good-at-most e = go (leb 2 (length l)) (leb (length l) 16) (differentCapitals l) refl e
-    where
-      go : (a b c : Bool) → leb (length l) 16 ≡ b → true ≡ (a && (b && c)) → length l ≤ 16
-      go true true c f g = leb-true (length l) 16 f
-      go true false c f g = let z : _≡_ {A = ℕ} 0 1 = cc in omega arith
-      go false b c f g = let z : _≡_ {A = ℕ} 0 1 = cc in omega arith
+    pub good-at-least : 2 ≤ length l
+    good-at-least = leb-true 2 (length l) (tests .0)
+
+    pub good-at-most : length l ≤ 16
+    good-at-most = leb-true (length l) 16 (tests .1)

@@ -2,6 +2,7 @@
 pub mod Outcomes
 pub mod Places
 pub mod Powers
+pub mod Limits
 pub mod Ranks
 pub mod RankTables
 pub mod Letters

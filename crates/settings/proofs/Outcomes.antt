@@ -1,7 +1,7 @@
 -- How answers with grounds compose: a refusal stands whatever grounds come after it, and what is given means that no ground applies.
 -- A refused call leaves its buffer as it was. From the definitions of specs/Grounds.antt alone.
 use mathlib.Core.Path.{_≡_, ap, refl}
-use mathlib.Core.Bool.{Bool, false, true, cond, _||_}
+use mathlib.Core.Bool.{Bool, false, true, cond}
 use mathlib.Core.Option.{Option, none, some}
 use mathlib.Core.List.{List, _++_}
 use Prim.Native.Nat.{ℕ, _≤_}
@@ -9,6 +9,8 @@ use native.Mathlib.Omega.{arith}
 use lib.ListN.{drop, length}
 use lib.Dec.{ltb}
 use borrow.Author.Tests.{ltb-false}
+-- Two tests of one ground both fail where it does not apply.
+pub use Rattle.laws.proofs.Tests.{both-fail}
 use Rattle.settings.specs.Grounds.{refused, Ground, outcome, _orElse_, given, ground, groundAt, tooShort, unlessRefused, Overwrites}
 
 -- A call refused by the grounds g is refused alike by g with more grounds after it, whatever value is at stake.
@@ -47,11 +49,6 @@ test-fails n false e = refl
 pub nowhere-met : (n : ℕ) (o : Option ℕ) → groundAt n o ≡ none → o ≡ none
 nowhere-met n none e = refl
 nowhere-met n (some p) e = absurd (let z : _≡_ {A = ℕ} 0 1 = cc in omega arith)
-
--- Two tests of one ground both fail where it does not apply.
-pub both-fail : (a b : Bool) → (a || b) ≡ false → (a ≡ false) × (b ≡ false)
-both-fail true b e = absurd (let z : _≡_ {A = ℕ} 0 1 = cc in omega arith)
-both-fail false b e = (refl, e)
 
 -- Where ground 7 does not apply, the buffer has the length needed.
 pub room-enough : (room needed : ℕ) → tooShort room needed ≡ none → needed ≤ room

@@ -1,20 +1,27 @@
--- The table of all bytes' ranks, filled from the front by the loop of `fill_rank_table`, and the ranks that it has.
+-- A rank as a byte, and the table of all bytes' ranks: filled from the front by the loop of `fill_rank_table`, and the ranks that it has.
 use mathlib.Core.Path.{_≡_, sym, _∙_}
-use mathlib.Core.Option.{some}
+use mathlib.Core.Option.{none, some}
 use mathlib.Core.List.{List}
 use Prim.Native.Nat.{ℕ, _<_, _+_, _≤_}
 use native.Mathlib.Decide.{ℕ-discrete}
 use native.Mathlib.Omega.{arith}
-use borrow.Author.Tests.{ne-eqb}
+use borrow.Author.Tests.{eq-eqb, ne-eqb}
 use lib.ListN.{length, set}
 use lib.Seq.{getD-set-same, getD-set-other}
 use Rattle.settings.specs.RankTables.{asRank, rankByTable, RankTable, RanksBelow}
 use Rattle.settings.specs.Settings.{rankIn}
 use Rattle.settings.proofs.Ranks.{rank-below-count}
 
-pub as-some : (x : ℕ) → x < 255 → asRank x ≡ some x
-unfolding asRank
-as-some x h = rw (ne-eqb x 255 (λ z. omega arith))
+-- ---- a rank as a byte
+
+module _ (x : ℕ) where
+  pub as-none : x ≡ 255 → asRank x ≡ none
+  unfolding asRank
+  as-none e = rw (eq-eqb x 255 e)
+
+  pub as-itself : (x ≡ 255 → ⊥) → asRank x ≡ some x
+  unfolding asRank
+  as-itself e = rw (ne-eqb x 255 e)
 
 -- ---- the table, filled from the front
 

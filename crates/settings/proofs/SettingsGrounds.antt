@@ -1,6 +1,6 @@
 -- The grounds 1 to 4 one after the other, as `check` meets them; and what is known of settings to which none of them applies.
 use mathlib.Core.Path.{_≡_, refl, sym, ap}
-use mathlib.Core.Bool.{false, true, not, Bool, _&&_}
+use mathlib.Core.Bool.{false, true, not, _&&_}
 use mathlib.Core.Option.{none}
 use mathlib.Core.List.{List}
 use Prim.Native.Nat.{ℕ, _<_, _%_, _≤_, _^_, zero, suc}
@@ -9,11 +9,12 @@ use borrow.Author.Tests.{lt-ltb, eq-eqb, ne-eqb, not-false, ltb-false, eqb-false
 use lib.Dec.{ltb, eqb}
 use lib.ListN.{length}
 use Rattle.laws.proofs.Powers.{exponent-le}
+use Rattle.laws.proofs.Tests.{both-fail, second-fails}
 use Rattle.settings.specs.Grounds.{ground, refused, outcome, given}
 use Rattle.settings.specs.Limits.{EvenUnder, Limits}
 use Rattle.settings.specs.Settings.{goodLetters, settingsGround, settingsOf, isOdd, badSize, settingsFor, mirrorOf, classes}
 use Rattle.settings.proofs.Letters.{good-at-least, good-at-most}
-use Rattle.settings.proofs.Outcomes.{later-none, test-fails, first-none, both-fail, passed}
+use Rattle.settings.proofs.Outcomes.{later-none, test-fails, first-none, passed}
 use Rattle.settings.specs.declared.Mirror.the-variants.{Reversal, Complement}
 use Rattle.settings.specs.declared.Settings.{Settings}
 
@@ -42,10 +43,6 @@ module _ (l : List ℕ) (k m : ℕ) where
 
 -- ---- what holds where no ground applies
 
-not-and : (a b : Bool) → (a && b) ≡ false → a ≡ true → b ≡ false
-not-and true b e f = e
-not-and false b e f = let z : true ≡ false = cc in absurd (let y : _≡_ {A = ℕ} 0 1 = cc in omega arith)
-
 -- Settings within the limits of document 01.
 pub record GoodSettings (l : List ℕ) (k m : ℕ) : Type 0 where
   pub capitals : goodLetters l ≡ true
@@ -53,7 +50,7 @@ pub record GoodSettings (l : List ℕ) (k m : ℕ) : Type 0 where
   pub few : length l ≤ 16
   pub low : m ≤ 1
   pub even : m ≡ 1 → length l % 2 ≡ 0
-  pub some-k : k ≡ 0 → ⊥
+  pub some-k : 1 ≤ k
   pub short-k : k ≤ 62
   pub small : length l ^ k ≤ 2 ^ 62
 
@@ -66,7 +63,7 @@ good-settings l k m e =
     let g4 = later-none (ground 3 (eqb m 1 && eqb (length l % 2) 1)) _ g3 in
     let good : true ≡ goodLetters l = sym (not-false (goodLetters l) (test-fails 1 _ (first-none _ _ e))) in
     let not-odd : m ≡ 1 → eqb (length l % 2) 1 ≡ false =
-    λ h. not-and (eqb m 1) (eqb (length l % 2) 1) (test-fails 3 _ (first-none _ _ g3)) (eq-eqb m 1 h) in
+    λ h. second-fails (eqb m 1) (eqb (length l % 2) 1) (test-fails 3 _ (first-none _ _ g3)) (eq-eqb m 1 h) in
     let size = both-fail (eqb k 0) (ltb (2 ^ 62) (length l ^ k)) (test-fails 4 _ g4) in
     let two = good-at-least l good in
     let small = ltb-false (2 ^ 62) (length l ^ k) (size .1) in
@@ -76,7 +73,7 @@ good-settings l k m e =
       few = good-at-most l good;
       low = ltb-false 1 m (test-fails 2 _ (first-none _ _ g2));
       even = λ h. let o : length l % 2 ≡ 1 → ⊥ = eqb-false (length l % 2) 1 (not-odd h) in omega arith;
-      some-k = eqb-false k 0 (size .0);
+      some-k = let k-not-0 : k ≡ 0 → ⊥ = eqb-false k 0 (size .0) in omega arith;
       short-k = exponent-le (length l) k two small;
       small = small;
     }

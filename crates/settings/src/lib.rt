@@ -90,18 +90,20 @@ pub struct Settings {
     pub classes: u64,
 }
 
+// What the check of settings gives: the settings, or why they are refused.
 pub enum Checked {
     Good(Settings),
     Bad(Refusal),
 }
 
+// A byte's rank among the letters, or that it is none of them.
 pub enum Rank {
     At(usize),
     NoLetter,
 }
 
 // A small letter's capital; any other byte itself.
-pub fn capital(b: u8) -> u8
+fn capital(b: u8) -> u8
     ensures { λ r. ⌜ r ≡ capitalOf b ⌝ }
 {
     if b >= 97 {
@@ -127,7 +129,7 @@ pub fn rank_of(letters: &[u8], b: u8) -> Rank
     Rank::NoLetter
 }
 
-// The rank of a byte as one byte, 255 for none.
+// The rank of a byte as one byte, 255 for none. With at most 16 letters no rank is 255.
 fn rank_byte(letters: &[u8], b: u8) -> u8
     requires { ⌜ length (now letters) ≤ 16 ⌝ }
     ensures { λ r. ⌜ asRank r ≡ rankIn (now (letters .entry)) b ⌝ }
@@ -138,6 +140,7 @@ fn rank_byte(letters: &[u8], b: u8) -> u8
     }
 }
 
+// Fills a table of 256 places with the ranks of all bytes.
 fn fill_rank_table(table: &mut [u8], letters: &[u8])
     requires { ⌜ (length (now table) ≡ 256) × (length (now letters) ≤ 16) ⌝ }
     ensures { λ _. ⌜ RankTable (now (letters .entry)) (now (table .exit)) ⌝ }
@@ -149,7 +152,8 @@ fn fill_rank_table(table: &mut [u8], letters: &[u8])
     }
 }
 
-// The ranks of all bytes, made once a call so that no byte of a file or sequence is searched for among the letters.
+// The ranks of all bytes, made once a call so that no byte of a file or sequence is searched for among the letters. At most 16 letters are asked, so
+// that 255, which stands for no letter, is no rank.
 pub fn rank_table(letters: &[u8]) -> [u8; 256]
     requires { ⌜ length (now letters) ≤ 16 ⌝ }
     ensures { λ r. ⌜ RankTable (now (letters .entry)) r ⌝ }
@@ -218,7 +222,7 @@ pub fn power(s: u64, k: usize) -> u64
     p
 }
 
-// The number of classes.
+// The number of classes. Words that fit 62 bits are asked, so that no product and no sum wraps.
 pub fn class_count(s: u64, m: Mirror, k: usize) -> u64
     requires { ⌜ (1 < s) × (s ^ k ≤ 2 ^ 62) ⌝ }
     ensures { λ r. ⌜ r ≡ classes s m k ⌝ }

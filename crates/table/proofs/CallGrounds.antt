@@ -200,7 +200,7 @@ module _ (letters : List ℕ) (k : ℕ) (file : List ℕ) (n : Numbers) (F : Cle
   unfolding windowsOfFile
   few-windows m good =
       let some-k = good-settings letters k m good .some-k in
-      omega (arith, n-windows, windows-fit (rankIn letters) k file (omega arith), F .short)
+      omega (arith, n-windows, windows-fit (rankIn letters) k file some-k, F .short)
 
 -- ---- from the table to its counts and back
 

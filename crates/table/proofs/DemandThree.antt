@@ -99,7 +99,7 @@ demand-three letters k m {files = files} {answers = answers} no-ground clearing 
     let good = settings-good letters k m no-ground clearing in
     let K = kept letters k m good clearedBook (cleared-agrees letters k m no-ground clearing) adds in
     let some-k = good-settings letters k m good .some-k in
-    let letters-are = added-up letters k (takenIn files answers) (omega arith) in
+    let letters-are = added-up letters k (takenIn files answers) some-k in
     let sum-is = K .counts-grow-by-the-windows-taken-in in
     let none-yet = cleared-sum letters k m no-ground clearing in
     record {

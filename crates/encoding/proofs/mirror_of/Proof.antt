@@ -1,13 +1,27 @@
 -- `encoding::mirror_of` meets its contract: a ground at each test, with the buffer as it was, and else the mirror.
-use mathlib.Core.Path.{sym, ap, _∙_}
+use mathlib.Core.Path.{_≡_, sym, ap, _∙_}
 use native.Mathlib.Omega.{arith}
 use borrow.Author.Needs.{needs}
-use Rattle.settings.specs.Settings.{ofChecked}
+use denote.Ref.{now}
+use Rattle.settings.specs.Grounds.{given, outcome}
+use Rattle.settings.specs.Settings.{ofChecked, settingsGround, settingsOf}
 use Rattle.encoding.specs.Answers.{ofPlace}
 use Rattle.encoding.proofs.CodeAnswers.{word-within}
 use Rattle.encoding.proofs.MirrorAnswers.{mirror-bad-length, mirror-into-short, mirror-bad-settings, mirror-bad-byte, mirror-written-out}
 use Rattle.encoding.proofs.mirror_of.Statement.{statement}
 use Rattle.encoding.proofs.mirror_of.Tie as tie
+
+-- Where the function began, from the place at which the check gave the settings; and that these passed it.
+abbrev start : tie.After-st → tie.Start
+start c = c .before .before .before .before .before .before
+
+abbrev PassedFrom : tie.After-st → Type 0
+PassedFrom c =
+    let a = start c .args in
+    given (c .st .given .0 .0) ≡ outcome (settingsGround (now (a .letters)) (a .k) (a .mirror)) (settingsOf (now (a .letters)) (a .k) (a .mirror))
+
+passed : (c : tie.After-st) → PassedFrom c
+passed c = sym (ap ofChecked (c .st .given .1)) ∙ c .before .before .check .ensures
 
 check-requires : tie.Need-check-requires
 check-requires c κs = search needs
@@ -19,21 +33,12 @@ enum-known-st : tie.Need-enum-known-st
 enum-known-st c = search needs
 
 returns : tie.Need-returns
-returns c =
-    let st = c .before .before in
-    let check = st .before .before in
-    let a = check .before .before .before .before .args in
-    let e = sym (ap ofChecked (st .st .given .1)) ∙ check .check .ensures in
-    mirror-bad-length (a .letters .now) (a .k) (a .mirror) (a .word .now) (a .out .now) _ e (c .if1 .taken)
+returns c = mirror-bad-length _ _ _ _ _ _ (passed (c .before .before)) (c .if1 .taken)
 
 returns-2 : tie.Need-returns-2
 returns-2 c =
     let if1 = c .before in
-    let st = if1 .before .before in
-    let check = st .before .before in
-    let a = check .before .before .before .before .args in
-    let e = sym (ap ofChecked (st .st .given .1)) ∙ check .check .ensures in
-    mirror-into-short (a .letters .now) (a .k) (a .mirror) (a .word .now) (a .out .now) _ e (if1 .if1 .left) (c .if2 .taken)
+    mirror-into-short _ _ _ _ _ _ (passed (if1 .before .before)) (if1 .if1 .left) (c .if2 .taken)
 
 foreign-at-requires : tie.Need-foreign-at-requires
 foreign-at-requires c κs = search needs
@@ -49,28 +54,21 @@ write-mirror-requires c κs =
     let if2 = c .before .before .before .before in
     let if1 = if2 .before in
     let st = if1 .before .before in
-    let check = st .before .before in
-    let a = check .before .before .before .before .args in
-    let e = sym (ap ofChecked (st .st .given .1)) ∙ check .check .ensures in
-    (word-within (a .letters .now) (a .k) (a .mirror) (a .word .now) _ e (if1 .if1 .left), omega (arith, if1 .if1 .left, if2 .if2 .left))
+    let a = start st .args in
+    let within = word-within (now (a .letters)) (a .k) (a .mirror) (now (a .word)) _ (passed st) (if1 .if1 .left) in
+    (within, omega (arith, if1 .if1 .left, if2 .if2 .left))
 
 returns-3 : tie.Need-returns-3
 returns-3 c =
     let f = c .before in
-    let check = f .before .before in
-    let a = check .before .before .before .before .args in
-    mirror-bad-settings (a .letters .now) (a .k) (a .mirror) (a .word .now) (a .out .now) _ (sym (ap ofChecked (f .f .given .1)) ∙ check .check .ensures)
+    mirror-bad-settings _ _ _ _ _ _ (sym (ap ofChecked (f .f .given .1)) ∙ f .before .before .check .ensures)
 
 returns-4 : tie.Need-returns-4
 returns-4 c =
     let i = c .before in
     let foreign = i .before .before in
     let if1 = foreign .before .before in
-    let st = if1 .before .before in
-    let check = st .before .before in
-    let a = check .before .before .before .before .args in
-    let e = sym (ap ofChecked (st .st .given .1)) ∙ check .check .ensures in
-    mirror-bad-byte (a .letters .now) (a .k) (a .mirror) (a .word .now) (a .out .now) _ e (if1 .if1 .left) (foreign .before .if2 .left) _
+    mirror-bad-byte _ _ _ _ _ _ (passed (if1 .before .before)) (if1 .if1 .left) (foreign .before .if2 .left) _
     (sym (foreign .foreign-at .ensures) ∙ ap ofPlace (i .i .given .1))
 
 same-length : tie.Need-same-length
@@ -82,11 +80,7 @@ returns-5 c =
     let told = written .before .before in
     let foreign = told .before .before in
     let if1 = foreign .before .before in
-    let st = if1 .before .before in
-    let check = st .before .before in
-    let a = check .before .before .before .before .args in
-    let e = sym (ap ofChecked (st .st .given .1)) ∙ check .check .ensures in
-    mirror-written-out (a .letters .now) (a .k) (a .mirror) (a .word .now) (a .out .now) _ e (if1 .if1 .left) (foreign .before .if2 .left)
+    mirror-written-out _ _ _ _ _ _ (passed (if1 .before .before)) (if1 .if1 .left) (foreign .before .if2 .left)
     (sym (foreign .foreign-at .ensures) ∙ ap ofPlace (told .enum-told .given .1)) _ (written .write-mirror .ensures)
 
 pub mirror-of-spec : {M : Type 1} → statement M

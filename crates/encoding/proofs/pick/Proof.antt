@@ -1,10 +1,25 @@
 -- `encoding::pick` meets its contract. Refused where coding either word is, and else the one of lower plain rank (PickAnswers).
-use mathlib.Core.Path.{sym, _∙_, refl}
+use mathlib.Core.Path.{_≡_, sym, _∙_, refl}
+use mathlib.Core.Bool.{true}
 use borrow.Author.Needs.{needs}
 use borrow.Author.Tests.{not-true, not-false}
+use denote.Ref.{now}
+use Rattle.encoding.specs.Calls.{codeGround}
+use Rattle.encoding.specs.Needs.{noneApplies}
 use Rattle.encoding.proofs.PickAnswers.{first-bad, second-bad, within-of, first-taken, second-taken}
 use Rattle.encoding.proofs.pick.Statement.{statement}
 use Rattle.encoding.proofs.pick.Tie as tie
+
+-- Where the function began, from the place past its first test; and that each word can be coded past its own.
+abbrev start : tie.Else1 → tie.Start
+start c = c .before .before .before .before .before
+
+first-good : (c : tie.Else1) → let a = start c .args in true ≡ noneApplies (codeGround (now (a .letters)) (a .k) (a .mirror) (now (a .first)))
+first-good c = sym (not-false _ (c .if1 .left)) ∙ c .before .can-code .ensures
+
+second-good : (c : tie.Else2)
+    → let a = start (c .before .before) .args in true ≡ noneApplies (codeGround (now (a .letters)) (a .k) (a .mirror) (now (a .second)))
+second-good c = sym (not-false _ (c .if2 .left)) ∙ c .before .can-code2 .ensures
 
 can-code-requires : tie.Need-can-code-requires
 can-code-requires c κs = search needs
@@ -26,56 +41,42 @@ slice-aggregate-result-2 c = search needs
 
 returns-2 : tie.Need-returns-2
 returns-2 c =
-    let fb = c .before .before in
-    let if1 = fb .before in
-    let fa = if1 .before in
-    let a = fa .before .before .before .before .args in
-    let first-good = sym (not-false _ (if1 .if1 .left)) ∙ fa .can-code .ensures in
-    let second-fails = sym (not-true _ (c .before .if2 .taken)) ∙ fb .can-code2 .ensures in
-    second-bad (a .letters .now) (a .k) (a .mirror) (a .first) (a .second) _ first-good second-fails refl refl
+    let second = c .before .before in
+    let a = start (second .before) .args in
+    let second-fails = sym (not-true _ (c .before .if2 .taken)) ∙ second .can-code2 .ensures in
+    second-bad (now (a .letters)) (a .k) (a .mirror) (a .first) (a .second) _ (first-good (second .before)) second-fails refl refl
 
 plain-of-requires : tie.Need-plain-of-requires
 plain-of-requires c κs =
     let if1 = c .before .before in
-    let fa = if1 .before in
-    let a = fa .before .before .before .before .args in
-    within-of (a .letters .now) (a .k) (a .mirror) (a .first .now) (sym (not-false _ (if1 .if1 .left)) ∙ fa .can-code .ensures)
+    let a = start if1 .args in
+    within-of (now (a .letters)) (a .k) (a .mirror) (now (a .first)) (first-good if1)
 
 plain-of-requires-2 : tie.Need-plain-of-requires-2
 plain-of-requires-2 c κs =
     let if2 = c .before in
-    let fb = if2 .before in
-    let fa = fb .before .before in
-    let a = fa .before .before .before .before .args in
-    within-of (a .letters .now) (a .k) (a .mirror) (a .second .now) (sym (not-false _ (if2 .if2 .left)) ∙ fb .can-code2 .ensures)
+    let a = start (if2 .before .before) .args in
+    within-of (now (a .letters)) (a .k) (a .mirror) (now (a .second)) (second-good if2)
 
 returns-3 : tie.Need-returns-3
 returns-3 c =
-    let pb = c .before .before .before in
-    let pa = pb .before in
-    let if2 = pa .before in
-    let fb = if2 .before in
-    let if1 = fb .before in
-    let fa = if1 .before in
-    let a = fa .before .before .before .before .args in
-    let first-good = sym (not-false _ (if1 .if1 .left)) ∙ fa .can-code .ensures in
-    let second-good = sym (not-false _ (if2 .if2 .left)) ∙ fb .can-code2 .ensures in
-    first-taken (a .letters .now) (a .k) (a .mirror) (a .first) (a .second) _ first-good second-good _ _ (pa .plain-of .ensures)
-    (pb .plain-of2 .ensures) (c .if3 .taken) refl refl
+    let plain-2 = c .before .before .before in
+    let plain-1 = plain-2 .before in
+    let if2 = plain-1 .before in
+    let if1 = if2 .before .before in
+    let a = start if1 .args in
+    first-taken (now (a .letters)) (a .k) (a .mirror) (a .first) (a .second) _ (first-good if1) (second-good if2) _ _ (plain-1 .plain-of .ensures)
+    (plain-2 .plain-of2 .ensures) (c .if3 .taken) refl refl
 
 returns-4 : tie.Need-returns-4
 returns-4 c =
-    let pb = c .before .before .before in
-    let pa = pb .before in
-    let if2 = pa .before in
-    let fb = if2 .before in
-    let if1 = fb .before in
-    let fa = if1 .before in
-    let a = fa .before .before .before .before .args in
-    let first-good = sym (not-false _ (if1 .if1 .left)) ∙ fa .can-code .ensures in
-    let second-good = sym (not-false _ (if2 .if2 .left)) ∙ fb .can-code2 .ensures in
-    second-taken (a .letters .now) (a .k) (a .mirror) (a .first) (a .second) _ first-good second-good _ _ (pa .plain-of .ensures)
-    (pb .plain-of2 .ensures) (c .if3 .left) refl refl
+    let plain-2 = c .before .before .before in
+    let plain-1 = plain-2 .before in
+    let if2 = plain-1 .before in
+    let if1 = if2 .before .before in
+    let a = start if1 .args in
+    second-taken (now (a .letters)) (a .k) (a .mirror) (a .first) (a .second) _ (first-good if1) (second-good if2) _ _ (plain-1 .plain-of .ensures)
+    (plain-2 .plain-of2 .ensures) (c .if3 .left) refl refl
 
 pub pick-spec : {M : Type 1} → statement M
 pick-spec =

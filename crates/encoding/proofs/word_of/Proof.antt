@@ -1,11 +1,25 @@
 -- `encoding::word_of` meets its contract. A ground at each test, with the buffer as it was, and else the word (ReadAnswers).
-use mathlib.Core.Path.{sym, ap, _∙_}
+use mathlib.Core.Path.{_≡_, sym, ap, _∙_}
 use borrow.Author.Needs.{needs}
-use Rattle.settings.specs.Settings.{ofChecked}
+use denote.Ref.{now}
+use Rattle.settings.specs.Grounds.{given, outcome}
+use Rattle.settings.specs.Settings.{ofChecked, settingsGround, settingsOf}
 use Rattle.settings.proofs.SettingsGrounds.{known}
 use Rattle.encoding.proofs.ReadAnswers.{read-into-short, read-bad-code, good-code, read-bad-settings, word-read}
 use Rattle.encoding.proofs.word_of.Statement.{statement}
 use Rattle.encoding.proofs.word_of.Tie as tie
+
+-- Where the function began, from the place at which the check gave the settings; and that these passed it.
+abbrev start : tie.After-st → tie.Start
+start c = c .before .before .before .before .before
+
+abbrev PassedFrom : tie.After-st → Type 0
+PassedFrom c =
+    let a = start c .args in
+    given (c .st .given .0 .0) ≡ outcome (settingsGround (now (a .letters)) (a .k) (a .mirror)) (settingsOf (now (a .letters)) (a .k) (a .mirror))
+
+passed : (c : tie.After-st) → PassedFrom c
+passed c = sym (ap ofChecked (c .st .given .1)) ∙ c .before .before .check .ensures
 
 check-requires : tie.Need-check-requires
 check-requires c κs = search needs
@@ -17,41 +31,27 @@ enum-known-st : tie.Need-enum-known-st
 enum-known-st c = search needs
 
 returns : tie.Need-returns
-returns c =
-    let st = c .before .before in
-    let check = st .before .before in
-    let a = check .before .before .before .args in
-    let e = sym (ap ofChecked (st .st .given .1)) ∙ check .check .ensures in
-    read-into-short (a .letters .now) (a .k) (a .mirror) (a .q .0) (a .out .now) _ e (c .if1 .taken)
+returns c = read-into-short _ _ _ _ _ _ (passed (c .before .before)) (c .if1 .taken)
 
 returns-2 : tie.Need-returns-2
 returns-2 c =
     let if1 = c .before .before .before in
-    let st = if1 .before .before in
-    let check = st .before .before in
-    let a = check .before .before .before .args in
-    let e = sym (ap ofChecked (st .st .given .1)) ∙ check .check .ensures in
-    read-bad-code (a .letters .now) (a .k) (a .mirror) (a .q .0) (a .out .now) _ e (if1 .if1 .left) (c .if2 .taken)
+    read-bad-code _ _ _ _ _ _ (passed (if1 .before .before)) (if1 .if1 .left) (c .if2 .taken)
 
 write-word-requires : tie.Need-write-word-requires
 write-word-requires c κs =
     let if2 = c .before in
     let if1 = if2 .before .before .before in
     let st = if1 .before .before in
-    let check = st .before .before in
-    let a = check .before .before .before .args in
-    let e = sym (ap ofChecked (st .st .given .1)) ∙ check .check .ensures in
-    let within = known (a .letters .now) (a .k) (a .mirror) _ e .within in
-    let below = good-code (a .letters .now) (a .k) (a .mirror) (a .q .0) (a .out .now) _ e (if2 .if2 .left) in
+    let a = start st .args in
+    let within = known (now (a .letters)) (a .k) (a .mirror) _ (passed st) .within in
+    let below = good-code (now (a .letters)) (a .k) (a .mirror) (a .q .0) (now (a .out)) _ (passed st) (if2 .if2 .left) in
     (within, below, if1 .if1 .left)
 
 returns-3 : tie.Need-returns-3
 returns-3 c =
     let f = c .before in
-    let check = f .before .before in
-    let a = check .before .before .before .args in
-    let e = sym (ap ofChecked (f .f .given .1)) ∙ check .check .ensures in
-    read-bad-settings (a .letters .now) (a .k) (a .mirror) (a .q .0) (a .out .now) _ e
+    read-bad-settings _ _ _ _ _ _ (sym (ap ofChecked (f .f .given .1)) ∙ f .before .before .check .ensures)
 
 same-length : tie.Need-same-length
 same-length c = search needs
@@ -61,12 +61,7 @@ returns-4 c =
     let written = c .before .before in
     let if2 = written .before .before in
     let if1 = if2 .before .before .before in
-    let st = if1 .before .before in
-    let check = st .before .before in
-    let a = check .before .before .before .args in
-    let e = sym (ap ofChecked (st .st .given .1)) ∙ check .check .ensures in
-    word-read (a .letters .now) (a .k) (a .mirror) (a .q .0) (a .out .now) _ e (if1 .if1 .left) (if2 .if2 .left) _
-    (written .write-word .ensures)
+    word-read _ _ _ _ _ _ (passed (if1 .before .before)) (if1 .if1 .left) (if2 .if2 .left) _ (written .write-word .ensures)
 
 pub word-of-spec : {M : Type 1} → statement M
 word-of-spec =

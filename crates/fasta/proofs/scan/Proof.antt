@@ -33,9 +33,7 @@ rank-table-requires : tie.Need-rank-table-requires
 rank-table-requires c κs = good-settings _ _ _ (good (c .before)) .few
 
 scan-file-requires : tie.Need-scan-file-requires
-scan-file-requires c κs =
-    let some-k = good-settings _ _ _ (good (c .before .before .before)) .some-k in
-    (omega arith, omega arith)
+scan-file-requires c κs = (omega arith, good-settings _ _ _ (good (c .before .before .before)) .some-k)
 
 returns-2 : tie.Need-returns-2
 returns-2 c = bad-settings _ _ _ _ _ (ap ofChecked (sym (c .before .f .given .1)) ∙ c .before .before .before .check .ensures)

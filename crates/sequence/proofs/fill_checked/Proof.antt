@@ -5,7 +5,6 @@ use denote.Ref.{now}
 use Rattle.sequence.proofs.SequenceGrounds.{too-large, too-short, all-filled, s-is, mirror-is, coder-ready, ranks-ready, palindromes-fit, power-ready}
 use Rattle.sequence.proofs.RankTables.{Bytes}
 use Rattle.settings.proofs.SettingsGrounds.{good-settings}
-use Rattle.settings.proofs.Powers.{fits}
 use Rattle.sequence.proofs.fill_checked.Statement.{statement}
 use Rattle.sequence.proofs.fill_checked.Tie as tie
 

@@ -32,11 +32,11 @@ power-requires-2 c κs = search needs
 enum-told : tie.Need-enum-told
 enum-told c = search needs
 
-mul-result : tie.Need-mul-result
-mul-result c = omega (arith, odd-fits _ _ _ _ (powered (c .before .before .before)) (c .if1 .taken))
-
 add-result : tie.Need-add-result
 add-result c = omega (arith, odd-fits _ _ _ _ (powered (c .before .before .before)) (c .if1 .taken))
+
+mul-result : tie.Need-mul-result
+mul-result c = omega (arith, add-result c)
 
 add-result-2 : tie.Need-add-result-2
 add-result-2 c = search needs

@@ -5,7 +5,7 @@ use native.Mathlib.Omega.{arith}
 use lib.ListN.{length, drop}
 use borrow.Author.Needs.{needs}
 use Rattle.settings.specs.Settings.{goodLetters, differentCapitals}
-use Rattle.settings.proofs.Letters.{small, great, twice, fine, all-fine, few, many, some-letters}
+use Rattle.settings.proofs.Letters.{below-A, above-Z, repeated, next-good, all-good, too-few, too-many, some-letters}
 use Rattle.settings.proofs.good_letters.Statement.{statement}
 use Rattle.settings.proofs.good_letters.Tie as tie
 
@@ -16,10 +16,10 @@ abbrev μ-loop : tie.MeasureT-loop
 μ-loop letters i₀ i = length letters - i
 
 returns : tie.Need-returns Inv-loop μ-loop
-returns c = few _ (c .if1 .taken)
+returns c = too-few _ (c .if1 .taken)
 
 returns-2 : tie.Need-returns-2 Inv-loop μ-loop
-returns-2 c = many _ (c .if2 .taken)
+returns-2 c = too-many _ (c .if2 .taken)
 
 loop-holds : tie.Need-loop-holds Inv-loop μ-loop
 loop-holds c = some-letters _ (c .before .if1 .left) (c .if2 .left)
@@ -30,12 +30,12 @@ shared-slice-read-b c = omega arith
 returns-3 : tie.Need-returns-3 Inv-loop μ-loop
 returns-3 c =
     let at = c .before .before .before in
-    small _ (at .loop .i) (c .before .before .loop-test .taken) (c .if3 .taken) ∙ sym (at .loop .inv)
+    below-A _ (at .loop .i) (c .before .before .loop-test .taken) (c .if3 .taken) ∙ sym (at .loop .inv)
 
 returns-4 : tie.Need-returns-4 Inv-loop μ-loop
 returns-4 c =
     let at = c .before .before .before .before in
-    great _ (at .loop .i) (c .before .before .before .loop-test .taken) (c .if4 .taken) ∙ sym (at .loop .inv)
+    above-Z _ (at .loop .i) (c .before .before .before .loop-test .taken) (c .if4 .taken) ∙ sym (at .loop .inv)
 
 add-is-in : tie.Need-add-is-in Inv-loop μ-loop
 add-is-in c = omega arith
@@ -47,7 +47,7 @@ returns-5 : tie.Need-returns-5 Inv-loop μ-loop
 returns-5 c =
     let known = c .before .before .before .before in
     let at = known .before .before in
-    twice _ (at .loop .i) (known .before .loop-test .taken) (sym (c .if5 .taken) ∙ c .before .is-in .ensures) ∙ sym (at .loop .inv)
+    repeated _ (at .loop .i) (known .before .loop-test .taken) (sym (c .if5 .taken) ∙ c .before .is-in .ensures) ∙ sym (at .loop .inv)
 
 add-i : tie.Need-add-i Inv-loop μ-loop
 add-i c = omega arith
@@ -61,10 +61,10 @@ loop-again c =
     let at = known .before .before in
     let not-again = sym (c .if5 .left) ∙ c .before .is-in .ensures in
     let low = c .before .before .before .if3 .left in
-    at .loop .inv ∙ fine _ (at .loop .i) (known .before .loop-test .taken) low (c .before .before .if4 .left) not-again
+    at .loop .inv ∙ next-good _ (at .loop .i) (known .before .loop-test .taken) low (c .before .before .if4 .left) not-again
 
 returns-6 : tie.Need-returns-6 Inv-loop μ-loop
-returns-6 c = all-fine _ (c .before .loop .i) (c .loop-test .left) ∙ sym (c .before .loop .inv)
+returns-6 c = all-good _ (c .before .loop .i) (c .loop-test .left) ∙ sym (c .before .loop .inv)
 
 pub good-letters-spec : {M : Type 1} → statement M
 good-letters-spec =

@@ -1,4 +1,4 @@
--- `settings::is_in` meets its contract. The invariant: what is left of the letters isIn b where all of them from the start have it.
+-- `settings::is_in` meets its contract. The invariant: b stands in the letters from the place asked on exactly where it stands in what is left of them.
 use mathlib.Core.Path.{_≡_, refl, sym, _∙_}
 use Prim.Native.Nat.{_-_}
 use native.Mathlib.Omega.{arith}

@@ -1,10 +1,10 @@
 -- `settings::power` meets its contract. The invariant: p is s to the i, and at most 2^62. The measure, 63 - i, shows that the loop ends
 -- after at most 63 turns whatever k is.
 use mathlib.Core.Path.{_≡_, sym, ap, _∙_}
-use Prim.Native.Nat.{ℕ, _-_, _^_, _≤_}
-use native.Mathlib.Nat.{pow-zero, le-antisymm}
+use Prim.Native.Nat.{ℕ, _-_, _*_, _^_, _<_, _≤_}
+use native.Mathlib.Nat.{pow-zero, le-antisymm, le-div-iff-mul-le}
 use native.Mathlib.Omega.{arith}
-use Rattle.settings.proofs.Powers.{too-big, fits, power-next, few-turns}
+use Rattle.settings.proofs.Powers.{too-big, power-next, few-turns}
 use Rattle.settings.proofs.power.Statement.{statement}
 use Rattle.settings.proofs.power.Tie as tie
 
@@ -26,11 +26,15 @@ returns c =
     let a = loop .before .args in
     too-big (a .s) (a .k) (loop .loop .p) (loop .loop .i) (loop .before .pre) (loop .loop .inv .1) (c .before .loop-test .taken) (c .if1 .taken)
 
+-- Past the test one factor s more still fits.
+still-fits : (c : tie.Else1 Inv-loop μ-loop) → c .before .before .loop .p * c .before .before .before .args .s ≤ 4611686018427387904
+still-fits c =
+    let start = c .before .before .before in
+    let pos : 0 < start .args .s = omega (arith, start .pre) in
+    le-div-iff-mul-le pos .0 (c .if1 .left)
+
 mul-p : tie.Need-mul-p Inv-loop μ-loop
-mul-p c =
-    let loop = c .before .before in
-    let a = loop .before .args in
-    omega (arith, fits (a .s) (a .k) (loop .loop .p) (loop .loop .i) (loop .before .pre) (loop .loop .inv .1) (c .if1 .left))
+mul-p c = omega (arith, still-fits c)
 
 add-i : tie.Need-add-i Inv-loop μ-loop
 add-i c = omega arith
@@ -38,16 +42,12 @@ add-i c = omega arith
 loop-less : tie.Need-loop-less Inv-loop μ-loop
 loop-less c =
     let loop = c .before .before in
-    let a = loop .before .args in
-    omega (arith, few-turns (a .s) (a .k) (loop .loop .p) (loop .loop .i) (loop .before .pre) (loop .loop .inv .1) (loop .loop .inv .2))
+    omega (arith, few-turns (loop .before .args .s) (loop .loop .p) (loop .loop .i) (loop .before .pre) (loop .loop .inv .1) (loop .loop .inv .2))
 
 loop-again : tie.Need-loop-again Inv-loop μ-loop
 loop-again c =
     let loop = c .before .before in
-    let a = loop .before .args in
-    let next = power-next (a .s) (a .k) (loop .loop .p) (loop .loop .i) (loop .before .pre) (loop .loop .inv .1) in
-    let still = fits (a .s) (a .k) (loop .loop .p) (loop .loop .i) (loop .before .pre) (loop .loop .inv .1) (c .if1 .left) in
-    (omega arith, next, still)
+    (omega arith, power-next (loop .before .args .s) (loop .loop .p) (loop .loop .i) (loop .loop .inv .1), still-fits c)
 
 returns-2 : tie.Need-returns-2 Inv-loop μ-loop
 returns-2 c =

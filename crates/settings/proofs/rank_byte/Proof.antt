@@ -4,7 +4,7 @@ use native.Mathlib.Omega.{arith}
 use borrow.Author.Needs.{needs}
 use Rattle.settings.specs.RankTables.{asRank}
 use Rattle.settings.specs.Settings.{ofRank}
-use Rattle.settings.proofs.RankTables.{as-some}
+use Rattle.settings.proofs.RankTables.{as-itself}
 use Rattle.settings.proofs.Ranks.{rank-below-count}
 use Rattle.settings.proofs.rank_byte.Statement.{statement}
 use Rattle.settings.proofs.rank_byte.Tie as tie
@@ -27,7 +27,7 @@ returns : tie.Need-returns
 returns c =
     let call = c .before .before .before in
     let is = ap ofRank (sym (c .before .n .given .1)) ∙ call .rank-of .ensures in
-    as-some (c .before .n .given .0 .0) (omega (arith, rank-below-count _ _ _ is)) ∙ is
+    as-itself (c .before .n .given .0 .0) (λ e. omega (arith, rank-below-count _ _ _ is)) ∙ is
 
 returns-2 : tie.Need-returns-2
 unfolding asRank

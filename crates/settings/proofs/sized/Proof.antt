@@ -1,7 +1,7 @@
 -- `settings::sized` meets its contract: ground 4 from the power that stops above 2^62, and else the settings with their number of classes.
 use Rattle.settings.proofs.ClassCount.{no-k, large-k, good-k}
+use Rattle.settings.proofs.Powers.{capped}
 use native.Mathlib.Omega.{arith}
-use mathlib.Core.Path.{_≡_}
 use Prim.Native.Nat.{_^_, _≤_}
 use borrow.Author.Needs.{needs}
 use Rattle.settings.proofs.sized.Statement.{statement}
@@ -27,9 +27,9 @@ returns-3 c =
     let i1 = i2 .before .before in
     let n = i1 .before .args .n in
     let k = i1 .before .args .k in
-    let w : i2 .before .power .result ≡ n ^ k = omega (arith, i2 .before .power .ensures) in
-    let small : n ^ k ≤ 2 ^ 62 = omega arith in
-    rw (good-k n k (i1 .if1 .left) small, w, c .class-count .ensures)
+    let small : n ^ k ≤ 2 ^ 62 = omega (arith, i2 .before .power .ensures) in
+    let words-are = capped n k k _ (i1 .before .pre .0) (omega arith) small (i2 .before .power .ensures) in
+    rw (good-k n k (i1 .if1 .left) small, words-are, c .class-count .ensures)
 
 pub sized-spec : {M : Type 1} → statement M
 sized-spec = tie.close (tie.spec returns power-requires returns-2 class-count-requires returns-3)

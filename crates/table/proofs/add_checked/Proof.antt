@@ -1,6 +1,5 @@
 -- `table::add_checked` meets its contract: a fault that the scan found refuses the file, and else what the scanned file gives.
 use mathlib.Core.Path.{sym, ap, _∙_}
-use native.Mathlib.Omega.{arith}
 use Rattle.settings.proofs.SettingsGrounds.{good-settings}
 use denote.Ref.{now}
 use Rattle.fasta.specs.declared.Numbers.{Numbers}
@@ -21,8 +20,7 @@ rank-table-requires c κs = good-settings _ _ _ (ready-settings _ _ _ _ _ (start
 scan-file-requires : tie.Need-scan-file-requires
 scan-file-requires c κs =
     let ready = start (c .before .before) .pre .0 in
-    let some-k = good-settings _ _ _ (ready-settings _ _ _ _ _ ready) .some-k in
-    (ready-file _ _ _ _ _ ready, omega arith)
+    (ready-file _ _ _ _ _ ready, good-settings _ _ _ (ready-settings _ _ _ _ _ ready) .some-k)
 
 enum-known-f : tie.Need-enum-known-f
 enum-known-f c = search needs

@@ -1,71 +1,64 @@
--- `encoding::letters::write_mirror` meets its contract: the ranks stand in own, their mirror in other, and its letters in out.
+-- `encoding::letters::write_mirror` meets its contract: the ranks stand in own, their mirror in other (TwoWords), and its letters in out.
+use mathlib.Core.Path.{sym}
 use native.Mathlib.Omega.{arith}
 use borrow.Author.Needs.{needs}
-use lib.ListN.{length}
-use Rattle.laws.proofs.Powers.{exponent-le}
-use Rattle.encoding.proofs.TwoWords.{own-long, own-len, own-ranks, own-short, other-long, other-len, other-word, other-written}
+use denote.Ref.{now}
+use Rattle.settings.proofs.Limits.{k-at-most}
+use Rattle.encoding.proofs.TwoWords.{OwnArray, as-own, own-fits, own-length, own-word, own-short, BothArrays, as-both, other-fits, other-length, other-word, other-written}
 use Rattle.encoding.proofs.letters.write_mirror.Statement.{statement}
 use Rattle.encoding.proofs.letters.write_mirror.Tie as tie
+
+-- Where the function began, from the place past `fill_ranks`; and the array own there.
+abbrev start : tie.After-fill-ranks → tie.Start
+start c = c .before .before .before .before .before
+
+abbrev OwnFrom : tie.After-fill-ranks → Type 0
+OwnFrom c = let a = start c .args in OwnArray (now (a .letters)) (now (a .word)) (a .m) (c .fill-ranks .last .1 .1 .0)
+
+own-array : (c : tie.After-fill-ranks) → OwnFrom c
+own-array c = let a = start c .args in as-own (now (a .letters)) (now (a .word)) (a .m) (start c .pre .0) _ _ (c .fill-ranks .ensures)
+
+-- The place past `fill_ranks`, from the one past `fill_mirror`; and both arrays there.
+abbrev filled : tie.After-fill-mirror → tie.After-fill-ranks
+filled c = c .before .before .before .before
+
+abbrev BothFrom : tie.After-fill-mirror → Type 0
+BothFrom c =
+    let a = start (filled c) .args in
+    BothArrays (now (a .letters)) (now (a .word)) (a .m) (filled c .fill-ranks .last .1 .1 .0) (c .fill-mirror .last .1 .1 .1 .0)
+
+both-arrays : (c : tie.After-fill-mirror) → BothFrom c
+both-arrays c = as-both (own-array (filled c)) _ _ (c .fill-mirror .ensures)
 
 slice-aggregate-fill-ranks : tie.Need-slice-aggregate-fill-ranks
 slice-aggregate-fill-ranks c = search needs
 
 fill-ranks-requires : tie.Need-fill-ranks-requires
-fill-ranks-requires c κs =
-    let start = c .before .before .before .before in
-    let within = start .pre .0 in
-    omega (arith, exponent-le (length (start .args .letters .now)) (length (start .args .word .now)) (within .two) (within .small))
+fill-ranks-requires c κs = omega (arith, k-at-most (c .before .before .before .before .pre .0))
 
 array-share-prefix-own : tie.Need-array-share-prefix-own
-array-share-prefix-own c =
-    let ranks = c .before in
-    let start = ranks .before .before .before .before .before in
-    own-long (start .args .letters .now) (start .args .word .now) (start .args .m) (start .pre .0) _ _ (ranks .fill-ranks .ensures)
+array-share-prefix-own c = own-fits (own-array (c .before))
 
 slice-aggregate-fill-mirror : tie.Need-slice-aggregate-fill-mirror
-slice-aggregate-fill-mirror c =
-    let ranks = c .before .before in
-    let start = ranks .before .before .before .before .before in
-    own-len (start .args .letters .now) (start .args .word .now) (start .args .m) (start .pre .0) _ _ (ranks .fill-ranks .ensures)
+slice-aggregate-fill-mirror c = sym (own-length (own-array (c .before .before)))
 
 slice-aggregate-fill-mirror-2 : tie.Need-slice-aggregate-fill-mirror-2
 slice-aggregate-fill-mirror-2 c = search needs
 
 fill-mirror-requires : tie.Need-fill-mirror-requires
-fill-mirror-requires c κs =
-    let ranks = c .before .before .before in
-    let start = ranks .before .before .before .before .before in
-    let letters = start .args .letters .now in
-    let word = start .args .word .now in
-    let own = ranks .fill-ranks .ensures in
-    (own-ranks letters word (start .args .m) (start .pre .0) _ _ own, own-short letters word (start .args .m) (start .pre .0) _ _ own)
+fill-mirror-requires c κs = let A = own-array (c .before .before .before) in (own-word A .ranks, own-short A)
 
 array-share-prefix-other : tie.Need-array-share-prefix-other
-array-share-prefix-other c =
-    let ranks = c .before .before .before .before .before in
-    let start = ranks .before .before .before .before .before in
-    let own = ranks .fill-ranks .ensures in
-    let other = c .before .fill-mirror .ensures in
-    other-long (start .args .letters .now) (start .args .word .now) (start .args .m) (start .pre .0) _ _ own _ _ other
+array-share-prefix-other c = other-fits (both-arrays (c .before))
 
 slice-aggregate-write-letters : tie.Need-slice-aggregate-write-letters
-slice-aggregate-write-letters c =
-    let ranks = c .before .before .before .before .before .before in
-    let start = ranks .before .before .before .before .before in
-    let own = ranks .fill-ranks .ensures in
-    let other = c .before .before .fill-mirror .ensures in
-    other-len (start .args .letters .now) (start .args .word .now) (start .args .m) (start .pre .0) _ _ own _ _ other
+slice-aggregate-write-letters c = sym (other-length (both-arrays (c .before .before)))
 
 write-letters-requires : tie.Need-write-letters-requires
 write-letters-requires c κs =
-    let ranks = c .before .before .before .before .before .before .before in
-    let start = ranks .before .before .before .before .before in
-    let letters = start .args .letters .now in
-    let word = start .args .word .now in
-    let own = ranks .fill-ranks .ensures in
-    let other = c .before .before .before .fill-mirror .ensures in
-    let length-is = other-len letters word (start .args .m) (start .pre .0) _ _ own _ _ other in
-    (other-word letters word (start .args .m) (start .pre .0) _ _ own _ _ other .ranks, omega (arith, length-is, start .pre .1))
+    let mirrored = c .before .before .before in
+    let B = both-arrays mirrored in
+    (other-word B .ranks, omega (arith, other-length B, start (filled mirrored) .pre .1))
 
 same-length : tie.Need-same-length
 same-length c = search needs
@@ -73,13 +66,7 @@ same-length c = search needs
 returns : tie.Need-returns
 returns c =
     let written = c .before .before in
-    let mirrored = written .before .before .before .before in
-    let ranks = mirrored .before .before .before .before in
-    let start = ranks .before .before .before .before .before in
-    let own = ranks .fill-ranks .ensures in
-    let other = mirrored .fill-mirror .ensures in
-    other-written (start .args .letters .now) (start .args .word .now) (start .args .m) (start .pre .0) _ _ own _ _ other
-    (start .args .out .now) _ (written .write-letters .ensures)
+    other-written (both-arrays (written .before .before .before .before)) _ _ (written .write-letters .ensures)
 
 pub write-mirror-spec : {M : Type 1} → statement M
 write-mirror-spec =

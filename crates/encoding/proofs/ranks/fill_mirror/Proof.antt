@@ -1,26 +1,28 @@
--- `encoding::ranks::fill_mirror` meets its contract. The invariant: the mirror of the letters passed, from the end, and then the list as it was.
-use mathlib.Core.Path.{_≡_, refl, _∙_, ap}
-use mathlib.Core.List.{_++_, List}
-use Prim.Native.Nat.{_-_, _≤_, ℕ}
-use native.Mathlib.Nat.{le-antisymm}
+-- `encoding::ranks::fill_mirror` meets its contract. The invariant: the first letters of the mirror are written.
+use mathlib.Core.Path.{sym, _∙_, ap}
+use mathlib.Core.List.{_++_}
+use Prim.Native.Nat.{_-_, ℕ}
 use native.Mathlib.Omega.{arith}
-use lib.ListN.{length, drop, length-set}
+use denote.Ref.{now}
+use lib.ListN.{length, drop}
+use Rattle.laws.proofs.Buffers.{Written, written-none, written-length, written-next, written-all}
 use Rattle.encoding.specs.Words.{mirror}
-use Rattle.encoding.proofs.RankLoops.{mirror-none, mirror-written, mirror-all}
-use Rattle.encoding.proofs.WordParts.{rank-back}
+use Rattle.encoding.proofs.Ends.{length-mirror}
+use Rattle.encoding.proofs.RankLoops.{mirror-at}
+use Rattle.encoding.proofs.WordParts.{ranks-back}
 use Rattle.encoding.proofs.ranks.fill_mirror.Statement.{statement}
 use Rattle.encoding.proofs.ranks.fill_mirror.Tie as tie
 
 abbrev Inv-loop : tie.InvT-loop
-Inv-loop w s m out₀ n i₀ out i = (i ≤ length w) × (length out ≡ length out₀) × (out ≡ mirror s m (drop (length w - i) w) ++ drop i out₀)
+Inv-loop w s m out₀ n i₀ out i = Written (mirror s m w) out₀ i out
 
 abbrev μ-loop : tie.MeasureT-loop
 μ-loop w s m out₀ n i₀ out i = length w - i
 
 loop-holds : tie.Need-loop-holds Inv-loop μ-loop
 loop-holds c =
-    let a = c .before .before .args in
-    (omega arith, refl, mirror-none (a .s) (a .m) (a .w .now) (a .out .now))
+    let start = c .before .before in
+    written-none _ _ (omega (arith, length-mirror (start .args .s) (start .args .m) (now (start .args .w)), start .pre .1))
 
 sub-mirror-rank : tie.Need-sub-mirror-rank Inv-loop μ-loop
 sub-mirror-rank c = omega arith
@@ -38,13 +40,13 @@ mirror-rank-requires : tie.Need-mirror-rank-requires Inv-loop μ-loop
 mirror-rank-requires c κs =
     let at = c .before .before in
     let start = at .before .before .before in
-    rank-back (start .args .s) (start .args .w .now) (at .loop .i) (start .pre .0) (omega arith)
+    ranks-back (start .args .s) (start .args .w .now) (at .loop .i) (start .pre .0) (omega arith)
 
 mul-out : tie.Need-mul-out Inv-loop μ-loop
-mul-out c = omega arith
+mul-out c = omega (arith, written-length (c .before .before .before .loop .inv))
 
 slice-write-out : tie.Need-slice-write-out Inv-loop μ-loop
-slice-write-out c = omega arith
+slice-write-out c = omega (arith, written-length (c .before .before .before .loop .inv))
 
 add-i : tie.Need-add-i Inv-loop μ-loop
 add-i c = omega arith
@@ -56,20 +58,20 @@ loop-again : tie.Need-loop-again Inv-loop μ-loop
 loop-again c =
     let at = c .before .before .before in
     let a = at .before .before .before .args in
-    let written = mirror-written (a .s) (a .m) (a .w .now) (a .out .now) (at .loop .i) (omega arith) (omega arith) in
-    (omega arith, simp length-set (omega arith), rw (at .loop .inv .2, c .mirror-rank .ensures) written)
+    let inside = c .before .before .loop-test .taken in
+    written-next (at .loop .inv) _ (omega (arith, inside, length-mirror (a .s) (a .m) (now (a .w))))
+    (c .mirror-rank .ensures ∙ sym (mirror-at (a .s) (a .m) (now (a .w)) (at .loop .i) inside))
 
 same-length : tie.Need-same-length Inv-loop μ-loop
-same-length c = c .before .loop .inv .1
+same-length c = written-length (c .before .loop .inv)
 
 returns : tie.Need-returns Inv-loop μ-loop
 returns c =
     let at = c .before in
-    let start = at .before .before .before in
-    let end = le-antisymm (at .loop .inv .0) (c .loop-test .left) in
-    at .loop .inv .2
-    ∙ ap (λ (l : List ℕ). l ++ drop (at .loop .i) (start .args .out .now)) (mirror-all _ _ (start .args .w .now) (at .loop .i) (c .loop-test .left))
-    ∙ ap (λ (n : ℕ). mirror (start .args .s) (start .args .m) (start .args .w .now) ++ drop n (start .args .out .now)) end
+    let a = at .before .before .before .args in
+    let length-is = length-mirror (a .s) (a .m) (now (a .w)) in
+    written-all (at .loop .inv) (omega (arith, length-is, c .loop-test .left))
+    ∙ ap (λ (n : ℕ). mirror (a .s) (a .m) (now (a .w)) ++ drop n (now (a .out))) length-is
 
 pub fill-mirror-spec : {M : Type 1} → statement M
 fill-mirror-spec =

@@ -1,8 +1,9 @@
 -- `encoding::ranks::plain_rank` meets its contract. The invariant: p is the plain rank of the letters passed.
 use mathlib.Core.Path.{_≡_, ap, sym, _∙_}
-use Prim.Native.Nat.{_-_, _≤_, ℕ, _*_}
+use Prim.Native.Nat.{ℕ, _+_, _-_, _*_, _^_, _<_, _≤_}
 use native.Mathlib.Omega.{arith}
-use lib.ListN.{length, take}
+use denote.Ref.{now}
+use lib.ListN.{length, take, getD}
 use lib.Seq.{take-all}
 use Rattle.encoding.specs.Words.{plain}
 use Rattle.encoding.proofs.RankLoops.{plain-none, plain-next, plain-next-lt}
@@ -18,13 +19,18 @@ abbrev μ-loop : tie.MeasureT-loop
 loop-holds : tie.Need-loop-holds Inv-loop μ-loop
 loop-holds c = (omega arith, plain-none _)
 
-mul-p : tie.Need-mul-p Inv-loop μ-loop
-mul-p c =
+-- A letter more is within 2^62.
+next-fits : (c : tie.In-loop Inv-loop μ-loop)
+    → let a = c .before .before .args in c .before .loop .p * a .s + getD (now (a .w)) (c .before .loop .i) 0 < 2 ^ 62
+next-fits c =
     let at = c .before in
     let start = at .before in
     let s = start .args .s in
-    let next = plain-next-lt s (start .args .w .now) (at .loop .i) (c .loop-test .taken) (start .pre .two) (start .pre .ranks) in
+    let next = plain-next-lt s (now (start .args .w)) (at .loop .i) (c .loop-test .taken) (start .pre .two) (start .pre .ranks) in
     omega (arith, next, start .pre .small, ap (λ (x : ℕ). x * s) (at .loop .inv .1))
+
+mul-p : tie.Need-mul-p Inv-loop μ-loop
+mul-p c = omega (arith, next-fits c)
 
 mul-p-2 : tie.Need-mul-p-2 Inv-loop μ-loop
 mul-p-2 c = omega arith
@@ -33,12 +39,7 @@ shared-slice-read-p : tie.Need-shared-slice-read-p Inv-loop μ-loop
 shared-slice-read-p c = omega arith
 
 add-p : tie.Need-add-p Inv-loop μ-loop
-add-p c =
-    let at = c .before .before in
-    let start = at .before in
-    let s = start .args .s in
-    let next = plain-next-lt s (start .args .w .now) (at .loop .i) (c .before .loop-test .taken) (start .pre .two) (start .pre .ranks) in
-    omega (arith, next, start .pre .small, ap (λ (x : ℕ). x * s) (at .loop .inv .1))
+add-p c = omega (arith, next-fits (c .before))
 
 add-i : tie.Need-add-i Inv-loop μ-loop
 add-i c = omega arith

@@ -1,4 +1,5 @@
--- The proof of the cycle of calls {digits_value}. The measure is the length of the word.
+-- The proof of `encoding::to_code::digits_value`, which calls itself on the word within, two letters shorter (DigitValues). The measure is the length of
+-- the word.
 use mathlib.Core.Path.{_∙_, subst}
 use Prim.Native.Nat.{_-_, ℕ, _<_}
 use native.Mathlib.Omega.{arith}

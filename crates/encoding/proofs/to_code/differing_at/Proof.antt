@@ -4,7 +4,7 @@ use Prim.Native.Nat.{_-_}
 use native.Mathlib.Omega.{arith}
 use lib.ListN.{length}
 use Rattle.encoding.proofs.Scan.{Equal, equal-next, stop-middle, stop-differs}
-use Rattle.encoding.proofs.WordParts.{rank-back}
+use Rattle.encoding.proofs.WordParts.{ranks-back}
 use Rattle.encoding.proofs.to_code.differing_at.Statement.{statement}
 use Rattle.encoding.proofs.to_code.differing_at.Tie as tie
 
@@ -45,7 +45,7 @@ mirror-rank-requires : tie.Need-mirror-rank-requires Inv-loop μ-loop
 mirror-rank-requires c κs =
     let at = c .before .before .before in
     let start = at .before .before in
-    rank-back (start .args .s) (start .args .w .now) (at .loop .i) (start .pre) (omega arith)
+    ranks-back (start .args .s) (start .args .w .now) (at .loop .i) (start .pre) (omega arith)
 
 add-i : tie.Need-add-i Inv-loop μ-loop
 add-i c = omega arith

@@ -1,20 +1,21 @@
 -- `encoding::to_code::differing_value` meets its contract. Its bounds are those of the rank of a pair; the value is shown in DigitValues.
-use mathlib.Core.Path.{_≡_, subst⁻¹}
-use Prim.Native.Nat.{_-_, _<_, ℕ}
+use Prim.Native.Nat.{ℕ, _+_, _-_, _*_, _/_, _%_, _^_, _<_, _≤_}
+use native.Mathlib.Nat.{div-le-self}
 use native.Mathlib.Omega.{arith}
 use borrow.Author.Needs.{needs}
+use denote.Ref.{now}
 use lib.ListN.{length}
-use Rattle.laws.proofs.Powers.{pairCount}
-use Rattle.encoding.specs.Codes.{pairRank}
-use Rattle.encoding.proofs.DigitValues.{first-small, high-small, high-is, differing-small, differing-is}
-use Rattle.encoding.proofs.Pairs.{below-pairs}
+use Rattle.encoding.proofs.DigitValues.{high-small, high-is, differing-small, differing-is}
 use Rattle.encoding.proofs.WordParts.{inner-of}
 use Rattle.encoding.proofs.to_code.differing_value.Statement.{statement}
 use Rattle.encoding.proofs.to_code.differing_value.Tie as tie
 
--- What `pair_rank` gives is the rank of a pair.
-rank-lt : (s l r R : ℕ) → l < r → r < s → R ≡ pairRank s l r → R < pairCount s
-rank-lt s l r R h g e = subst⁻¹ (λ (x : ℕ). x < pairCount s) e (below-pairs s l r h g)
+-- Where the function began, from the place past `pair_rank`; and a bound on that rank.
+abbrev start : tie.After-pair-rank → tie.Start
+start c = c .before .before
+
+small-rank : (c : tie.After-pair-rank) → c .pair-rank .result + start c .args .s ≤ 256
+small-rank c = let a = start c .args in high-small (a .s) (now (a .w)) (a .l) (a .r) (start c .pre) _ (c .pair-rank .ensures)
 
 pair-rank-requires : tie.Need-pair-rank-requires
 pair-rank-requires c κs = search needs
@@ -23,23 +24,13 @@ div-high : tie.Need-div-high
 div-high c = search needs
 
 add-high : tie.Need-add-high
-add-high c =
-    let a = c .before .before .args in
-    let pre = c .before .before .pre in
-    let R = c .pair-rank .result in
-    let lt = rank-lt (a .s) (a .l) (a .r) R (pre .less) (pre .rank) (c .pair-rank .ensures) in
-    omega (arith, first-small (a .s) R (pre .word .two) (pre .few) lt, high-small (a .s) R (pre .word .two) (pre .few) lt)
+add-high c = omega (arith, div-le-self (c .pair-rank .result) (start c .args .s), small-rank c)
 
 rem-high : tie.Need-rem-high
 rem-high c = search needs
 
 add-high-2 : tie.Need-add-high-2
-add-high-2 c =
-    let a = c .before .before .args in
-    let pre = c .before .before .pre in
-    let R = c .pair-rank .result in
-    let lt = rank-lt (a .s) (a .l) (a .r) R (pre .less) (pre .rank) (c .pair-rank .ensures) in
-    omega (arith, high-is (a .s) R (pre .word .two) (pre .few) lt, high-small (a .s) R (pre .word .two) (pre .few) lt)
+add-high-2 c = omega (arith, high-is (start c .args .s) (c .pair-rank .result), small-rank c)
 
 mul-high : tie.Need-mul-high
 mul-high c = omega (arith, add-high-2 c)
@@ -58,9 +49,9 @@ part-plain-rank-end c = search needs
 
 plain-rank-requires : tie.Need-plain-rank-requires
 plain-rank-requires c κs =
-    let start = c .before .before .before in
-    let w = start .pre .word in
-    inner-of (start .args .s) (start .args .w .now) (w .two) (w .ranks) (w .small) (length (start .args .w .now) - 1 - 1) (omega arith)
+    let w = start (c .before) .pre .word in
+    let a = start (c .before) .args in
+    inner-of (a .s) (now (a .w)) (w .two) (w .ranks) (w .small) (length (now (a .w)) - 1 - 1) (omega arith)
 
 sub-power : tie.Need-sub-power
 sub-power c = search needs
@@ -68,35 +59,33 @@ sub-power c = search needs
 power-requires : tie.Need-power-requires
 power-requires c κs = search needs
 
+-- The value, once the power and the plain rank of the inner letters are there.
+abbrev valued : tie.After-power → ℕ
+valued c =
+    let pair = c .before .before .before in
+    let s = start pair .args .s in
+    let R = pair .pair-rank .result in
+    ((R / s + 1) * s + R % s) * c .power .result + c .before .plain-rank .result .0
+
+value-fits : (c : tie.After-power) → valued c < 2 ^ 62
+value-fits c =
+    let pair = c .before .before .before in
+    let a = start pair .args in
+    differing-small (a .s) (now (a .w)) (a .l) (a .r) (start pair .pre) _ (pair .pair-rank .ensures) _ _ (c .power .ensures) (c .before .plain-rank .ensures)
+
 mul-result : tie.Need-mul-result
-mul-result c =
-    let pr = c .before .before .before in
-    let start = pr .before .before in
-    let a = start .args in
-    omega (
-      arith,
-      differing-small (a .s) (a .w .now) (a .l) (a .r) (start .pre) _ _ _ (pr .pair-rank .ensures) (c .power .ensures)
-          (c .before .plain-rank .ensures),
-    )
+mul-result c = omega (arith, value-fits c)
 
 add-result : tie.Need-add-result
-add-result c =
-    let pr = c .before .before .before .before in
-    let start = pr .before .before in
-    let a = start .args in
-    omega (
-      arith,
-      differing-small (a .s) (a .w .now) (a .l) (a .r) (start .pre) _ _ _ (pr .pair-rank .ensures) (c .before .power .ensures)
-          (c .before .before .plain-rank .ensures),
-    )
+add-result c = omega (arith, value-fits (c .before))
 
 returns : tie.Need-returns
 returns c =
-    let pr = c .before .before .before .before in
-    let start = pr .before .before in
-    let a = start .args in
-    differing-is (a .s) (a .w .now) (a .l) (a .r) (start .pre) _ _ _ (pr .pair-rank .ensures) (c .before .power .ensures)
-    (c .before .before .plain-rank .ensures)
+    let power = c .before in
+    let pair = power .before .before .before in
+    let a = start pair .args in
+    differing-is (a .s) (now (a .w)) (a .l) (a .r) (start pair .pre) _ (pair .pair-rank .ensures) _ _ (power .power .ensures)
+    (power .before .plain-rank .ensures)
 
 pub differing-value-spec : {M : Type 1} → statement M
 differing-value-spec =

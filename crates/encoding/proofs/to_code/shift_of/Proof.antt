@@ -1,10 +1,24 @@
 -- `encoding::to_code::shift_of` meets its contract. Both powers are within 2^62, and the first is not below the second (Shifts).
-use Prim.Native.Nat.{_-_, _/_}
+use mathlib.Core.Path.{_≡_}
+use Prim.Native.Nat.{_-_, _/_, _^_}
 use native.Mathlib.Omega.{arith}
 use borrow.Author.Needs.{needs}
-use Rattle.encoding.proofs.Shifts.{no-shift, capped, shift-pow, some-shift}
+use Rattle.settings.proofs.Powers.{capped}
+use Rattle.encoding.proofs.Shifts.{no-shift, shift-pow, some-shift}
 use Rattle.encoding.proofs.to_code.shift_of.Statement.{statement}
 use Rattle.encoding.proofs.to_code.shift_of.Tie as tie
+
+-- Where the function began, from the place past both powers; and what these are.
+abbrev start : tie.After-power2 → tie.Start
+start c = c .before .before .before
+
+upper : (c : tie.After-power2) → let a = start c .args in c .before .power .result ≡ a .s ^ (a .k - a .p - 1)
+upper c =
+    let a = start c .args in
+    capped (a .s) (a .k) (a .k - a .p - 1) _ (start c .pre .0) (omega arith) (start c .pre .1) (c .before .power .ensures)
+
+lower : (c : tie.After-power2) → let a = start c .args in c .power2 .result ≡ a .s ^ (a .k - a .k / 2)
+lower c = let a = start c .args in capped (a .s) (a .k) (a .k - a .k / 2) _ (start c .pre .0) (omega arith) (start c .pre .1) (c .power2 .ensures)
 
 sub-if1 : tie.Need-sub-if1
 sub-if1 c = search needs
@@ -32,25 +46,13 @@ power-requires-2 c κs = search needs
 
 sub-result : tie.Need-sub-result
 sub-result c =
-    let if1 = c .before .before in
-    let start = if1 .before in
-    let s = start .args .s in
-    let k = start .args .k in
-    let p = start .args .p in
-    let upper = capped s k (k - p - 1) _ (start .pre .0) (omega arith) (start .pre .1) (c .before .power .ensures) in
-    let lower = capped s k (k - k / 2) _ (start .pre .0) (omega arith) (start .pre .1) (c .power2 .ensures) in
-    omega (arith, upper, lower, shift-pow s k p (start .pre .2) (start .pre .0) (if1 .if1 .left))
+    let a = start c .args in
+    omega (arith, upper c, lower c, shift-pow (a .s) (a .k) (a .p) (start c .pre .2) (start c .pre .0) (c .before .before .if1 .left))
 
 returns-2 : tie.Need-returns-2
 returns-2 c =
-    let if1 = c .before .before in
-    let start = if1 .before in
-    let s = start .args .s in
-    let k = start .args .k in
-    let p = start .args .p in
-    let upper = capped s k (k - p - 1) _ (start .pre .0) (omega arith) (start .pre .1) (c .before .power .ensures) in
-    let lower = capped s k (k - k / 2) _ (start .pre .0) (omega arith) (start .pre .1) (c .power2 .ensures) in
-    rw (upper, lower) (some-shift s k p (start .pre .2) (if1 .if1 .left))
+    let a = start c .args in
+    some-shift (a .s) (a .k) (a .p) (start c .pre .2) (c .before .before .if1 .left) _ _ (upper c) (lower c)
 
 pub shift-of-spec : {M : Type 1} → statement M
 shift-of-spec =

@@ -1,12 +1,24 @@
 -- `encoding::to_word::fill_differing` meets its contract. The high part of the code ranks the pair of the ends, the rest the letters within (ReadSteps).
-use Prim.Native.Nat.{_-_}
+use mathlib.Core.Path.{_≡_}
+use Prim.Native.Nat.{_-_, _^_}
 use native.Mathlib.Omega.{arith}
 use borrow.Author.Needs.{needs}
+use denote.Ref.{now}
 use lib.ListN.{length}
+use Rattle.settings.proofs.Powers.{capped}
 use Rattle.encoding.proofs.ReadSteps.{p-pos, rank-below, right-lt, rest-lt, part-length, high-word}
-use Rattle.encoding.proofs.Shifts.{capped}
 use Rattle.encoding.proofs.to_word.fill_differing.Statement.{statement}
 use Rattle.encoding.proofs.to_word.fill_differing.Tie as tie
+
+-- Where the function began, from the place past `power`; and that this is s^(n - 2).
+abbrev start : tie.After-power → tie.Start
+start c = c .before .before
+
+p-is : (c : tie.After-power) → c .power .result ≡ start c .args .s ^ (length (now (start c .args .out)) - 2)
+p-is c =
+    let w = now (start c .args .out) in
+    let limits = start c .pre .limits in
+    capped (start c .args .s) (length w) (length w - 2) _ (limits .two) (omega arith) (limits .small) (c .power .ensures)
 
 sub-power : tie.Need-sub-power
 sub-power c = search needs
@@ -15,32 +27,15 @@ power-requires : tie.Need-power-requires
 power-requires c κs = search needs
 
 div-pair-of : tie.Need-div-pair-of
-div-pair-of c =
-    let start = c .before .before in
-    let s = start .args .s in
-    let w = start .args .out .now in
-    let pre = start .pre in
-    let p = capped s (length w) (length w - 2) _ (pre .limits .two) (omega arith) (pre .limits .small) (c .power .ensures) in
-    p-pos s (start .args .m) w (pre .long) (pre .limits) (start .args .q) (pre .below) _ p
+div-pair-of c = p-pos (start c .pre) (p-is c)
 
 pair-of-requires : tie.Need-pair-of-requires
-pair-of-requires c κs =
-    let start = c .before .before in
-    let s = start .args .s in
-    let w = start .args .out .now in
-    let pre = start .pre in
-    let p = capped s (length w) (length w - 2) _ (pre .limits .two) (omega arith) (pre .limits .small) (c .power .ensures) in
-    rank-below s (start .args .m) w (pre .long) (pre .limits) (start .args .q) (pre .below) _ p
+pair-of-requires c κs = rank-below (start c .pre) (p-is c)
 
 mirror-rank-requires : tie.Need-mirror-rank-requires
 mirror-rank-requires c κs =
-    let pw = c .before .before in
-    let start = pw .before .before in
-    let s = start .args .s in
-    let w = start .args .out .now in
-    let pre = start .pre in
-    let p = capped s (length w) (length w - 2) _ (pre .limits .two) (omega arith) (pre .limits .small) (pw .power .ensures) in
-    omega (arith, right-lt s (start .args .m) w (pre .long) (pre .limits) (start .args .q) (pre .below) _ p, c .before .pair-of .ensures .1)
+    let power = c .before .before in
+    omega (arith, right-lt (start power .pre) (p-is power), c .before .pair-of .ensures .1)
 
 set-ends-requires : tie.Need-set-ends-requires
 set-ends-requires c κs = search needs
@@ -59,24 +54,16 @@ part-fill-plain-end c = search needs
 
 rem-fill-plain : tie.Need-rem-fill-plain
 rem-fill-plain c =
-    let pw = c .before .before .before .before .before .before .before in
-    let start = pw .before .before in
-    let s = start .args .s in
-    let w = start .args .out .now in
-    let pre = start .pre in
-    let p = capped s (length w) (length w - 2) _ (pre .limits .two) (omega arith) (pre .limits .small) (pw .power .ensures) in
-    p-pos s (start .args .m) w (pre .long) (pre .limits) (start .args .q) (pre .below) _ p
+    let power = c .before .before .before .before .before .before .before in
+    p-pos (start power .pre) (p-is power)
 
 fill-plain-requires : tie.Need-fill-plain-requires
 fill-plain-requires c κs =
-    let pw = c .before .before .before .before .before .before .before in
-    let start = pw .before .before in
-    let s = start .args .s in
-    let w = start .args .out .now in
-    let pre = start .pre in
-    let p = capped s (length w) (length w - 2) _ (pre .limits .two) (omega arith) (pre .limits .small) (pw .power .ensures) in
-    let inner-length = part-length w _ (pre .long) _ _ (c .before .before .before .set-ends .ensures) in
-    (pre .limits .two, rest-lt s (start .args .m) w (pre .long) (pre .limits) (start .args .q) (pre .below) _ p _ inner-length)
+    let ends = c .before .before .before in
+    let power = ends .before .before .before .before in
+    let pre = start power .pre in
+    let inner-length = part-length (now (start power .args .out)) _ (pre .long) _ _ (ends .set-ends .ensures) in
+    (pre .limits .two, rest-lt pre (p-is power) _ inner-length)
 
 same-length : tie.Need-same-length
 same-length c = search needs
@@ -86,13 +73,9 @@ returns c =
     let ends = c .before .before .before .before .before .before in
     let last = ends .before in
     let pair = last .before .before in
-    let pw = pair .before in
-    let start = pw .before .before in
-    let s = start .args .s in
-    let w = start .args .out .now in
-    let pre = start .pre in
-    let p = capped s (length w) (length w - 2) _ (pre .limits .two) (omega arith) (pre .limits .small) (pw .power .ensures) in
-    high-word s (start .args .m) w (pre .long) (start .args .q) _ p _ _ _ _ _ (pair .pair-of .ensures .0) (pair .pair-of .ensures .1)
+    let power = pair .before in
+    let a = start power .args in
+    high-word (a .s) (a .m) (now (a .out)) (start power .pre .long) (a .q) _ (p-is power) _ _ _ _ _ (pair .pair-of .ensures .0) (pair .pair-of .ensures .1)
     (last .mirror-rank .ensures) (ends .set-ends .ensures) (c .before .before .fill-plain .ensures)
 
 pub fill-differing-spec : {M : Type 1} → statement M

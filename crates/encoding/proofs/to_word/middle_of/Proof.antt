@@ -1,6 +1,6 @@
 -- `encoding::to_word::middle_of` meets its contract. A case for each mirror; under complement a code is below s / 2 (ReadSteps).
 use mathlib.Core.Path.{subst, ap, sym}
-use Prim.Native.Nat.{_<_}
+use Prim.Native.Nat.{_<_, _/_}
 use native.Mathlib.Omega.{arith}
 use borrow.Author.Needs.{needs}
 use Rattle.settings.specs.Settings.{classes}
@@ -15,19 +15,19 @@ enum-told c = search needs
 enum-told-2 : tie.Need-enum-told-2
 enum-told-2 c = search needs
 
-sub-result : tie.Need-sub-result
-sub-result c =
+-- Under complement the code is below s / 2.
+low-code : (c : tie.After-enum-told2) → let a = c .before .before .args in a .q < a .s / 2
+low-code c =
     let start = c .before .before in
     let s = start .args .s in
     let q = start .args .q in
-    omega (arith, middle-lt s q (subst (λ m. q < classes s m 1) (c .enum-told2 .given .1) (start .pre .0)))
+    middle-lt s q (subst (λ m. q < classes s m 1) (c .enum-told2 .given .1) (start .pre .0))
+
+sub-result : tie.Need-sub-result
+sub-result c = omega (arith, low-code c)
 
 sub-result-2 : tie.Need-sub-result-2
-sub-result-2 c =
-    let start = c .before .before in
-    let s = start .args .s in
-    let q = start .args .q in
-    omega (arith, middle-lt s q (subst (λ m. q < classes s m 1) (c .enum-told2 .given .1) (start .pre .0)))
+sub-result-2 c = omega (arith, low-code c)
 
 returns : tie.Need-returns
 unfolding middleOfCode

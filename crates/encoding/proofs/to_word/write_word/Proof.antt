@@ -3,82 +3,57 @@ use mathlib.Core.Path.{sym, subst⁻¹}
 use Prim.Native.Nat.{ℕ, _<_}
 use native.Mathlib.Omega.{arith}
 use borrow.Author.Needs.{needs}
+use denote.Ref.{now}
 use lib.ListN.{length, drop}
 use Rattle.settings.specs.Limits.{Limits}
 use Rattle.settings.specs.Settings.{classes}
-use Rattle.laws.proofs.Powers.{exponent-le}
-use Rattle.encoding.proofs.ReadSteps.{zeros, zeros-length, front-fits, front-length, front-ranks, front-written}
+use Rattle.settings.proofs.Limits.{k-at-most}
+use Rattle.encoding.proofs.ReadSteps.{zeros, zeros-length, FilledWord, filled-fits, filled-front, filled-ranks, filled-written}
 use Rattle.encoding.proofs.to_word.write_word.Statement.{statement}
 use Rattle.encoding.proofs.to_word.write_word.Tie as tie
 
+-- Where the function began, from the place at which the array's first places are lent; and what `fill_word` wrote there.
+abbrev start : tie.After-ranks → tie.Start
+start c = c .before .before .before
+
+abbrev FilledFrom : tie.After-fill-word → Type 0
+FilledFrom c = let a = start (c .before) .args in FilledWord (now (a .letters)) (a .k) (a .m) (a .q) (c .fill-word .last .0)
+
+filled : (c : tie.After-fill-word) → FilledFrom c
+filled c = let pre = start (c .before) .pre in record { within = pre .0; below = pre .1; holds = c .fill-word .ensures }
+
 array-borrow-prefix-ranks : tie.Need-array-borrow-prefix-ranks
-array-borrow-prefix-ranks c =
-    let start = c .before .before in
-    let a = start .args in
-    let l = a .letters .now in
-    let f = start .pre .0 in
-    omega (arith, exponent-le (length l) (a .k) (f .two) (f .small))
+array-borrow-prefix-ranks c = omega (arith, k-at-most (c .before .before .pre .0))
 
 slice-aggregate-fill-word : tie.Need-slice-aggregate-fill-word
-slice-aggregate-fill-word c =
-    let start = c .before .before .before in
-    let a = start .args in
-    let l = a .letters .now in
-    let f = start .pre .0 in
-    let g = start .pre .1 in
-    sym (zeros-length l (a .k) (a .m) (a .q) f g)
+slice-aggregate-fill-word c = sym (zeros-length (start c .pre .0))
 
 fill-word-requires : tie.Need-fill-word-requires
 fill-word-requires c κs =
-    let start = c .before .before .before in
-    let a = start .args in
-    let l = a .letters .now in
-    let f = start .pre .0 in
-    let g = start .pre .1 in
-    let k-places = zeros-length l (a .k) (a .m) (a .q) f g in
-    (subst⁻¹ (λ (n : ℕ). Limits (length l) (a .m) n) k-places f, subst⁻¹ (λ (n : ℕ). a .q < classes (length l) (a .m) n) k-places g)
+    let a = start c .args in
+    let s = length (now (a .letters)) in
+    let k-places = zeros-length (start c .pre .0) in
+    (subst⁻¹ (λ (n : ℕ). Limits s (a .m) n) k-places (start c .pre .0), subst⁻¹ (λ (n : ℕ). a .q < classes s (a .m) n) k-places (start c .pre .1))
 
 array-share-prefix-ranks : tie.Need-array-share-prefix-ranks
-array-share-prefix-ranks c =
-    let start = c .before .before .before .before .before in
-    let a = start .args in
-    let l = a .letters .now in
-    let f = start .pre .0 in
-    let g = start .pre .1 in
-    front-fits l (a .k) (a .m) (a .q) f g _ (c .before .fill-word .ensures) _
+array-share-prefix-ranks c = filled-fits (filled (c .before)) _
 
 slice-aggregate-write-letters : tie.Need-slice-aggregate-write-letters
-slice-aggregate-write-letters c =
-    let start = c .before .before .before .before .before .before in
-    let a = start .args in
-    let l = a .letters .now in
-    let f = start .pre .0 in
-    let g = start .pre .1 in
-    sym (front-length l (a .k) (a .m) (a .q) f g _ (c .before .before .fill-word .ensures) _)
+slice-aggregate-write-letters c = sym (filled-front (filled (c .before .before)) _)
 
 write-letters-requires : tie.Need-write-letters-requires
 write-letters-requires c κs =
-    let start = c .before .before .before .before .before .before .before in
-    let a = start .args in
-    let l = a .letters .now in
-    let f = start .pre .0 in
-    let g = start .pre .1 in
-    let filled = c .before .before .before .fill-word .ensures in
-    let k-ranks = front-length l (a .k) (a .m) (a .q) f g _ filled (drop (a .k) zeros) in
-    (front-ranks l (a .k) (a .m) (a .q) f g _ filled _, omega (arith, k-ranks, start .pre .2))
+    let fill = c .before .before .before in
+    let k-ranks = filled-front (filled fill) (drop (start (fill .before) .args .k) zeros) in
+    (filled-ranks (filled fill) _, omega (arith, k-ranks, start (fill .before) .pre .2))
 
 same-length : tie.Need-same-length
 same-length c = search needs
 
 returns : tie.Need-returns
 returns c =
-    let start = c .before .before .before .before .before .before .before .before .before .before in
-    let a = start .args in
-    let l = a .letters .now in
-    let f = start .pre .0 in
-    let g = start .pre .1 in
-    let filled = c .before .before .before .before .before .before .fill-word .ensures in
-    front-written l (a .k) (a .m) (a .q) f g _ filled _ _ _ (c .before .before .write-letters .ensures)
+    let written = c .before .before in
+    filled-written (filled (written .before .before .before .before)) _ _ _ (written .write-letters .ensures)
 
 pub write-word-spec : {M : Type 1} → statement M
 write-word-spec =

@@ -2,7 +2,6 @@
 use native.Mathlib.Omega.{arith}
 use borrow.Author.Needs.{needs}
 use Rattle.sequence.proofs.AnyAlphabet.{k-lt, within-short, digit-fits, first-le, last-le, within-long}
-use Rattle.settings.proofs.Powers.{fits}
 use Rattle.sequence.proofs.general.inner_window.Statement.{statement}
 use Rattle.sequence.proofs.general.inner_window.Tie as tie
 
