@@ -9,6 +9,7 @@ use native.Mathlib.Omega.{arith}
 use lib.Dec.{eqb}
 use lib.ListN.{length, getD, take, length-append, length-map, length-reverse}
 use lib.Seq.{take-at, getD-at, take-suc, take-all, length-take-le}
+use Rattle.laws.proofs.Each.{each-append}
 use Rattle.laws.proofs.Powers.{pow-one}
 use Rattle.encoding.specs.Words.{Mirror, Ranks, mirrorRank, mirror, plain}
 use Rattle.encoding.specs.Codes.{digits, differingPair, pairRank}
@@ -48,10 +49,6 @@ ends P p₀ p₁ p₂ (suc (suc n)) (a ∷ w) h = step P n a w (λ b u g. p₂ n
 pub length-ends : (n a b : ℕ) (u : List ℕ) → length u ≡ n → length (a ∷ (u ++ (b ∷ []))) ≡ suc (suc n)
 length-ends n a b u h = omega (arith, length-append u (b ∷ []))
 
-pub Ranks-append : (s : ℕ) (u v : List ℕ) → Ranks s u → Ranks s v → Ranks s (u ++ v)
-Ranks-append s [] v h g = g
-Ranks-append s (a ∷ u) v h g = (h .0, Ranks-append s u v (h .1) g)
-
 pub Ranks-left : (s : ℕ) (u v : List ℕ) → Ranks s (u ++ v) → Ranks s u
 Ranks-left s [] v h = tt
 Ranks-left s (a ∷ u) v h = (h .0, Ranks-left s u v (h .1))
@@ -61,7 +58,7 @@ Ranks-right s [] v h = h
 Ranks-right s (a ∷ u) v h = Ranks-right s u v (h .1)
 
 pub Ranks-ends : (s a b : ℕ) (u : List ℕ) → a < s → b < s → Ranks s u → Ranks s (a ∷ (u ++ (b ∷ [])))
-Ranks-ends s a b u ha hb hu = (ha, Ranks-append s u (b ∷ []) hu (hb, tt))
+Ranks-ends s a b u ha hb hu = (ha, each-append (λ (x : ℕ). x < s) u (b ∷ []) hu (hb, tt))
 
 plain-append : (s : ℕ) (u v : List ℕ) → plain s (u ++ v) ≡ plain s u * s ^ length v + plain s v
 unfolding plain

@@ -10,6 +10,7 @@ use lib.Seq.{set-split, drop-length, drop-cons, getD-set-same, drop-set-lt, leng
 use Rattle.settings.specs.Limits.{Limits}
 use Rattle.settings.specs.Settings.{classes, isOdd}
 use Rattle.settings.proofs.Limits.{k-at-most, limits-less}
+use Rattle.laws.proofs.Each.{each-append}
 use Rattle.laws.proofs.Powers.{pairCount, square, pow-one, pow-pos}
 use Rattle.laws.proofs.Buffers.{front-is, front-fits, front-length}
 use Rattle.encoding.specs.Calls.{inCapitals}
@@ -19,7 +20,7 @@ use Rattle.encoding.specs.WordsOfCodes.{wordOf, wordOfPlain, pairOfRank,
 use Rattle.encoding.proofs.Bijection.{word-low, word-high}
 use Rattle.encoding.proofs.ClassNumbers.{classes-le, classes-suc}
 use Rattle.encoding.proofs.Codes.{length-wordOf, ranks-wordOf}
-use Rattle.encoding.proofs.Ends.{plain-snoc, Ranks-append}
+use Rattle.encoding.proofs.Ends.{plain-snoc}
 use Rattle.encoding.proofs.Pairs.{rank-of-pair}
 use Rattle.encoding.proofs.Plain.{plain-wordOfPlain, length-wordOfPlain, ranks-wordOfPlain, wordOfPlain-plain}
 use Rattle.encoding.proofs.WordParts.{length-part}
@@ -51,7 +52,7 @@ snoc-of s j q hs h =
     let l : length (wordOfPlain s j (q / s) ++ (q % s ∷ [])) ≡ suc j
     = omega (arith, length-append (wordOfPlain s j (q / s)) (q % s ∷ []), length-wordOfPlain s j (q / s)) in
     let r : Ranks s (wordOfPlain s j (q / s) ++ (q % s ∷ []))
-    = Ranks-append s (wordOfPlain s j (q / s)) (q % s ∷ []) (ranks-wordOfPlain s j (q / s) hs low) (mod-lt q (omega arith), tt) in
+    = each-append (λ (x : ℕ). x < s) (wordOfPlain s j (q / s)) (q % s ∷ []) (ranks-wordOfPlain s j (q / s) hs low) (mod-lt q (omega arith), tt) in
     ap (wordOfPlain s (suc j)) (sym p) ∙ wordOfPlain-plain s (suc j) (wordOfPlain s j (q / s) ++ (q % s ∷ [])) hs l r
 
 module _ (s i q : ℕ) (hs : 1 < s) (hi : 0 < i) (h : q < s ^ i) where

@@ -2,12 +2,13 @@
 use mathlib.Core.Path.{subst, sym, ap, _≡_, _∙_}
 use mathlib.Core.Bool.{cond, Bool, true, false}
 use mathlib.Core.List.{List, [], _∷_, _++_}
-use Prim.Native.Nat.{_-_, ℕ, _<_, zero, suc, _+_, _≤_, _/_, _%_, _*_, _^_}
+use Prim.Native.Nat.{_-_, ℕ, _<_, suc, _+_, _≤_, _/_, _%_, _*_, _^_}
 use native.Mathlib.Nat.{pow-suc}
 use native.Mathlib.Omega.{arith}
 use lib.Dec.{eqb}
 use lib.ListN.{length, getD, take, drop, take-append-drop, length-drop}
 use lib.Seq.{length-take-le, drop-cons, take-suc, getD-drop}
+use Rattle.laws.proofs.Each.{each-at}
 use Rattle.laws.proofs.Powers.{pow-fits}
 use Rattle.encoding.specs.Codes.{digits, pairRank}
 use Rattle.encoding.specs.Needs.{part, FitWord}
@@ -17,9 +18,7 @@ use Rattle.encoding.proofs.Ends.{Ranks-left, Ranks-right, endDigits, di
 use Rattle.encoding.proofs.Recursion.{pair-value}
 
 pub ranks-at : (s : ℕ) (w : List ℕ) (i : ℕ) → Ranks s w → i < length w → getD w i 0 < s
-ranks-at s [] i h g = absurd (omega arith)
-ranks-at s (a ∷ w) zero h g = h .0
-ranks-at s (a ∷ w) (suc i) h g = ranks-at s w i (h .1) (omega arith)
+ranks-at s w i h g = each-at (λ (a : ℕ). a < s) w i h g
 
 pub ranks-back : (s : ℕ) (w : List ℕ) (i : ℕ) → Ranks s w → i < length w → getD w (length w - 1 - i) 0 < s
 ranks-back s w i h g = ranks-at s w (length w - 1 - i) h (omega arith)

@@ -6,13 +6,13 @@ use mathlib.Core.List.{List, [], _∷_, map, reverse}
 use Prim.Native.Nat.{ℕ, _+_, _-_, _*_, _^_, _<_}
 use lib.ListN.{length}
 use lib.Dec.{leb}
+use Rattle.laws.specs.Each.{Each}
 pub use Rattle.settings.specs.declared.Mirror.{Mirror}
 pub use Rattle.settings.specs.declared.Mirror.the-variants.{Reversal, Complement}
 
 -- Each rank is below s.
 abbrev pub Ranks : ℕ → List ℕ → Type 0
-Ranks s [] = Unit
-Ranks s (a ∷ w) = (a < s) × Ranks s w
+Ranks s w = Each (λ (a : ℕ). a < s) w
 
 -- "A word is k letters."
 pub record IsWord (s k : ℕ) (w : List ℕ) : Type 0 where

@@ -27,7 +27,7 @@ use Rattle.table.specs.declared.batches.Gathered.{Gathered}
 use Rattle.table.specs.Table.{bumps}
 use Rattle.laws.specs.Each.{Each}
 use Rattle.table.specs.Needs.{Below, Room, codesBy, cut, cutFrom, cutAfter, Gathers, Carries}
-use Rattle.table.proofs.Each.{each-map}
+use Rattle.laws.proofs.Each.{each-map}
 use Rattle.table.proofs.Bumps.{length-bumps, bumps-append, room-after, less-room}
 use Rattle.table.proofs.FileWords.{word-windows}
 use Rattle.table.proofs.Cuts.{cut-all, cut-batch}

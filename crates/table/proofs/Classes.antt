@@ -19,7 +19,7 @@ use Rattle.table.specs.Demand.{OnePlaceAClass}
 use Rattle.laws.specs.Each.{Each}
 use Rattle.laws.proofs.Tests.{bool-ext}
 use Rattle.table.specs.Needs.{Below}
-use Rattle.table.proofs.Each.{each-map}
+use Rattle.laws.proofs.Each.{each-map}
 use Rattle.table.proofs.Bumps.{occurrences}
 use Rattle.table.proofs.WordLists.{class-same, same-class}
 use Rattle.table.proofs.FileWords.{windows-are-words}

@@ -9,7 +9,7 @@ use lib.Seq.{drop-cons}
 use Rattle.table.specs.Table.{bump, bumps}
 use Rattle.laws.specs.Each.{Each}
 use Rattle.table.specs.Needs.{Below, Room, highestOf}
-use Rattle.table.proofs.Each.{each-at}
+use Rattle.laws.proofs.Each.{each-at}
 use Rattle.table.proofs.Bumps.{length-bumps, room-after}
 
 -- ---- counting codes: what is left of them gives the counts at the end

@@ -19,7 +19,7 @@ use Rattle.fasta.specs.File.{items}
 use Rattle.settings.proofs.Ranks.{rank-below-count}
 use Rattle.table.specs.Table.{windowsOfFile}
 use Rattle.laws.specs.Each.{Each}
-use Rattle.table.proofs.Each.{each-append}
+use Rattle.laws.proofs.Each.{each-append}
 
 -- A mark of a rank below s, or of a break.
 Ranked : ℕ → Option ℕ → Type 0

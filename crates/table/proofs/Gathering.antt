@@ -10,7 +10,7 @@ use mathlib.Core.List.{List, [], _∷_, _++_, append-nil}
 use lib.ListN.{length, getD, take, drop, set, length-set}
 use lib.Seq.{take-set-le, take-suc-set}
 use Rattle.encoding.specs.Words.{Ranks}
-use Rattle.encoding.proofs.Ends.{Ranks-append}
+use Rattle.laws.proofs.Each.{each-append}
 use Rattle.fasta.specs.declared.Item.{Item}
 use Rattle.fasta.specs.declared.Item.the-variants.{Opens, Skip, Stray, Letter}
 use Rattle.fasta.specs.declared.Mode.{Mode}
@@ -152,6 +152,6 @@ module _ {table r file : List ℕ} {start : Mode} {from letters : ℕ} {array : 
           untouched = λ f. absurd (omega (arith, G .begun));
           inside = omega arith;
           fits = rw (length-set array n (mark .rank)) (omega (arith, adds-one));
-          ranks = λ s T R. rw p (Ranks-append s (take n array) (take (mark .letters) (mark .rank ∷ [])) (G .ranks s T R) (new-rank byte s T));
+          ranks = λ s T R. rw p (each-append (λ (x : ℕ). x < s) (take n array) (take (mark .letters) (mark .rank ∷ [])) (G .ranks s T R) (new-rank byte s T));
           left = λ k. after k ∙ rw (e, p);
         }

@@ -15,7 +15,7 @@ use Rattle.table.specs.Table.{windowsOfFile}
 use Rattle.table.specs.Book.{hits, Book, bookGround, bookAfter, bookAnswers, bookAfterAll}
 use Rattle.table.specs.Demand.{takenIn, windowsOfFiles, addedUp, lettersOf, foreignOf, edgeOf}
 use Rattle.laws.specs.Each.{Each}
-use Rattle.table.proofs.Each.{each-append}
+use Rattle.laws.proofs.Each.{each-append}
 use Rattle.table.proofs.FileWords.{windows-are-words}
 use Rattle.table.proofs.Steps.{taken}
 
