@@ -125,7 +125,7 @@ fn codes_along_sequences() {
     }
 }
 
-/// Lists of adds, damaged files among them, beside the tally book; the listing beside the second counter's.
+/// Lists of adds, damaged files among them, beside the tally book.
 #[test]
 fn tables_beside_the_tally_book() {
     let mut random = Random::new(104);

@@ -265,8 +265,8 @@ fn a_file_that_is_too_long() {
     assert_eq!(run.complaints()[0], format!("/dev/zero: {right}"));
 }
 
-/// Root may read every file, so that a run by root is made as nobody, with a copy of the command that nobody
-/// can reach.
+/// Root may read every file, so that a run by root is made as the user nobody, with a copy of the command that
+/// the user nobody can reach.
 #[test]
 fn a_file_without_permission() {
     let folder = Folder::new();

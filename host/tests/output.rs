@@ -58,8 +58,8 @@ fn a_file_that_is_there_is_not_overwritten() {
     assert_eq!(folder.names(), ["a.fa", "counts.txt", "link"]);
 }
 
-/// A name that comes up while the files are counted is not overwritten either. The command looked for it before
-/// it said the first file's numbers, and then waits for standard input.
+/// A name that comes up while the files are counted is not overwritten either. The command looked for it
+/// before it said the first file's numbers, and then waits for standard input.
 #[test]
 fn a_file_that_comes_up_meanwhile_is_not_overwritten() {
     let folder = Folder::new();

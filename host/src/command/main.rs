@@ -55,8 +55,7 @@ fn run(arguments: &[OsString]) -> Outcome {
     run(&parsed.map_err(|error| Failure::said(format!("{error}; see wontirje {name} --help")))?)
 }
 
-/// The exit status: 0 when all was taken in, 1 when something was refused or a file could not be read, 2 when
-/// the command could not do its work. A reader who closed the pipe has what he wanted: no word about it.
+/// The exit status is that of `help::ALL`. A reader who closed the pipe has what he wanted: no word about it.
 fn main() -> ExitCode {
     let arguments: Vec<OsString> = env::args_os().skip(1).collect();
     match run(&arguments) {
