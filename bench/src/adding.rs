@@ -1,14 +1,11 @@
 //! Adding a sequence file to a count table, in nanoseconds a letter: libkmer.a beside a plain Rust counter of
 //! the same shape (one pass that judges the bytes and counts the letters, then one in batches: codes, then
-//! increments), and beside jellyfish and KMC where they are on PATH.
+//! increments).
 
 use crate::baseline::{general, rank_table, two_bit};
 use crate::c_calls::{kmer_add, kmer_clear};
-use crate::drawn;
-use std::fs;
+use crate::{drawn, median, print_ratio};
 use std::hint::black_box;
-use std::path::Path;
-use std::process::{Command, Stdio};
 use std::time::Instant;
 
 const RUNS: usize = 7;
@@ -35,7 +32,14 @@ impl Survey<'_> {
     fn clear(&self, table: &mut [u32]) -> usize {
         // SAFETY: each pointer points to as many places as the length says.
         let answer = unsafe {
-            kmer_clear(self.letters.as_ptr(), self.letters.len(), self.k, self.mirror, table.as_mut_ptr(), table.len())
+            kmer_clear(
+                self.letters.as_ptr(),
+                self.letters.len(),
+                self.k,
+                self.mirror,
+                table.as_mut_ptr(),
+                table.len(),
+            )
         };
         assert!(answer < 1 << 63, "kmer_clear is refused {answer:#x}");
         answer as usize
@@ -48,7 +52,18 @@ impl Survey<'_> {
         // SAFETY: as above.
         let answer = unsafe {
             let (to, list) = (table.as_mut_ptr(), numbers.as_mut_ptr());
-            kmer_add(letters.as_ptr(), letters.len(), k, mirror, to, table.len(), file.as_ptr(), file.len(), list, 5)
+            kmer_add(
+                letters.as_ptr(),
+                letters.len(),
+                k,
+                mirror,
+                to,
+                table.len(),
+                file.as_ptr(),
+                file.len(),
+                list,
+                5,
+            )
         };
         assert!(answer == 5, "kmer_add answered {answer:#x}");
         numbers
@@ -168,7 +183,8 @@ fn plain_add(survey: &Survey, table: &mut [u32], file: &[u8]) -> Numbers {
     numbers
 }
 
-/// A file of one record in lines of 80 letters, nearly as long as the library takes, with some foreign letters.
+/// A file of one record in lines of 80 letters, nearly as long as the library takes, with some foreign
+/// letters.
 fn drawn_file(letters: &[u8], foreign: u8) -> Vec<u8> {
     let mut file = b">drawn\n".to_vec();
     let mut sequence = drawn(letters, LETTERS);
@@ -193,49 +209,8 @@ fn medians(survey: &Survey, file: &[u8], table: &mut [u32]) -> (f64, f64) {
         times[1].push(start.elapsed().as_nanos() as f64 / numbers[1] as f64);
         assert!(numbers == plain && table == &other[..], "the library and the plain counter differ");
     }
-    times.iter_mut().for_each(|times| times.sort_by(f64::total_cmp));
-    (times[0][RUNS / 2], times[1][RUNS / 2])
-}
-
-/// Runs another counter several times: the median in nanoseconds a letter, or why there is none.
-fn other_counter(program: &str, arguments: &[&str]) -> Result<f64, &'static str> {
-    let mut times = Vec::new();
-    for _ in 0..3 {
-        let start = Instant::now();
-        let run = Command::new(program).args(arguments).stdout(Stdio::null()).stderr(Stdio::null()).status();
-        let status = run.map_err(|_| "is not on PATH")?;
-        if !status.success() {
-            return Err("failed");
-        }
-        times.push(start.elapsed().as_nanos() as f64 / LETTERS as f64);
-    }
-    times.sort_by(f64::total_cmp);
-    Ok(times[1])
-}
-
-/// jellyfish and KMC on the same file with one thread each, whole runs of the programs.
-fn print_others(k: usize, file: &[u8], ours: f64, folder: &Path) {
-    let (input, output) = (folder.join("adding.fa"), folder.join("adding.out"));
-    fs::write(&input, file).expect("a folder that can be written");
-    let (from, to, at) = (input.to_string_lossy(), output.to_string_lossy(), folder.to_string_lossy());
-    let k_text = k.to_string();
-    let kmc_k = format!("-k{k}");
-    let jellyfish = ["count", "-m", &k_text, "-s", "16M", "-t", "1", "-C", "-o", &to, &from];
-    let kmc = [&kmc_k[..], "-t1", "-ci1", "-cs4294967295", "-fm", &from, &to, &at];
-    for (program, arguments) in [("jellyfish", &jellyfish[..]), ("kmc", &kmc)] {
-        match other_counter(program, arguments) {
-            Ok(ns) => println!("adding, ACGT complement k {k}: {program} {ns:.2}, ratio {:.2}", ours / ns),
-            Err(why) => println!("adding, ACGT complement k {k}: {program} {why}, left out"),
-        }
-    }
-}
-
-/// A folder of this run's own for the other counters' files, removed afterwards.
-fn with_folder(work: impl FnOnce(&Path)) {
-    let folder = std::env::temp_dir().join(format!("kmer-bench-{}", std::process::id()));
-    fs::create_dir_all(&folder).expect("a folder for the other counters");
-    work(&folder);
-    fs::remove_dir_all(&folder).expect("the folder goes away again");
+    let [ours, plain] = times.map(median);
+    (ours, plain)
 }
 
 /// The compiler must not make a counter for just these settings, which a caller gives at run time.
@@ -246,13 +221,12 @@ pub fn print() {
         let mut table = vec![0; 8_390_656];
         let classes = survey.clear(&mut table);
         let (ours, plain) = medians(&survey, &dna, &mut table[..classes]);
-        println!("adding, ACGT complement k {k}: {ours:.2}, plain Rust {plain:.2}, ratio {:.2}", ours / plain);
-        with_folder(|folder| print_others(k, &dna, ours, folder));
+        print_ratio(&format!("adding, ACGT complement k {k}:"), ours, plain);
     }
     let groups = b"ACDEFGHIKL";
     let survey = black_box(Survey { letters: groups, k: 6, mirror: 0 });
     let mut table = vec![0; 500_500];
     let classes = survey.clear(&mut table);
     let (ours, plain) = medians(&survey, &drawn_file(groups, b'X'), &mut table[..classes]);
-    println!("adding, 10 letters reversal k 6: {ours:.2}, plain Rust {plain:.2}, ratio {:.2}", ours / plain);
+    print_ratio("adding, 10 letters reversal k 6:", ours, plain);
 }

@@ -20,10 +20,15 @@ fn pair_rank(s: u64, l: u64, r: u64) -> u64 {
 
 /// The number of palindromes of k letters.
 fn palindromes(s: u64, complement: bool, k: usize) -> u64 {
-    if complement && k % 2 == 1 { 0 } else { s.pow(k.div_ceil(2) as u32) }
+    if complement && k % 2 == 1 {
+        0
+    } else {
+        s.pow(k.div_ceil(2) as u32)
+    }
 }
 
-/// The code from the plain ranks of a word of ACGT and of its reverse complement: shifts, masks, leading zeros.
+/// The code from the plain ranks of a word of ACGT and of its reverse complement: shifts, masks, leading
+/// zeros.
 fn two_bit_code(k: u32, e: u64, forward: u64, back: u64) -> u64 {
     let (a, b) = (forward.min(back), forward.max(back));
     let differing = (65 - (a ^ b).leading_zeros()) / 2;
@@ -37,7 +42,11 @@ fn two_bit_code(k: u32, e: u64, forward: u64, back: u64) -> u64 {
     }
     let half = 2 * (k / 2);
     let closing = (1u64 << half) - 1;
-    if k % 2 == 0 { closing - (a & closing) } else { ((1 - (a >> half & 3)) << half) + closing - (a & closing) }
+    if k % 2 == 0 {
+        closing - (a & closing)
+    } else {
+        ((1 - (a >> half & 3)) << half) + closing - (a & closing)
+    }
 }
 
 /// ACGT under complement by two-bit numbers, one pass.
@@ -73,14 +82,19 @@ struct General<'a> {
 
 impl General<'_> {
     fn mirrored(&self, rank: u64) -> u64 {
-        if self.complement { self.s - 1 - rank } else { rank }
+        if self.complement {
+            self.s - 1 - rank
+        } else {
+            rank
+        }
     }
 
     fn rank(&self, i: usize) -> u64 {
         self.ranks[i] as u64
     }
 
-    /// The code of the window at j, from the plain ranks u and v of the letters between its ends and of their mirror.
+    /// The code of the window at j, from the plain ranks u and v of the letters between its ends and of their
+    /// mirror.
     fn code(&self, j: usize, e: u64, u: u64, v: u64) -> u64 {
         let (mut e, mut u, mut v, mut at, mut n) = (e, u, v, j, self.k);
         let (mut closing, mut scale) = (0, 1);

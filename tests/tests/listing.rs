@@ -8,10 +8,10 @@ use kmer_tests::draw::*;
 use kmer_tests::draw_inputs::Inputs;
 use kmer_tests::expected::{coder, Refusal};
 use kmer_tests::lent::{check_places, filled, Lent};
-use kmer_tests::second_counter::{answer, listing};
+use kmer_tests::second_counter::{answer, first_line, listing};
 use kmer_tests::sequences::two_bit_settings;
 use kmer_tests::settings::*;
-use kmer_tests::tables::{add, cleared, sizes_up_to};
+use kmer_tests::tables::{add, cleared, drawn_table, sizes_up_to};
 
 /// Lists a table into a filled buffer of `room` bytes: the answer of kmer_listing and the buffer after it.
 fn listed(settings: &Settings, table: &[u32], room: usize) -> (u64, Vec<u8>) {
@@ -124,13 +124,7 @@ fn drawn_tables_of_every_size() {
     for (s, mirror, k) in sizes_up_to(20_000) {
         let settings = Settings::new(&drawn_capitals(&mut random, s), k, mirror);
         for sparse in [1, 2, 50] {
-            let count = |random: &mut Random| match random.below(sparse) {
-                0 => random.draw() as u32 >> random.below(32),
-                _ => 0,
-            };
-            let places = class_count(&settings) as usize + random.below(3) as usize;
-            let table: Vec<u32> = (0..places).map(|_| count(&mut random)).collect();
-            bytes += check_rooms(&settings, &table);
+            bytes += check_rooms(&settings, &drawn_table(&mut random, &settings, sparse));
         }
     }
     assert!(bytes > 5_000_000, "{bytes} bytes listed");
@@ -158,9 +152,8 @@ fn tables_that_files_were_added_to() {
     let mut with_counts = 0;
     for _ in 0..1000 {
         let (settings, input) = inputs.good(500);
-        let end = input.iter().position(|&byte| byte == b'\n').expect("a survey line with its end");
         let (_, mut table) = cleared(&settings, 1);
-        assert_eq!(add(&settings, &mut table, &input[end + 1..], &mut Lent::filled(5)), 5, "{settings}");
+        assert_eq!(add(&settings, &mut table, first_line(&input).1, &mut Lent::filled(5)), 5, "{settings}");
         let printed = answer(&input);
         let file_line =
             printed[..printed.len() - 1].iter().rposition(|&byte| byte == b'\n').expect("two lines");
