@@ -1,7 +1,6 @@
 //! Plain Rust versions of the same algorithms, written as one would without proofs: the yardstick.
 
-/// The number of a window that has a byte which is no letter.
-const NONE: u64 = u64::MAX;
+use wontirje::{Mirror, Settings, NO_CODE};
 
 /// The rank of every byte, 255 for none.
 pub fn rank_table(letters: &[u8]) -> [u8; 256] {
@@ -64,7 +63,7 @@ pub fn two_bit(k: usize, sequence: &[u8], codes: &mut [u64]) -> usize {
         forward = (forward & mask) << 2 | rank;
         back = back >> 2 | (3 - rank) << top;
         if i + 1 >= k {
-            codes[filled] = if run < k { NONE } else { two_bit_code(k as u32, e, forward, back) };
+            codes[filled] = if run < k { NO_CODE } else { two_bit_code(k as u32, e, forward, back) };
             filled += 1;
         }
     }
@@ -128,7 +127,9 @@ impl General<'_> {
 }
 
 /// Any alphabet, each window from the one before; the divisor is known only at run time.
-pub fn general(letters: &[u8], k: usize, complement: bool, sequence: &[u8], codes: &mut [u64]) -> usize {
+pub fn general(settings: &Settings, sequence: &[u8], codes: &mut [u64]) -> usize {
+    let Settings { letters, k, mirror } = *settings;
+    let complement = mirror == Mirror::Complement;
     if sequence.len() < k {
         return 0;
     }
@@ -149,7 +150,7 @@ pub fn general(letters: &[u8], k: usize, complement: bool, sequence: &[u8], code
     let windows = ranks.len() - k + 1;
     for j in 0..windows {
         run = if classes[j + k - 1] == 255 { 0 } else { run + 1 };
-        codes[j] = if run < k { NONE } else { it.code(j, e, u, v) };
+        codes[j] = if run < k { NO_CODE } else { it.code(j, e, u, v) };
         if j + 1 < windows {
             let (first, next) = (it.rank(j + 1), it.rank(j + 1 + n));
             u = u * s + next - first * it.powers[n];

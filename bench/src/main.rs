@@ -5,38 +5,20 @@
 mod adding;
 mod baseline;
 mod command;
-// Three files of the tests by their path: the declarations of the C calls, what is drawn and what a process
-// took. Each has more than is used here.
-#[allow(dead_code)]
-#[path = "../../tests/src/c_calls.rs"]
-mod c_calls;
+// Two files of the tests by their path: what is drawn and what a process took. The first has more than is
+// used here.
 #[allow(dead_code)]
 #[path = "../../tests/src/draw.rs"]
 mod draw;
 #[path = "../../host/tests/run/usage.rs"]
 mod usage;
 
-use c_calls::{kmer_codes, kmer_codes_two_bit};
 use draw::Random;
 use std::time::Instant;
+use wontirje::{codes_two_bit, Mirror, Settings};
 
 const LETTERS: usize = 16_000_000;
 const RUNS: usize = 11;
-
-fn general(letters: &[u8], k: usize, mirror: u64, sequence: &[u8], codes: &mut [u64]) -> usize {
-    // SAFETY: each pointer points to as many places as the length says.
-    unsafe {
-        let (from, to) = (sequence.as_ptr(), codes.as_mut_ptr());
-        kmer_codes(letters.as_ptr(), letters.len(), k, mirror, from, sequence.len(), to, codes.len()) as usize
-    }
-}
-
-fn two_bit(k: usize, sequence: &[u8], codes: &mut [u64]) -> usize {
-    // SAFETY: as above.
-    unsafe {
-        kmer_codes_two_bit(k, sequence.as_ptr(), sequence.len(), codes.as_mut_ptr(), codes.len()) as usize
-    }
-}
 
 /// A random sequence over some letters.
 fn drawn(letters: &[u8], length: usize) -> Vec<u8> {
@@ -76,11 +58,12 @@ fn print_ratio(what: &str, ours: f64, plain: f64) {
 /// Both paths for a sequence of DNA under complement, each beside its plain version: the medians of the
 /// two-bit path and of the general path.
 fn print_paths(what: &str, k: usize, dna: &[u8]) -> [f64; 2] {
+    let settings = Settings::dna(k);
     let versions: [&dyn Fn(&mut [u64]) -> usize; 4] = [
-        &|codes| two_bit(k, dna, codes),
+        &|codes| codes_two_bit(k, dna, codes).expect("room for all codes"),
         &|codes| baseline::two_bit(k, dna, codes),
-        &|codes| general(b"ACGT", k, 1, dna, codes),
-        &|codes| baseline::general(b"ACGT", k, true, dna, codes),
+        &|codes| settings.codes(dna, codes).expect("room for all codes"),
+        &|codes| baseline::general(&settings, dna, codes),
     ];
     let ns = medians(dna, &versions);
     print_ratio(&format!("{what} k {k}: two-bit"), ns[0], ns[1]);
@@ -112,13 +95,14 @@ fn print_alphabets() {
     for (s, k) in [(2, 31), (6, 12), (10, 12), (16, 12)] {
         let letters = &capitals[..s];
         let sequence = drawn(letters, LETTERS);
-        for mirror in [0, 1] {
+        for mirror in [Mirror::Reversal, Mirror::Complement] {
+            let settings = Settings { letters, k, mirror };
             let versions: [&dyn Fn(&mut [u64]) -> usize; 2] =
-                [&|codes| general(letters, k, mirror, &sequence, codes), &|codes| {
-                    baseline::general(letters, k, mirror == 1, &sequence, codes)
+                [&|codes| settings.codes(&sequence, codes).expect("room for all codes"), &|codes| {
+                    baseline::general(&settings, &sequence, codes)
                 }];
             let ns = medians(&sequence, &versions);
-            print_ratio(&format!("{s} letters, mirror {mirror}, k {k}: general"), ns[0], ns[1]);
+            print_ratio(&format!("{s} letters, {}, k {k}: general", mirror.name()), ns[0], ns[1]);
         }
     }
 }
