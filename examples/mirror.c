@@ -3,7 +3,7 @@
  * mirror have one code, and finds the place that a refusal tells. mirror.expected has what it must print.
  *
  *   rt staticlib kmer
- *   cc -std=c11 -Iinclude examples/mirror.c target/staticlib/libkmer.a -o mirror && ./mirror
+ *   cc -std=c11 -Iinclude examples/mirror.c target/staticlib/libkmer.a -o target/mirror && target/mirror
  */
 #include <inttypes.h>
 #include <stdio.h>

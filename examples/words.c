@@ -3,7 +3,7 @@
  * Prints the cases of document 01 that concern words; words.expected has what it must print.
  *
  *   rt staticlib kmer
- *   cc -std=c11 -Iinclude examples/words.c target/staticlib/libkmer.a -o words && ./words
+ *   cc -std=c11 -Iinclude examples/words.c target/staticlib/libkmer.a -o target/words && target/words
  */
 #include <inttypes.h>
 #include <stdio.h>

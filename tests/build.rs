@@ -1,5 +1,5 @@
 //! Links libkmer.a, from target/staticlib at the repository's root or from the folder KMER_LIB_DIR. The build
-//! script of tests/ and, by its path, of bench/ and host/, which all stand next to target/.
+//! script of tests/ and, by its path, of host/, which both stand next to target/.
 
 use std::env;
 use std::path::PathBuf;

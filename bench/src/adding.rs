@@ -1,15 +1,12 @@
 //! Adding a sequence file to a count table, in nanoseconds a letter: libkmer.a beside a plain Rust counter of
 //! the same shape (one pass that judges the bytes and counts the letters, then one in batches: codes, then
-//! increments), and beside jellyfish and KMC where they are on PATH.
+//! increments).
 
 use crate::baseline::{general, rank_table, two_bit};
-use crate::c_calls::{kmer_add, kmer_clear};
-use crate::drawn;
-use std::fs;
+use crate::{drawn, median, print_ratio};
 use std::hint::black_box;
-use std::path::Path;
-use std::process::{Command, Stdio};
 use std::time::Instant;
+use wontirje::{Mirror, Numbers, Settings};
 
 const RUNS: usize = 7;
 const LETTERS: usize = 16_500_000;
@@ -20,40 +17,6 @@ const BATCH: usize = 1024;
 /// What the first pass makes of a byte that is no settings letter, after the ranks.
 const FOREIGN: u8 = 16;
 const STRAY: u8 = 17;
-
-/// Records, letters, foreign, edge and windows.
-type Numbers = [u64; 5];
-
-struct Survey<'a> {
-    letters: &'a [u8],
-    k: usize,
-    mirror: u64,
-}
-
-impl Survey<'_> {
-    /// Clears a table with the library: the number of classes.
-    fn clear(&self, table: &mut [u32]) -> usize {
-        // SAFETY: each pointer points to as many places as the length says.
-        let answer = unsafe {
-            kmer_clear(self.letters.as_ptr(), self.letters.len(), self.k, self.mirror, table.as_mut_ptr(), table.len())
-        };
-        assert!(answer < 1 << 63, "kmer_clear is refused {answer:#x}");
-        answer as usize
-    }
-
-    /// Adds a file with the library.
-    fn add(&self, table: &mut [u32], file: &[u8]) -> Numbers {
-        let mut numbers = [0; 5];
-        let (letters, k, mirror) = (self.letters, self.k, self.mirror);
-        // SAFETY: as above.
-        let answer = unsafe {
-            let (to, list) = (table.as_mut_ptr(), numbers.as_mut_ptr());
-            kmer_add(letters.as_ptr(), letters.len(), k, mirror, to, table.len(), file.as_ptr(), file.len(), list, 5)
-        };
-        assert!(answer == 5, "kmer_add answered {answer:#x}");
-        numbers
-    }
-}
 
 /// What each byte of a sequence line is.
 fn byte_table(letters: &[u8]) -> [u8; 256] {
@@ -101,13 +64,14 @@ fn judged(file: &[u8], bytes: &[u8; 256], k: usize) -> Result<Numbers, usize> {
         }
     });
     edge += run.min(k as u64 - 1);
-    fault.map_or(Ok([records, letters, foreign, edge, letters - foreign - edge]), Err)
+    let windows = letters - foreign - edge;
+    fault.map_or(Ok(Numbers { records, letters, foreign, edge, windows }), Err)
 }
 
 /// The second pass: letters of a run wait in a batch; each batch but a run's first begins with the last k - 1
 /// letters of the one before.
 struct Adding<'a> {
-    survey: &'a Survey<'a>,
+    settings: &'a Settings<'a>,
     batch: [u8; BATCH],
     waiting: usize,
     codes: [u64; BATCH],
@@ -119,7 +83,7 @@ impl Adding<'_> {
         self.waiting += 1;
         if self.waiting == BATCH {
             self.increment(table);
-            let kept = self.survey.k - 1;
+            let kept = self.settings.k - 1;
             self.batch.copy_within(BATCH - kept.., 0);
             self.waiting = kept;
         }
@@ -132,11 +96,10 @@ impl Adding<'_> {
 
     /// Codes of the batch, then increments.
     fn increment(&mut self, table: &mut [u32]) {
-        let Survey { letters, k, mirror } = *self.survey;
         let batch = &self.batch[..self.waiting];
-        let filled = match mirror {
-            1 => two_bit(k, batch, &mut self.codes),
-            _ => general(letters, k, false, batch, &mut self.codes),
+        let filled = match self.settings.mirror {
+            Mirror::Complement => two_bit(self.settings.k, batch, &mut self.codes),
+            Mirror::Reversal => general(self.settings, batch, &mut self.codes),
         };
         for &code in &self.codes[..filled] {
             table[code as usize] += 1;
@@ -145,12 +108,12 @@ impl Adding<'_> {
 }
 
 /// The plain counter: judges the whole file, looks for a place that is too full, then adds.
-fn plain_add(survey: &Survey, table: &mut [u32], file: &[u8]) -> Numbers {
-    let bytes = byte_table(survey.letters);
-    let numbers = judged(file, &bytes, survey.k).expect("a file without damage");
+fn plain_add(settings: &Settings, table: &mut [u32], file: &[u8]) -> Numbers {
+    let bytes = byte_table(settings.letters);
+    let numbers = judged(file, &bytes, settings.k).expect("a file without damage");
     let fullest = table.iter().fold(0, |most, &count| count.max(most));
-    assert!(fullest as u64 + numbers[4] <= u32::MAX as u64, "a place is too full");
-    let mut adding = Adding { survey, batch: [0; BATCH], waiting: 0, codes: [0; BATCH] };
+    assert!(fullest as u64 + numbers.windows <= u32::MAX as u64, "a place is too full");
+    let mut adding = Adding { settings, batch: [0; BATCH], waiting: 0, codes: [0; BATCH] };
     for_lines(file, |_, line| {
         if line.first() == Some(&b'>') {
             adding.end_run(table);
@@ -168,7 +131,8 @@ fn plain_add(survey: &Survey, table: &mut [u32], file: &[u8]) -> Numbers {
     numbers
 }
 
-/// A file of one record in lines of 80 letters, nearly as long as the library takes, with some foreign letters.
+/// A file of one record in lines of 80 letters, nearly as long as the library takes, with some foreign
+/// letters.
 fn drawn_file(letters: &[u8], foreign: u8) -> Vec<u8> {
     let mut file = b">drawn\n".to_vec();
     let mut sequence = drawn(letters, LETTERS);
@@ -180,79 +144,33 @@ fn drawn_file(letters: &[u8], foreign: u8) -> Vec<u8> {
     file
 }
 
-/// The medians of the library and of the plain counter; their runs take turns, and both must leave the same.
-fn medians(survey: &Survey, file: &[u8], table: &mut [u32]) -> (f64, f64) {
-    let mut other = table.to_vec();
+/// Adds a file several times with the library and with the plain counter, in turns; both must leave the same.
+/// Prints the medians. The compiler must not make a counter for just these settings, which a caller gives at
+/// run time.
+fn print_adding(what: &str, settings: Settings, file: &[u8]) {
+    let settings = black_box(settings);
+    let mut table = vec![0; settings.table_places().expect("settings of a table")];
+    let mut other = table.clone();
     let mut times = [Vec::new(), Vec::new()];
     for _ in 0..RUNS {
         let start = Instant::now();
-        let numbers = survey.add(table, file);
-        times[0].push(start.elapsed().as_nanos() as f64 / numbers[1] as f64);
+        let numbers = settings.add(&mut table, file).expect("a file without damage");
+        times[0].push(start.elapsed().as_nanos() as f64 / numbers.letters as f64);
         let start = Instant::now();
-        let plain = plain_add(survey, &mut other, file);
-        times[1].push(start.elapsed().as_nanos() as f64 / numbers[1] as f64);
-        assert!(numbers == plain && table == &other[..], "the library and the plain counter differ");
+        let plain = plain_add(&settings, &mut other, file);
+        times[1].push(start.elapsed().as_nanos() as f64 / numbers.letters as f64);
+        assert!(numbers == plain && table == other, "the library and the plain counter differ");
     }
-    times.iter_mut().for_each(|times| times.sort_by(f64::total_cmp));
-    (times[0][RUNS / 2], times[1][RUNS / 2])
+    let [ours, plain] = times.map(median);
+    print_ratio(what, ours, plain);
 }
 
-/// Runs another counter several times: the median in nanoseconds a letter, or why there is none.
-fn other_counter(program: &str, arguments: &[&str]) -> Result<f64, &'static str> {
-    let mut times = Vec::new();
-    for _ in 0..3 {
-        let start = Instant::now();
-        let run = Command::new(program).args(arguments).stdout(Stdio::null()).stderr(Stdio::null()).status();
-        let status = run.map_err(|_| "is not on PATH")?;
-        if !status.success() {
-            return Err("failed");
-        }
-        times.push(start.elapsed().as_nanos() as f64 / LETTERS as f64);
-    }
-    times.sort_by(f64::total_cmp);
-    Ok(times[1])
-}
-
-/// jellyfish and KMC on the same file with one thread each, whole runs of the programs.
-fn print_others(k: usize, file: &[u8], ours: f64, folder: &Path) {
-    let (input, output) = (folder.join("adding.fa"), folder.join("adding.out"));
-    fs::write(&input, file).expect("a folder that can be written");
-    let (from, to, at) = (input.to_string_lossy(), output.to_string_lossy(), folder.to_string_lossy());
-    let k_text = k.to_string();
-    let kmc_k = format!("-k{k}");
-    let jellyfish = ["count", "-m", &k_text, "-s", "16M", "-t", "1", "-C", "-o", &to, &from];
-    let kmc = [&kmc_k[..], "-t1", "-ci1", "-cs4294967295", "-fm", &from, &to, &at];
-    for (program, arguments) in [("jellyfish", &jellyfish[..]), ("kmc", &kmc)] {
-        match other_counter(program, arguments) {
-            Ok(ns) => println!("adding, ACGT complement k {k}: {program} {ns:.2}, ratio {:.2}", ours / ns),
-            Err(why) => println!("adding, ACGT complement k {k}: {program} {why}, left out"),
-        }
-    }
-}
-
-/// A folder of this run's own for the other counters' files, removed afterwards.
-fn with_folder(work: impl FnOnce(&Path)) {
-    let folder = std::env::temp_dir().join(format!("kmer-bench-{}", std::process::id()));
-    fs::create_dir_all(&folder).expect("a folder for the other counters");
-    work(&folder);
-    fs::remove_dir_all(&folder).expect("the folder goes away again");
-}
-
-/// The compiler must not make a counter for just these settings, which a caller gives at run time.
 pub fn print() {
     let dna = drawn_file(b"ACGT", b'N');
     for k in [12, 8] {
-        let survey = black_box(Survey { letters: b"ACGT", k, mirror: 1 });
-        let mut table = vec![0; 8_390_656];
-        let classes = survey.clear(&mut table);
-        let (ours, plain) = medians(&survey, &dna, &mut table[..classes]);
-        println!("adding, ACGT complement k {k}: {ours:.2}, plain Rust {plain:.2}, ratio {:.2}", ours / plain);
-        with_folder(|folder| print_others(k, &dna, ours, folder));
+        print_adding(&format!("adding, ACGT complement k {k}:"), Settings::dna(k), &dna);
     }
-    let groups = b"ACDEFGHIKL";
-    let survey = black_box(Survey { letters: groups, k: 6, mirror: 0 });
-    let mut table = vec![0; 500_500];
-    let classes = survey.clear(&mut table);
-    let (ours, plain) = medians(&survey, &drawn_file(groups, b'X'), &mut table[..classes]);
-    println!("adding, 10 letters reversal k 6: {ours:.2}, plain Rust {plain:.2}, ratio {:.2}", ours / plain);
+    let letters = b"ACDEFGHIKL";
+    let groups = Settings { letters, k: 6, mirror: Mirror::Reversal };
+    print_adding("adding, 10 letters reversal k 6:", groups, &drawn_file(letters, b'X'));
 }

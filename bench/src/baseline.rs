@@ -1,7 +1,6 @@
 //! Plain Rust versions of the same algorithms, written as one would without proofs: the yardstick.
 
-/// The number of a window that has a byte which is no letter.
-const NONE: u64 = u64::MAX;
+use wontirje::{Mirror, Settings, NO_CODE};
 
 /// The rank of every byte, 255 for none.
 pub fn rank_table(letters: &[u8]) -> [u8; 256] {
@@ -20,10 +19,15 @@ fn pair_rank(s: u64, l: u64, r: u64) -> u64 {
 
 /// The number of palindromes of k letters.
 fn palindromes(s: u64, complement: bool, k: usize) -> u64 {
-    if complement && k % 2 == 1 { 0 } else { s.pow(k.div_ceil(2) as u32) }
+    if complement && k % 2 == 1 {
+        0
+    } else {
+        s.pow(k.div_ceil(2) as u32)
+    }
 }
 
-/// The code from the plain ranks of a word of ACGT and of its reverse complement: shifts, masks, leading zeros.
+/// The code from the plain ranks of a word of ACGT and of its reverse complement: shifts, masks, leading
+/// zeros.
 fn two_bit_code(k: u32, e: u64, forward: u64, back: u64) -> u64 {
     let (a, b) = (forward.min(back), forward.max(back));
     let differing = (65 - (a ^ b).leading_zeros()) / 2;
@@ -37,7 +41,11 @@ fn two_bit_code(k: u32, e: u64, forward: u64, back: u64) -> u64 {
     }
     let half = 2 * (k / 2);
     let closing = (1u64 << half) - 1;
-    if k % 2 == 0 { closing - (a & closing) } else { ((1 - (a >> half & 3)) << half) + closing - (a & closing) }
+    if k % 2 == 0 {
+        closing - (a & closing)
+    } else {
+        ((1 - (a >> half & 3)) << half) + closing - (a & closing)
+    }
 }
 
 /// ACGT under complement by two-bit numbers, one pass.
@@ -55,7 +63,7 @@ pub fn two_bit(k: usize, sequence: &[u8], codes: &mut [u64]) -> usize {
         forward = (forward & mask) << 2 | rank;
         back = back >> 2 | (3 - rank) << top;
         if i + 1 >= k {
-            codes[filled] = if run < k { NONE } else { two_bit_code(k as u32, e, forward, back) };
+            codes[filled] = if run < k { NO_CODE } else { two_bit_code(k as u32, e, forward, back) };
             filled += 1;
         }
     }
@@ -73,14 +81,19 @@ struct General<'a> {
 
 impl General<'_> {
     fn mirrored(&self, rank: u64) -> u64 {
-        if self.complement { self.s - 1 - rank } else { rank }
+        if self.complement {
+            self.s - 1 - rank
+        } else {
+            rank
+        }
     }
 
     fn rank(&self, i: usize) -> u64 {
         self.ranks[i] as u64
     }
 
-    /// The code of the window at j, from the plain ranks u and v of the letters between its ends and of their mirror.
+    /// The code of the window at j, from the plain ranks u and v of the letters between its ends and of their
+    /// mirror.
     fn code(&self, j: usize, e: u64, u: u64, v: u64) -> u64 {
         let (mut e, mut u, mut v, mut at, mut n) = (e, u, v, j, self.k);
         let (mut closing, mut scale) = (0, 1);
@@ -114,7 +127,9 @@ impl General<'_> {
 }
 
 /// Any alphabet, each window from the one before; the divisor is known only at run time.
-pub fn general(letters: &[u8], k: usize, complement: bool, sequence: &[u8], codes: &mut [u64]) -> usize {
+pub fn general(settings: &Settings, sequence: &[u8], codes: &mut [u64]) -> usize {
+    let Settings { letters, k, mirror } = *settings;
+    let complement = mirror == Mirror::Complement;
     if sequence.len() < k {
         return 0;
     }
@@ -135,7 +150,7 @@ pub fn general(letters: &[u8], k: usize, complement: bool, sequence: &[u8], code
     let windows = ranks.len() - k + 1;
     for j in 0..windows {
         run = if classes[j + k - 1] == 255 { 0 } else { run + 1 };
-        codes[j] = if run < k { NONE } else { it.code(j, e, u, v) };
+        codes[j] = if run < k { NO_CODE } else { it.code(j, e, u, v) };
         if j + 1 < windows {
             let (first, next) = (it.rank(j + 1), it.rank(j + 1 + n));
             u = u * s + next - first * it.powers[n];

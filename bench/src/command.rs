@@ -1,12 +1,12 @@
-//! `wontirje count` as a whole process on a file of 16,777,216 bytes, beside jellyfish and KMC with one thread each in the
-//! same run: time, processor time and peak memory. None of them writes its result: `--no-listing`, `--no-write` and `-w`.
-//! All are asked for the same counts: canonical words, every count from 1 to 2^32 - 1.
+//! `wontirje count` as a whole process on a file of 16,777,216 bytes, beside jellyfish and KMC with one
+//! thread each in the same run: time, processor time and peak memory. None of them writes its result:
+//! `--no-listing`, `--no-write` and `-w`. All are asked for the same counts: canonical words, every count
+//! from 1 to 2^32 - 1.
 
-use crate::draw::Random;
+use crate::draw::write_drawn;
+use crate::median;
 use crate::usage::{ended, own_peak, Taken};
-use std::fs::{self, File};
-use std::io::{self, BufWriter, Write};
-use std::path::Path;
+use std::fs;
 use std::process::{Command, Stdio};
 use std::time::Instant;
 
@@ -15,19 +15,6 @@ const BYTES: usize = 16_777_216;
 
 /// The command as `cargo build --release` in host/ leaves it.
 const WONTIRJE: &str = concat!(env!("CARGO_MANIFEST_DIR"), "/../target/host/release/wontirje");
-
-/// Random letters in lines of 79, written piece by piece: this process must stay small, since the system counts its
-/// memory as part of that of the programs that it starts.
-fn write_file(path: &Path) -> io::Result<()> {
-    let mut file = BufWriter::new(File::create(path)?);
-    let mut random = Random::new(1);
-    file.write_all(b">drawn\n")?;
-    for place in 8..=BYTES {
-        let byte = if place % 80 == 0 { b'\n' } else { b"ACGT"[random.below(4) as usize] };
-        file.write_all(&[byte])?;
-    }
-    file.flush()
-}
 
 /// Time from start to end in seconds, seconds of the processor and peak in bytes.
 type Measured = [f64; 3];
@@ -43,13 +30,9 @@ fn measured(program: &str, arguments: &[&str]) -> Result<Measured, &'static str>
 }
 
 /// The median of each number.
-fn median(runs: &[Result<Measured, &'static str>]) -> Result<Measured, &'static str> {
+fn of_each(runs: &[Result<Measured, &'static str>]) -> Result<Measured, &'static str> {
     let runs: Vec<Measured> = runs.iter().copied().collect::<Result<_, _>>()?;
-    Ok([0, 1, 2].map(|which| {
-        let mut numbers: Vec<f64> = runs.iter().map(|run| run[which]).collect();
-        numbers.sort_by(f64::total_cmp);
-        numbers[RUNS / 2]
-    }))
+    Ok([0, 1, 2].map(|which| median(runs.iter().map(|run| run[which]).collect())))
 }
 
 /// The medians of several programs, whose runs take turns.
@@ -60,7 +43,7 @@ fn medians(programs: &[(&str, Vec<&str>)]) -> Vec<Result<Measured, &'static str>
             found.push(measured(program, arguments));
         }
     }
-    found.iter().map(|runs| median(runs)).collect()
+    found.iter().map(|runs| of_each(runs)).collect()
 }
 
 fn shown([time, processor, peak]: Measured) -> String {
@@ -91,14 +74,14 @@ fn print_at(k: usize, file: &str, folder: &str) {
     }
 }
 
-/// At k 12 both ratios of time and KMC's of memory are promised to be below 1.
+/// This process must stay small, since the system counts its memory as part of that of the programs that it
+/// starts.
 pub fn print() {
     let folder = std::env::temp_dir().join(format!("wontirje-bench-{}", std::process::id()));
     fs::create_dir_all(&folder).expect("a folder for the file");
     let file = folder.join("drawn.fa");
-    write_file(&file).expect("room for the file");
+    write_drawn(&file, 1, BYTES).expect("room for the file");
     println!("whole processes on {BYTES} bytes, median of {RUNS} runs, one thread each, no result written");
-    println!("(at k 12: time below 1 beside both, memory below 1 beside KMC)");
     for k in [11, 12] {
         print_at(k, &file.to_string_lossy(), &folder.to_string_lossy());
     }

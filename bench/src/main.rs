@@ -1,40 +1,24 @@
-//! Prints nanoseconds a letter, the median of several runs, of both paths of libkmer.a along random sequences and of adding a file to a
-//! table, beside plain Rust versions of the same algorithms in the same run, and the ratios that the repository promises; before that,
-//! the whole command `wontirje count` beside other counters.
+//! Prints nanoseconds a letter, the median of several runs, of both paths of libkmer.a along random sequences
+//! and of adding a file to a table, beside plain Rust versions of the same algorithms in the same run, with
+//! ratios; before that, the whole command `wontirje count` beside other counters.
 
 mod adding;
 mod baseline;
 mod command;
-// Three files of the tests by their path: the declarations of the C calls, the random numbers and what a process took. Each has
-// more than is used here.
-#[allow(dead_code)]
-#[path = "../../tests/src/c_calls.rs"]
-mod c_calls;
+// Two files of the tests by their path: what is drawn and what a process took. The first has more than is
+// used here.
 #[allow(dead_code)]
 #[path = "../../tests/src/draw.rs"]
 mod draw;
 #[path = "../../host/tests/run/usage.rs"]
 mod usage;
 
-use c_calls::{kmer_codes, kmer_codes_two_bit};
 use draw::Random;
 use std::time::Instant;
+use wontirje::{codes_two_bit, Mirror, Settings};
 
 const LETTERS: usize = 16_000_000;
 const RUNS: usize = 11;
-
-fn general(letters: &[u8], k: usize, mirror: u64, sequence: &[u8], codes: &mut [u64]) -> usize {
-    // SAFETY: each pointer points to as many places as the length says.
-    unsafe {
-        let (from, to) = (sequence.as_ptr(), codes.as_mut_ptr());
-        kmer_codes(letters.as_ptr(), letters.len(), k, mirror, from, sequence.len(), to, codes.len()) as usize
-    }
-}
-
-fn two_bit(k: usize, sequence: &[u8], codes: &mut [u64]) -> usize {
-    // SAFETY: as above.
-    unsafe { kmer_codes_two_bit(k, sequence.as_ptr(), sequence.len(), codes.as_mut_ptr(), codes.len()) as usize }
-}
 
 /// A random sequence over some letters.
 fn drawn(letters: &[u8], length: usize) -> Vec<u8> {
@@ -42,7 +26,14 @@ fn drawn(letters: &[u8], length: usize) -> Vec<u8> {
     (0..length).map(|_| letters[random.below(letters.len() as u64) as usize]).collect()
 }
 
-/// The medians of several versions in nanoseconds a letter; their runs take turns, and all must fill the same codes.
+/// The one in the middle.
+fn median(mut numbers: Vec<f64>) -> f64 {
+    numbers.sort_by(f64::total_cmp);
+    numbers[numbers.len() / 2]
+}
+
+/// The medians of several versions in nanoseconds a letter; their runs take turns, and all must fill the same
+/// codes.
 fn medians(sequence: &[u8], versions: &[&dyn Fn(&mut [u64]) -> usize]) -> Vec<f64> {
     let mut first = vec![0; sequence.len()];
     let filled = versions[0](&mut first);
@@ -56,19 +47,46 @@ fn medians(sequence: &[u8], versions: &[&dyn Fn(&mut [u64]) -> usize]) -> Vec<f6
             assert!(count == filled && codes[..count] == first[..count], "two versions differ");
         }
     }
-    times.iter_mut().for_each(|times| times.sort_by(f64::total_cmp));
-    times.iter().map(|times| times[RUNS / 2]).collect()
+    times.into_iter().map(median).collect()
 }
 
-/// The medians for DNA under complement: the two-bit path and its plain version, the general path and its own.
-fn dna_medians(k: usize, dna: &[u8]) -> Vec<f64> {
+/// A line with the nanoseconds of the library, those of the plain version and their ratio.
+fn print_ratio(what: &str, ours: f64, plain: f64) {
+    println!("{what} {ours:.2}, plain Rust {plain:.2}, ratio {:.2}", ours / plain);
+}
+
+/// Both paths for a sequence of DNA under complement, each beside its plain version: the medians of the
+/// two-bit path and of the general path.
+fn print_paths(what: &str, k: usize, dna: &[u8]) -> [f64; 2] {
+    let settings = Settings::dna(k);
     let versions: [&dyn Fn(&mut [u64]) -> usize; 4] = [
-        &|codes| two_bit(k, dna, codes),
+        &|codes| codes_two_bit(k, dna, codes).expect("room for all codes"),
         &|codes| baseline::two_bit(k, dna, codes),
-        &|codes| general(b"ACGT", k, 1, dna, codes),
-        &|codes| baseline::general(b"ACGT", k, true, dna, codes),
+        &|codes| settings.codes(dna, codes).expect("room for all codes"),
+        &|codes| baseline::general(&settings, dna, codes),
     ];
-    medians(dna, &versions)
+    let ns = medians(dna, &versions);
+    print_ratio(&format!("{what} k {k}: two-bit"), ns[0], ns[1]);
+    print_ratio(&format!("{what} k {k}: general"), ns[2], ns[3]);
+    [ns[0], ns[2]]
+}
+
+fn print_dna() {
+    let mut dna = drawn(b"ACGT", LETTERS);
+    let [short, long] = [12, 31].map(|k| {
+        let ns = print_paths("ACGT complement", k, &dna);
+        println!("ACGT complement k {k}: general / two-bit {:.2}", ns[1] / ns[0]);
+        ns
+    });
+    for (path, name) in ["two-bit", "general"].iter().enumerate() {
+        println!("{name}: k 31 / k 12 {:.2}", long[path] / short[path]);
+    }
+    // Every batch has some bytes that are no letters, so that none is spared the search for the windows to
+    // blank.
+    dna.iter_mut().step_by(997).for_each(|byte| *byte = b'N');
+    for k in [12, 31] {
+        print_paths("ACGT and N,", k, &dna);
+    }
 }
 
 /// The general path for alphabets of other sizes, under both mirrors.
@@ -77,20 +95,21 @@ fn print_alphabets() {
     for (s, k) in [(2, 31), (6, 12), (10, 12), (16, 12)] {
         let letters = &capitals[..s];
         let sequence = drawn(letters, LETTERS);
-        for mirror in [0, 1] {
-            let versions: [&dyn Fn(&mut [u64]) -> usize; 2] = [
-                &|codes| general(letters, k, mirror, &sequence, codes),
-                &|codes| baseline::general(letters, k, mirror == 1, &sequence, codes),
-            ];
+        for mirror in [Mirror::Reversal, Mirror::Complement] {
+            let settings = Settings { letters, k, mirror };
+            let versions: [&dyn Fn(&mut [u64]) -> usize; 2] =
+                [&|codes| settings.codes(&sequence, codes).expect("room for all codes"), &|codes| {
+                    baseline::general(&settings, &sequence, codes)
+                }];
             let ns = medians(&sequence, &versions);
-            println!("{s} letters, mirror {mirror}, k {k}: general {:.2}, plain Rust {:.2}, ratio {:.2}", ns[0], ns[1], ns[0] / ns[1]);
+            print_ratio(&format!("{s} letters, {}, k {k}: general", mirror.name()), ns[0], ns[1]);
         }
     }
 }
 
 fn main() {
-    // The words `adding` and `command` as an argument leave out the rest, which takes longer. The command comes first, while this
-    // process is small.
+    // The words `adding` and `command` as an argument leave out the rest, which takes longer. The command
+    // comes first, while this process is small.
     if std::env::args().any(|argument| argument == "adding") {
         return adding::print();
     }
@@ -99,26 +118,7 @@ fn main() {
         return;
     }
     println!("ns a letter, median of {RUNS} runs, {LETTERS} random letters");
-    let dna = drawn(b"ACGT", LETTERS);
-    let mut at_k = Vec::new();
-    for k in [12, 31] {
-        let ns = dna_medians(k, &dna);
-        println!("ACGT complement k {k}: two-bit {:.2}, plain Rust {:.2}, ratio {:.2} (at most 1.3)", ns[0], ns[1], ns[0] / ns[1]);
-        println!("ACGT complement k {k}: general {:.2}, plain Rust {:.2}, ratio {:.2}", ns[2], ns[3], ns[2] / ns[3]);
-        println!("ACGT complement k {k}: general / two-bit {:.2} (at most 2.5)", ns[2] / ns[0]);
-        at_k.push(ns);
-    }
-    for (path, name) in [(0, "two-bit"), (2, "general")] {
-        println!("{name}: k 31 / k 12 {:.2} (at most 1.5)", at_k[1][path] / at_k[0][path]);
-    }
-    // Every batch has some bytes that are no letters, so that none is spared the search for the windows to blank.
-    let mut with_n = dna.clone();
-    with_n.iter_mut().step_by(997).for_each(|byte| *byte = b'N');
-    for k in [12, 31] {
-        let ns = dna_medians(k, &with_n);
-        println!("ACGT and N, k {k}: two-bit {:.2}, plain Rust {:.2}, ratio {:.2}", ns[0], ns[1], ns[0] / ns[1]);
-        println!("ACGT and N, k {k}: general {:.2}, plain Rust {:.2}, ratio {:.2}", ns[2], ns[3], ns[2] / ns[3]);
-    }
+    print_dna();
     print_alphabets();
     adding::print();
 }

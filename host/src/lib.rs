@@ -2,8 +2,8 @@
 //!
 //! A word of k letters and its mirror are one class; each class has one code, from 0 to the number of classes
 //! less 1; a table holds one count for each class, at the place of its code. The settings (letters, k,
-//! mirror) are the same for a whole survey; every call but `codes_two_bit`, which takes only k, is a method of
-//! [`Settings`].
+//! mirror) are the same for a whole survey; every call but `codes_two_bit`, which takes only k, is a method
+//! of [`Settings`].
 //!
 //! What is proved: the library. It is written in Rattle, and every function of it is proved to meet its
 //! contract for all inputs. What is tested: this crate. It lends the slices that it is given, as they are,

@@ -29,11 +29,7 @@ fn all_settings(random: &mut Random) -> Vec<Settings> {
         .into_iter()
         .map(|(s, mirror, k)| Settings::new(&drawn_capitals(random, s), k, mirror))
         .collect();
-    for letters in [&b"ACGT"[..], b"ACG", b"ACgT", b"AA", b"A", b"", b"ABCDEFGHIJKLMNOPQ"] {
-        for k in [0, 1, 2, 31, 32, 62, 63, 1 << 32, usize::MAX] {
-            all.extend([REVERSAL, COMPLEMENT].map(|mirror| Settings::new(letters, k, mirror)));
-        }
-    }
+    all.extend(good_and_bad_settings().into_iter().filter(|settings| settings.mirror <= COMPLEMENT));
     all
 }
 
@@ -125,7 +121,7 @@ fn codes_along_sequences() {
     }
 }
 
-/// Lists of adds, damaged files among them, beside the tally book; the listing beside the second counter's.
+/// Lists of adds, damaged files among them, beside the tally book.
 #[test]
 fn tables_beside_the_tally_book() {
     let mut random = Random::new(104);

@@ -8,7 +8,7 @@ use kmer_tests::draw_files::{damaged, drawn_file};
 use kmer_tests::settings::{Settings, COMPLEMENT};
 use run::{lent, run, run_as, run_with, whole_listing, Folder, Run, WONTIRJE};
 use std::ffi::{OsStr, OsString};
-use std::fs::{self, File, Permissions};
+use std::fs::{self, Permissions};
 use std::os::unix::ffi::OsStrExt;
 use std::os::unix::fs::{MetadataExt, PermissionsExt};
 use std::os::unix::process::CommandExt;
@@ -104,7 +104,7 @@ fn refusals_tell_place_and_remedy() {
     let mend = "take the byte out, or mend the line, and count the file again";
     let early = "a letter stands before the first header; \
         put a header line that begins with > before it, and count the file again";
-    let cases: [(&[u8], String); 9] = [
+    let cases: [(&[u8], String); 7] = [
         (b">a\r\nAC\r\n-", format!("10 at offset 8 (line 3, column 1): '-': {no_letter}; {mend}")),
         (b">a\nAC\n\nA C", format!("10 at offset 8 (line 4, column 2): a space: {no_letter}; {mend}")),
         (b">a\nAC\rGT\n", format!("10 at offset 5 (line 2, column 3): a CR without LF: {no_letter}; {mend}")),
@@ -112,25 +112,44 @@ fn refusals_tell_place_and_remedy() {
         (b">a\n\xe2\x80\x93", format!("10 at offset 3 (line 2, column 1): byte 0xe2: {no_letter}; {mend}")),
         (b"\nACGT\n>a\n", format!("11 at offset 1 (line 2, column 1): 'A': {early}")),
         (b"x", format!("11 at offset 0 (line 1, column 1): 'x': {early}")),
-        (
-            b"\x1f\x8b\x08\x00",
-            format!(
-                "10 at offset 0 (line 1, column 1): byte 0x1f: {no_letter}; \
-                 it is compressed: gzip -dc FILE | wontirje count -"
-            ),
-        ),
-        (
-            b"@a\nACGT\n+\nIIII\n",
-            format!(
-                "10 at offset 0 (line 1, column 1): '@': {no_letter}; \
-                 it looks like FASTQ: make FASTA of it first"
-            ),
-        ),
     ];
     for (file, right) in cases {
-        let run = run_with(&["count", "--k", "2", "-"], file);
-        assert_eq!((run.status, run.text()), (1, EMPTY), "{right}");
-        assert_eq!(run.complaints(), [format!("standard input: refused {right}")]);
+        check_refused(file, &right);
+    }
+}
+
+/// A file on standard input is refused with this line, and nothing is counted.
+fn check_refused(file: &[u8], right: &str) {
+    let run = run_with(&["count", "--k", "2", "-"], file);
+    assert_eq!((run.status, run.text()), (1, EMPTY), "{right}");
+    assert_eq!(run.complaints(), [format!("standard input: refused {right}")]);
+}
+
+/// Files that are no FASTA from their first byte on, short ones and too long ones: what they are decides what
+/// to do.
+#[test]
+fn files_of_another_kind() {
+    let compressed = |program: &str| {
+        format!("it is compressed: give - for it, with {program} -dc FILE | before the command")
+    };
+    let fastq = "it looks like FASTQ: make FASTA of it first";
+    let survey = "take the survey line out: settings are given as options";
+    let cases: [(&[u8], &str, String); 6] = [
+        (b"\x1f\x8b\x08\x00", "byte 0x1f", compressed("gzip")),
+        (b"BZh91AY&SY", "'B'", compressed("bzip2")),
+        (b"\xfd7zXZ\x00", "byte 0xfd", compressed("xz")),
+        (b"\x28\xb5\x2f\xfd", "'('", compressed("zstd")),
+        (b"@a\nACGT\n+\nIIII\n", "'@'", fastq.into()),
+        (b"(survey (letters ACGT) (k 2) (mirror complement))\n>a\nACGT\n", "'('", survey.into()),
+    ];
+    for (file, byte, advice) in cases {
+        let (number, what) = match byte {
+            "'B'" => (11, "a letter stands before the first header"),
+            _ => (10, "a byte of a sequence line is no letter"),
+        };
+        check_refused(file, &format!("{number} at offset 0 (line 1, column 1): {byte}: {what}; {advice}"));
+        let long = [file, &b"A".repeat(16_777_217)].concat();
+        check_refused(&long, &format!("6: more than 16,777,216 bytes; {advice}"));
     }
 }
 
@@ -265,8 +284,8 @@ fn a_file_that_is_too_long() {
     assert_eq!(run.complaints()[0], format!("/dev/zero: {right}"));
 }
 
-/// Root may read every file, so that a run by root is made as nobody, with a copy of the command that nobody
-/// can reach.
+/// Root may read every file, so that a run by root is made as the user nobody, with a copy of the command
+/// that the user nobody can reach.
 #[test]
 fn a_file_without_permission() {
     let folder = Folder::new();
@@ -309,15 +328,10 @@ fn names_of_any_bytes() {
         let path: PathBuf = folder.as_ref().join(OsStr::from_bytes(name));
         fs::write(&path, EXAMPLE).expect("a file");
         let mut command = Command::new(WONTIRJE);
-        command.current_dir(&folder).args(["count", "-k2", "--"]).arg(OsStr::from_bytes(name));
-        let run = run_as(&mut command, b"");
-        run.check_failed("-k2 is no option; see wontirje count --help");
-        let mut command = Command::new(WONTIRJE);
         command.current_dir(&folder).args(["count", "--k", "2", "--"]).arg(OsStr::from_bytes(name));
         let run = run_as(&mut command, b"");
         assert_eq!((run.status, run.text()), (0, LISTING), "{}", run.err);
         assert_eq!(run.complaints().len(), 1, "{}", run.err);
         assert!(run.err.ends_with(&format!(": {NUMBERS}\n")), "{}", run.err);
     }
-    assert!(File::open(folder.path("--strict")).is_ok());
 }

@@ -16,6 +16,7 @@ fn each_command_has_help_with_an_example() {
     let all = run(&["--help"]);
     assert_eq!((all.status, &all.err[..]), (0, ""));
     assert!(all.text().contains("\nExample:\n  wontirje count reads.fa > counts.txt"));
+    assert!(all.text().lines().all(|line| line.chars().count() <= 110));
     assert_eq!(run(&["-h"]).out, all.out);
     assert_eq!(run(&["help"]).out, all.out);
     assert!(run(&["--version"]).text().starts_with("wontirje "));
@@ -23,6 +24,7 @@ fn each_command_has_help_with_an_example() {
         assert!(all.text().contains(&format!("\n  wontirje {command} ")), "{command}");
         let help = run(&[command, "--bad", "--help"]);
         assert_eq!((help.status, &help.err[..]), (0, ""), "{command}");
+        assert_eq!(run(&["help", command]).out, help.out, "{command}");
         assert!(help.text().starts_with(&format!("wontirje {command} [")), "{command}");
         let (_, examples) = help.text().split_once("\nExample").expect("an example");
         assert!(examples.contains(&format!("wontirje {command} ")), "{command}");
@@ -59,18 +61,23 @@ fn the_examples_print_what_the_help_says() {
 #[test]
 fn errors_in_the_command_line() {
     let see = |command: &str| format!("; see wontirje {command}--help");
-    let cases: [(&[&str], String); 13] = [
+    let no_number = "is no number from 0 to 2^64 - 1";
+    let cases: [(&[&str], String); 17] = [
         (&[], format!("no command given{}", see(""))),
         (&["conut"], format!("conut is no command of wontirje{}", see(""))),
         (&["a\nb"], format!("a\\nb is no command of wontirje{}", see(""))),
+        (&["help", "conut"], format!("conut is no command of wontirje{}", see(""))),
         (&["count"], format!("no file given; name files, or - for standard input{}", see("count "))),
         (&["count", "-m", "12", "a.fa"], format!("-m is no option{}", see("count "))),
         (&["count", "--svg", "a", "a.fa"], format!("--svg is no option{}", see("count "))),
         (&["count", "a.fa", "--k"], format!("--k lacks its value{}", see("count "))),
         (&["count", "--strict=1", "-"], format!("--strict takes no value{}", see("count "))),
         (&["count", "--k", "2", "--k=3", "-"], format!("--k is given twice{}", see("count "))),
-        (&["count", "--k", "-2", "-"], String::from("--k -2 is no number")),
-        (&["count", "--k", "", "-"], String::from("--k  is no number")),
+        (&["count", "-k2", "-"], format!("-k2 is no option{}", see("count "))),
+        (&["count", "--k", "-2", "-"], format!("--k -2 {no_number}")),
+        (&["count", "--k", "", "-"], format!("--k  {no_number}")),
+        (&["count", "--k", "18446744073709551616", "-"], format!("--k 18446744073709551616 {no_number}")),
+        (&["histogram", "--bars", "many", "-"], format!("--bars many {no_number}")),
         (&["histogram"], format!("give one listing, or - for standard input{}", see("histogram "))),
         (&["histogram", "--bars", "1", "-"], String::from("--bars 1 is not from 2 to 200")),
     ];

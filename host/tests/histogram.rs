@@ -29,6 +29,10 @@ fn bars_by_hand() {
     let file_line = "(file (records 2) (letters 9) (foreign 1) (edge 2) (windows 6))\n";
     let run = run_with(&["histogram", "-"], format!("{SURVEY}{EXAMPLE}{file_line}").as_bytes());
     assert_eq!((run.status, run.text()), (0, right));
+    // A listing that went through an editor of another system has CR LF.
+    let other_ends = format!("{SURVEY}{EXAMPLE}{file_line}").replace('\n', "\r\n");
+    let run = run_with(&["histogram", "-"], other_ends.as_bytes());
+    assert_eq!((run.status, run.text(), &run.err[..]), (0, right, ""));
     // With --each the counts that no class has are left out.
     let run = run_with(&["histogram", "--each", "-"], format!("{SURVEY}{EXAMPLE}").as_bytes());
     assert_eq!(run.text(), right.replace("    3        0\n", ""));
@@ -89,27 +93,42 @@ fn a_few_high_counts() {
     assert_eq!(found.iter().map(|(_, classes)| classes).sum::<u64>(), 1001);
     let found = rows(&["histogram", "--bars", "4", "-"], &counts);
     assert_eq!(labels(&found), ["1-10", "11-20", "21-30", "31+"]);
+    // Just 99 of 100 classes are in the bars before the last.
+    let counts = [vec![1; 96], vec![200; 3], vec![10_000]].concat();
+    let right =
+        [("1-100", 96), ("101-200", 3), ("201+", 1)].map(|(label, classes)| (String::from(label), classes));
+    assert_eq!(rows(&["histogram", "--bars", "3", "-"], &counts), right);
     let found = rows(&["histogram", "-"], &[4_294_967_295]);
     assert_eq!(found.iter().filter(|(_, classes)| *classes > 0).count(), 1);
+}
+
+/// The chart of four classes with count 1, two with 2 and one with 4, from a file with this name.
+fn chart(folder: &Folder, name: &str) -> String {
+    let (file, svg) = (folder.file(name, listing(&[1, 1, 1, 1, 2, 2, 4]).as_bytes()), folder.path("c.svg"));
+    let run = run(&["histogram", "--svg", svg.to_str().expect("a name"), file.to_str().expect("a name")]);
+    assert_eq!(run.status, 0, "{}", run.err);
+    fs::read_to_string(&svg).expect("the chart")
+}
+
+/// The lines of its bars.
+fn bars(chart: &str) -> Vec<&str> {
+    chart.lines().filter(|line| line.contains("<title>count ")).collect()
+}
+
+/// The number that an attribute has.
+fn number(line: &str, name: &str) -> f64 {
+    let (_, rest) = line.split_once(&format!(" {name}=\"")).expect("an attribute");
+    rest.split('"').next().expect("a value").parse().expect("a number")
 }
 
 /// The bars of the chart: as many as the text has, as high as their numbers say, inside of the picture.
 #[test]
 fn the_chart() {
     let folder = Folder::new();
-    let (file, svg) =
-        (folder.file("a & <b>.txt", listing(&[1, 1, 1, 1, 2, 2, 4]).as_bytes()), folder.path("c.svg"));
-    let path = svg.to_str().expect("a name");
-    let run = run(&["histogram", "--svg", path, file.to_str().expect("a name")]);
-    assert_eq!(run.status, 0, "{}", run.err);
-    let chart = fs::read_to_string(&svg).expect("the chart");
+    let chart = chart(&folder, "a & <b>.txt");
     assert!(chart.starts_with("<svg xmlns=\"http://www.w3.org/2000/svg\" ") && chart.ends_with("</svg>\n"));
     assert!(chart.contains("a &amp; &lt;b&gt;.txt") && !chart.contains("<b>"), "{chart}");
-    let bars: Vec<&str> = chart.lines().filter(|line| line.contains("<title>count ")).collect();
-    let number = |line: &str, name: &str| -> f64 {
-        let (_, rest) = line.split_once(&format!(" {name}=\"")).expect("an attribute");
-        rest.split('"').next().expect("a value").parse().expect("a number")
-    };
+    let bars = bars(&chart);
     let heights: Vec<f64> = bars.iter().map(|bar| number(bar, "height")).collect();
     assert_eq!(heights.len(), 4);
     assert!((heights[0] - 2.0 * heights[1]).abs() < 0.1 && (heights[0] - 4.0 * heights[3]).abs() < 0.1);
@@ -117,8 +136,23 @@ fn the_chart() {
     let ends = bars.iter().map(|bar| number(bar, "y") + number(bar, "height"));
     assert!(ends.clone().all(|end| (end - ends.clone().next().unwrap_or(0.0)).abs() < 0.02), "one base line");
     assert!(bars.windows(2).all(|two| number(two[0], "x") + number(two[0], "width") < number(two[1], "x")));
-    assert!(bars[0].contains("<title>count 1: 4 classes</title>"));
+    assert!(bars[0].contains("<title>count 1, classes 4</title>"));
     assert_eq!(folder.names(), ["a & <b>.txt", "c.svg"]);
+}
+
+/// Each bar ends at the line of the scale for its number, and the number stands beside that line, 4 lower.
+#[test]
+fn the_scale_of_the_chart() {
+    let chart = chart(&Folder::new(), "counts.txt");
+    let lines: Vec<&str> = chart.lines().filter(|line| line.starts_with("<line ")).collect();
+    assert_eq!((lines.len(), bars(&chart).len()), (5, 4));
+    for (bar, classes) in bars(&chart).iter().zip([4, 2, 0, 1]) {
+        let label = format!("text-anchor=\"end\">{classes}</text>");
+        let label = chart.lines().find(|line| line.ends_with(&label)).expect("a number of the scale");
+        let top = number(bar, "y");
+        assert!((number(lines[classes], "y1") - top).abs() < 0.1, "{classes}: {bar}, {}", lines[classes]);
+        assert!((number(label, "y") - 4.0 - top).abs() < 0.1, "{classes}: {bar}, {label}");
+    }
 }
 
 /// Listings that are cut off, changed or none: refused with the line.

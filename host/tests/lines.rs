@@ -8,7 +8,7 @@ use kmer_tests::draw::*;
 use kmer_tests::draw_inputs::Inputs;
 use kmer_tests::second_counter::first_line;
 use kmer_tests::settings::*;
-use kmer_tests::tables::sizes_up_to;
+use kmer_tests::tables::{drawn_table, sizes_up_to};
 use run::{lent, whole_listing};
 use std::io::{self, ErrorKind, Write};
 use wontirje::Refusal;
@@ -34,13 +34,7 @@ fn drawn_tables_of_every_size() {
     for (s, mirror, k) in sizes_up_to(40_000) {
         let settings = Settings::new(&drawn_capitals(&mut random, s), k, mirror);
         for sparse in [1, 2, 50, 5000] {
-            let count = |random: &mut Random| match random.below(sparse) {
-                0 => random.draw() as u32 >> random.below(32),
-                _ => 0,
-            };
-            let places = class_count(&settings) as usize + random.below(3) as usize;
-            let table: Vec<u32> = (0..places).map(|_| count(&mut random)).collect();
-            bytes += check(&lent(&settings), &table);
+            bytes += check(&lent(&settings), &drawn_table(&mut random, &settings, sparse));
             tables += 1;
         }
     }

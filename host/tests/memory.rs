@@ -6,10 +6,8 @@ mod run;
 #[allow(dead_code)]
 mod usage;
 
-use kmer_tests::draw::Random;
+use kmer_tests::draw::write_drawn;
 use run::{Folder, WONTIRJE};
-use std::fs::File;
-use std::io::{BufWriter, Write};
 use std::path::{Path, PathBuf};
 use std::process::{Command, Stdio};
 
@@ -21,17 +19,10 @@ fn peak(arguments: &[&str], files: &[&Path], input: Stdio) -> u64 {
     usage::ended(child).expect("the command succeeds").peak
 }
 
-/// A file of so many bytes, written piece by piece so that this process stays small.
+/// A file of so many bytes.
 fn drawn_file(folder: &Folder, name: &str, length: usize) -> PathBuf {
     let path = folder.path(name);
-    let mut file = BufWriter::new(File::create(&path).expect("a file"));
-    let mut random = Random::new(151);
-    file.write_all(b">drawn\n").expect("room");
-    for place in 8..=length {
-        let byte = if place % 80 == 0 { b'\n' } else { b"ACGT"[random.below(4) as usize] };
-        file.write_all(&[byte]).expect("room");
-    }
-    file.flush().expect("room");
+    write_drawn(&path, 151, length).expect("room for the file");
     path
 }
 

@@ -58,8 +58,8 @@ fn a_file_that_is_there_is_not_overwritten() {
     assert_eq!(folder.names(), ["a.fa", "counts.txt", "link"]);
 }
 
-/// A name that comes up while the files are counted is not overwritten either. The command looked for it before
-/// it said the first file's numbers, and then waits for standard input.
+/// A name that comes up while the files are counted is not overwritten either. The command looked for it
+/// before it said the first file's numbers, and then waits for standard input.
 #[test]
 fn a_file_that_comes_up_meanwhile_is_not_overwritten() {
     let folder = Folder::new();
@@ -83,14 +83,63 @@ fn a_file_that_comes_up_meanwhile_is_not_overwritten() {
     assert_eq!(folder.names(), ["a.fa", "counts.txt"]);
 }
 
+/// Told before any file is read, of the listing and of the chart.
 #[test]
-fn a_folder_that_is_not_there() {
+fn a_folder_that_takes_no_file() {
     let folder = Folder::new();
-    let (file, path) = (folder.file("a.fa", EXAMPLE), folder.path("none/counts.txt"));
-    let run = count_to(&path, &file);
-    assert_eq!((run.status, run.text()), (2, ""));
-    let reason = format!("wontirje: {}: not written: No such file or directory", path.display());
-    assert_eq!(run.complaints()[1..], [reason]);
+    let file = folder.file("a.fa", EXAMPLE);
+    let cases = [
+        (folder.path("none/counts.txt"), "No such file or directory"),
+        (folder.path("a.fa/counts.txt"), "Not a directory"),
+        (folder.path("none/"), "it is no name of a file"),
+        ("".into(), "it is no name of a file"),
+    ];
+    for (path, reason) in cases {
+        let right = format!("{}: not written: {reason}", path.display());
+        count_to(&path, &file).check_failed(&right);
+        let chart = ["histogram".as_ref(), "--svg".as_ref(), path.as_os_str(), "/nowhere".as_ref()];
+        run(&chart).check_failed(&right);
+    }
+    // Nobody makes files there, root neither; for what reason depends on the system.
+    let run = count_to(Path::new("/sys/counts.txt"), &file);
+    assert_eq!((run.status, run.complaints().len()), (2, 1), "{}", run.err);
+    assert!(run.err.starts_with("wontirje: /sys/counts.txt: not written: "), "{}", run.err);
+    assert_eq!(folder.names(), ["a.fa"]);
+}
+
+/// - is not taken for a name.
+#[test]
+fn standard_output_as_a_file() {
+    let folder = Folder::new();
+    let of =
+        |arguments: &[&str]| run_as(Command::new(WONTIRJE).current_dir(&folder).args(arguments), EXAMPLE);
+    let listing = "--output - is no file; leave --output out to print the listing";
+    of(&["count", "--k", "2", "--output", "-", "-"]).check_failed(listing);
+    let chart = "--svg - is no file; give the chart a name, as in --svg counts.svg";
+    of(&["histogram", "--svg=-", "-"]).check_failed(chart);
+    assert!(folder.names().is_empty());
+    assert_eq!(of(&["count", "--k", "2", "--output", "./-", "-"]).status, 0);
+    assert_eq!(folder.names(), ["-"]);
+}
+
+/// A killed run leaves a part, and a later one may have its number: here the shell's, whose place the command
+/// takes.
+#[test]
+fn parts_of_a_killed_run() {
+    let folder = Folder::new();
+    let script = "for n in 0 1 3; do echo old > .wontirje-$$-$n.part; done; exec \"$@\"";
+    let mut shell = Command::new("sh");
+    shell.current_dir(&folder).args(["-c", script, "sh", WONTIRJE]);
+    let run = run_as(shell.args(["count", "--k", "2", "--output", "counts.txt", "-"]), EXAMPLE);
+    assert_eq!((run.status, run.text()), (0, ""), "{}", run.err);
+    let names = folder.names();
+    assert_eq!((names.len(), &names[3][..]), (4, "counts.txt"), "{names:?}");
+    for (part, number) in names[..3].iter().zip([0, 1, 3]) {
+        assert!(part.ends_with(&format!("-{number}.part")), "{part}");
+        assert_eq!(fs::read(folder.path(part)).expect("the part"), b"old\n");
+    }
+    let printed = run_with(&["count", "--k", "2", "-"], EXAMPLE);
+    assert_eq!(fs::read(folder.path("counts.txt")).expect("the listing"), printed.out);
 }
 
 /// The listing of the others is written where a file is refused, and none with --strict.
@@ -208,8 +257,7 @@ fn standard_output_is_closed_early() {
 fn standard_output_is_closed_at_once() {
     for arguments in [&["--help"][..], &["count", "--help"], &["classes"], &["code", "--k", "2", "AC"]] {
         let mut command = Command::new(WONTIRJE);
-        let (mut reader, writer) = std::io::pipe().expect("a pipe");
-        reader.read_exact(&mut []).expect("nothing");
+        let (reader, writer) = std::io::pipe().expect("a pipe");
         drop(reader);
         command.args(arguments).stdout(writer).stderr(Stdio::piped());
         let run = Run::of(command.spawn().and_then(|child| child.wait_with_output()).expect("the command"));

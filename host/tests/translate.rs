@@ -23,7 +23,7 @@ fn codes_and_words_of_document_01() {
 
 #[test]
 fn sizes_of_tables() {
-    let run = run(&["classes", "1", "11", "12", "13", "31", "32", "x"]);
+    let run = run(&["classes", "1", "11", "12", "13", "31", "32", "18446744073709551616", "x"]);
     assert_eq!(run.status, 1);
     let right = "k 1: 2 classes, table 8 bytes\nk 11: 2097152 classes, table 8388608 bytes\n\
         k 12: 8390656 classes, table 33562624 bytes\nk 13: 33554432 classes, too many for a table\n\
@@ -31,7 +31,8 @@ fn sizes_of_tables() {
     assert_eq!(run.text(), right);
     let refused = [
         "32: refused 4: k is 0, or there are more than 2^62 words of k letters",
-        "x: not a k: a number in decimal digits",
+        "18446744073709551616: not a k: a number below 2^64 in decimal digits",
+        "x: not a k: a number below 2^64 in decimal digits",
     ];
     assert_eq!(run.complaints(), refused);
     let run = run_with(&["classes", "--letters", "ABC", "--mirror", "reversal", "--k", "2"], b"9\n");
@@ -47,9 +48,9 @@ fn lines_of_standard_input() {
         let run = run_with(operand, b"ACGT\nACG\nAC*T\r\n\nacgt\r\nTTTT");
         assert_eq!((run.status, run.text()), (1, "4\n4\n72\n"), "{operand:?}");
         let refused = [
-            "ACG: refused 5: the word has not k letters: 3 letters, k is 4",
+            "ACG: refused 5: the word has not k letters: its length is 3, k is 4",
             "AC*T: refused 9: a byte of the word is no letter of the settings: letter 3 of the word",
-            "an empty line: refused 5: the word has not k letters: 0 letters, k is 4",
+            "an empty line: refused 5: the word has not k letters: its length is 0, k is 4",
         ];
         assert_eq!(run.complaints(), refused);
     }
@@ -57,7 +58,7 @@ fn lines_of_standard_input() {
     assert_eq!((run.status, run.text()), (1, "C\nA\nC\n"));
     let no_code = "not a code: a number below 2^64 in decimal digits";
     let refused = [
-        String::from("2: refused 8: the code is not below the number of classes: there are 2 classes"),
+        String::from("2: refused 8: the code is not below the number of classes, 2"),
         format!("-1: {no_code}"),
         format!("+1: {no_code}"),
         format!("18446744073709551616: {no_code}"),
@@ -66,6 +67,19 @@ fn lines_of_standard_input() {
     assert_eq!(run.complaints(), refused);
     let run = run_with(&["code"], b"");
     assert_eq!((run.status, run.text(), &run.err[..]), (0, "", ""));
+}
+
+/// Arguments are refused one by one too, an empty one among them.
+#[test]
+fn refused_arguments() {
+    let run = run(&["code", "--k", "2", "", "A", "AC", "a*"]);
+    assert_eq!((run.status, run.text()), (1, "5\n"));
+    let refused = [
+        "an empty argument: refused 5: the word has not k letters: its length is 0, k is 2",
+        "A: refused 5: the word has not k letters: its length is 1, k is 2",
+        "a*: refused 9: a byte of the word is no letter of the settings: letter 2 of the word",
+    ];
+    assert_eq!(run.complaints(), refused);
 }
 
 /// Settings of every size, words and codes through both commands, beside the second coder.

@@ -1,6 +1,6 @@
-//! The C calls of libkmer.a, declared once for the tests and for bench/ and host/ (which take this file by its
-//! path). The lines are laid out as in include/kmer.h, so that the two can be read side by side; a pointer may
-//! be NULL where its length is 0, and must otherwise point to as many places as the length says.
+//! The C calls of libkmer.a, declared once for the tests and for host/ (which takes this file by its path). The
+//! lines are laid out as in include/kmer.h, so that the two can be read side by side; a pointer may be NULL
+//! where its length is 0, and must otherwise point to as many places as the length says.
 
 #[rustfmt::skip]
 extern "C" {

@@ -1,4 +1,9 @@
-//! Alphabets, words and codes drawn from a fixed seed, so that every run goes over the same ones.
+//! Alphabets, words, codes and a large file drawn from a fixed seed, so that every run goes over the same
+//! ones. Also taken by bench/, by its path.
+
+use std::fs::File;
+use std::io::{self, BufWriter, Write};
+use std::path::Path;
 
 /// SplitMix64 (Steele, Lea and Flood 2014).
 pub struct Random(u64);
@@ -74,4 +79,17 @@ pub fn spelled_mixed(random: &mut Random, letters: &[u8], word: &[u8]) -> Vec<u8
         }
     }
     spelling
+}
+
+/// A file of so many bytes: one record of ACGT in lines of 79 letters. It is written piece by piece, so that
+/// this process stays small where the memory of others is measured.
+pub fn write_drawn(path: &Path, seed: u64, length: usize) -> io::Result<()> {
+    let mut file = BufWriter::new(File::create(path)?);
+    let mut random = Random::new(seed);
+    file.write_all(b">drawn\n")?;
+    for place in 8..=length {
+        let byte = if place % 80 == 0 { b'\n' } else { b"ACGT"[random.below(4) as usize] };
+        file.write_all(&[byte])?;
+    }
+    file.flush()
 }

@@ -70,7 +70,7 @@ fn room_ground(settings: &Settings, room: usize) -> Result<(), Refusal> {
 }
 
 /// The ranks of a word, or ground 9 with the first place of a byte that is no letter.
-fn ranks(settings: &Settings, word: &[u8]) -> Result<Vec<u8>, Refusal> {
+pub fn ranks(settings: &Settings, word: &[u8]) -> Result<Vec<u8>, Refusal> {
     let rank = |byte: &u8| settings.letters.iter().position(|letter| *letter == byte.to_ascii_uppercase());
     let found: Vec<Option<usize>> = word.iter().map(rank).collect();
     match found.iter().position(Option::is_none) {

@@ -2,7 +2,7 @@
 //! list.
 
 use crate::c_calls::{kmer_codes, kmer_codes_two_bit};
-use crate::expected::{coder, settings_ground, Refusal};
+use crate::expected::{coder, ranks, settings_ground, Refusal};
 use crate::lent::{check_places, filled, Lent};
 use crate::settings::{shown, Settings, COMPLEMENT};
 
@@ -47,9 +47,7 @@ pub fn codes_two_bit(k: usize, sequence: &[u8], room: usize) -> (u64, Vec<u64>) 
 
 /// The number of a window of bytes, by the second coder.
 pub fn window_number(settings: &Settings, window: &[u8]) -> u64 {
-    let rank = |byte: &u8| settings.letters.iter().position(|letter| *letter == byte.to_ascii_uppercase());
-    let ranks: Option<Vec<u8>> = window.iter().map(|byte| rank(byte).map(|rank| rank as u8)).collect();
-    ranks.map_or(NO_CODE, |ranks| coder(settings).code(&ranks) as u64)
+    ranks(settings, window).map_or(NO_CODE, |ranks| coder(settings).code(&ranks) as u64)
 }
 
 /// How many windows a sequence has.

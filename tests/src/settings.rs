@@ -1,4 +1,5 @@
-//! The settings of a call as the caller gives them, good or bad, and the list of all good sizes.
+//! The settings of a call as the caller gives them, good or bad; the list of all good sizes, and one of good
+//! and bad settings.
 
 use std::fmt;
 
@@ -64,4 +65,18 @@ pub fn good_sizes() -> Vec<(usize, u64, usize)> {
         }
     }
     sizes
+}
+
+/// Every combination of some good and bad letters, mirrors and k.
+pub fn good_and_bad_settings() -> Vec<Settings> {
+    let letters: [&[u8]; 9] =
+        [b"ACGT", b"ACG", b"TB", b"ACgT", b"AC GT", b"AA", b"A", b"", b"ABCDEFGHIJKLMNOPQ"];
+    let lengths = [0, 1, 2, 3, 12, 13, 24, 26, 31, 32, 39, 40, 62, 63, 64, 1 << 32, usize::MAX];
+    let mut all = Vec::new();
+    for letters in letters {
+        for mirror in [REVERSAL, COMPLEMENT, 2, 256, 1 << 32, u64::MAX] {
+            all.extend(lengths.map(|k| Settings::new(letters, k, mirror)));
+        }
+    }
+    all
 }

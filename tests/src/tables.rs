@@ -1,9 +1,9 @@
 //! The table calls as safe functions that lend copies between guards, their comparison with the tally book,
-//! and what the tests of tables begin with: sizes, cleared tables, files of one record.
+//! and what the tests of tables begin with: sizes, cleared and drawn tables, files of one record.
 
 use crate::book::{class_count, table_ground, Book, Numbers};
 use crate::c_calls::{kmer_add, kmer_clear};
-use crate::draw::first_capitals;
+use crate::draw::{first_capitals, Random};
 use crate::expected::Refusal;
 use crate::lent::{check_places, Lent};
 use crate::settings::{good_sizes, shown_file, Settings};
@@ -98,6 +98,16 @@ pub fn cleared(settings: &Settings, more: usize) -> (Book, Table) {
     let mut table = Table::filled(class_count(settings) as usize + more);
     check_clear(settings, &mut table);
     (Book::new(settings), table)
+}
+
+/// A table with up to two places more than needed. About one place of `sparse` has a count, small or large.
+pub fn drawn_table(random: &mut Random, settings: &Settings, sparse: u64) -> Vec<u32> {
+    let places = class_count(settings) as usize + random.below(3) as usize;
+    let count = |random: &mut Random| match random.below(sparse) {
+        0 => random.draw() as u32 >> random.below(32),
+        _ => 0,
+    };
+    (0..places).map(|_| count(random)).collect()
 }
 
 /// Adds one file to a cleared table beside the book.

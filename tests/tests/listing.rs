@@ -8,10 +8,10 @@ use kmer_tests::draw::*;
 use kmer_tests::draw_inputs::Inputs;
 use kmer_tests::expected::{coder, Refusal};
 use kmer_tests::lent::{check_places, filled, Lent};
-use kmer_tests::second_counter::{answer, listing};
+use kmer_tests::second_counter::{answer, first_line, listing};
 use kmer_tests::sequences::two_bit_settings;
 use kmer_tests::settings::*;
-use kmer_tests::tables::{add, cleared, sizes_up_to};
+use kmer_tests::tables::{add, cleared, drawn_table, sizes_up_to};
 
 /// Lists a table into a filled buffer of `room` bytes: the answer of kmer_listing and the buffer after it.
 fn listed(settings: &Settings, table: &[u32], room: usize) -> (u64, Vec<u8>) {
@@ -124,13 +124,7 @@ fn drawn_tables_of_every_size() {
     for (s, mirror, k) in sizes_up_to(20_000) {
         let settings = Settings::new(&drawn_capitals(&mut random, s), k, mirror);
         for sparse in [1, 2, 50] {
-            let count = |random: &mut Random| match random.below(sparse) {
-                0 => random.draw() as u32 >> random.below(32),
-                _ => 0,
-            };
-            let places = class_count(&settings) as usize + random.below(3) as usize;
-            let table: Vec<u32> = (0..places).map(|_| count(&mut random)).collect();
-            bytes += check_rooms(&settings, &table);
+            bytes += check_rooms(&settings, &drawn_table(&mut random, &settings, sparse));
         }
     }
     assert!(bytes > 5_000_000, "{bytes} bytes listed");
@@ -158,9 +152,8 @@ fn tables_that_files_were_added_to() {
     let mut with_counts = 0;
     for _ in 0..1000 {
         let (settings, input) = inputs.good(500);
-        let end = input.iter().position(|&byte| byte == b'\n').expect("a survey line with its end");
         let (_, mut table) = cleared(&settings, 1);
-        assert_eq!(add(&settings, &mut table, &input[end + 1..], &mut Lent::filled(5)), 5, "{settings}");
+        assert_eq!(add(&settings, &mut table, first_line(&input).1, &mut Lent::filled(5)), 5, "{settings}");
         let printed = answer(&input);
         let file_line =
             printed[..printed.len() - 1].iter().rposition(|&byte| byte == b'\n').expect("two lines");
@@ -232,17 +225,11 @@ fn grounds_go_in_number_order() {
 /// Every combination of good and bad arguments, beside the reference of the grounds.
 #[test]
 fn combinations_of_faults_answer_as_the_reference() {
-    let letters: [&[u8]; 7] = [b"ACGT", b"ACG", b"TB", b"ACgT", b"A", b"", b"ABCDEFGHIJKLMNOPQ"];
-    for letters in letters {
-        for mirror in [0, 1, 2, 256, u64::MAX] {
-            for k in [0, 1, 2, 3, 12, 13, 24, 26, 31, 32, 62, 63, 64, 1 << 32, usize::MAX] {
-                let settings = Settings::new(letters, k, mirror);
-                for places in [0, 1, 2, 3, 6, 9, 10, 40, 1000] {
-                    let table: Vec<u32> = (0..places as u32).map(|place| place % 3 * 50).collect();
-                    for room in [0, 1, 59, 60, 80, 100, 1000, 20_000] {
-                        check_right(&settings, &table, room, &expected(&settings, &table, room));
-                    }
-                }
+    for settings in good_and_bad_settings() {
+        for places in [0, 1, 2, 3, 6, 9, 10, 40, 1000] {
+            let table: Vec<u32> = (0..places as u32).map(|place| place % 3 * 50).collect();
+            for room in [0, 1, 59, 60, 80, 100, 1000, 20_000] {
+                check_right(&settings, &table, room, &expected(&settings, &table, room));
             }
         }
     }

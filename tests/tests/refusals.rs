@@ -214,13 +214,8 @@ fn check_calls(settings: &Settings, words: &[&[u8]]) {
 /// Every combination of good and bad arguments.
 #[test]
 fn combinations_of_faults_answer_as_the_reference() {
-    let letters: [&[u8]; 7] = [b"ACGT", b"ACG", b"TB", b"ACgT", b"A", b"", b"ABCDEFGHIJKLMNOPQ"];
     let words: [&[u8]; 10] = [b"", b"A", b"T", b"tB", b"AC", b"A#", b"ACG", b"GCA", b"GcA", b"AC\n"];
-    for letters in letters {
-        for mirror in [0, 1, 2, 256, 1 << 32, u64::MAX] {
-            for k in [0, 1, 2, 3, 31, 32, 39, 40, 62, 63, 1 << 32, usize::MAX] {
-                check_calls(&Settings::new(letters, k, mirror), &words);
-            }
-        }
+    for settings in good_and_bad_settings() {
+        check_calls(&settings, &words);
     }
 }

@@ -75,7 +75,8 @@ impl Arguments {
     pub fn number(&self, option: &str, otherwise: usize) -> Result<usize, String> {
         match self.value(option) {
             None => Ok(otherwise),
-            Some(value) => number(value).ok_or_else(|| format!("--{option} {} is no number", shown(value))),
+            Some(value) => number(value)
+                .ok_or_else(|| format!("--{option} {} is no number from 0 to 2^64 - 1", shown(value))),
         }
     }
 }

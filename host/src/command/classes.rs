@@ -25,7 +25,7 @@ pub fn run(arguments: &Arguments) -> Outcome {
         return print(&format!("{line}\n"));
     }
     translate(arguments, |item| {
-        let k = number(item).ok_or("not a k: a number in decimal digits")?;
+        let k = number(item).ok_or("not a k: a number below 2^64 in decimal digits")?;
         sizes(&Settings { k, ..settings }).map_err(|refusal| refusal.to_string())
     })
 }

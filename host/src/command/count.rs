@@ -79,11 +79,10 @@ fn check_operands(operands: &[OsString]) -> Result<(), Failure> {
 pub fn run(arguments: &Arguments) -> Outcome {
     let settings = survey::settings(arguments)?;
     check_operands(&arguments.operands)?;
-    let to = arguments.value("output").map(Path::new);
-    if to.is_some() && arguments.has("no-listing") {
+    if arguments.has("output") && arguments.has("no-listing") {
         return Err(Failure::said("--output and --no-listing exclude each other"));
     }
-    to.map_or(Ok(()), output::check_new)?;
+    let to = output::new_file(arguments, "output", "leave --output out to print the listing")?;
     let mut run = Run::new(settings)?;
     let mut refused = false;
     for operand in &arguments.operands {

@@ -17,8 +17,8 @@ Settings of all but histogram, and what they are when not given:
 Example:
   wontirje count reads.fa > counts.txt && wontirje histogram counts.txt
 
-Exit status: 0 all was taken in, 1 something was refused or a file could not be read, 2 the command could
-not do its work.
+Exit status: 0 all was taken in; 1 a file was refused or not read by count, or a word, code or K was refused;
+2 the command could not do its work: options, settings, a listing, lines of standard input, an output.
 See wontirje COMMAND --help. Codes and counts are the library's, which is proved; the command is tested.
 ";
 

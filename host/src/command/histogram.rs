@@ -4,7 +4,7 @@ use crate::arguments::Arguments;
 use crate::bars::{self, Bar};
 use crate::failure::{reason, Failure, Outcome};
 use crate::listing::{self, Listing};
-use crate::output::{check_new, print, to_new_file};
+use crate::output::{new_file, print, to_new_file};
 use crate::report::name;
 use crate::svg;
 use std::ffi::OsStr;
@@ -52,8 +52,7 @@ pub fn run(arguments: &Arguments) -> Outcome {
         ));
     };
     let most = most_bars(arguments)?;
-    let svg = arguments.value("svg").map(Path::new);
-    svg.map_or(Ok(()), check_new)?;
+    let svg = new_file(arguments, "svg", "give the chart a name, as in --svg counts.svg")?;
     let named = |reason: String| Failure::said(format!("{}: {reason}", name(operand)));
     let listing = read(operand).map_err(named)?;
     let headline = headline(&listing).map_err(named)?;

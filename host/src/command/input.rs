@@ -1,4 +1,5 @@
-//! Reads a file or standard input whole into one buffer, which all files of a run share.
+//! Reads a file or standard input whole into one buffer, which all files of a run share; and where a line of
+//! text ends.
 
 use crate::progress::Progress;
 use std::ffi::OsStr;
@@ -36,4 +37,9 @@ pub fn read(operand: &OsStr, buffer: &mut Vec<u8>, progress: &mut Progress) -> i
         progress.reading(buffer.len());
     }
     Ok(())
+}
+
+/// A line without its end, LF or CR LF.
+pub fn bare(line: &[u8]) -> &[u8] {
+    line.strip_suffix(b"\r\n").or(line.strip_suffix(b"\n")).unwrap_or(line)
 }

@@ -2,6 +2,7 @@
 //! up to the total, so that a listing that was cut off is found out.
 
 use crate::failure::reason;
+use crate::input::bare;
 use std::collections::BTreeMap;
 use std::io::{BufRead, Read};
 use wontirje::{Mirror, Settings};
@@ -71,14 +72,14 @@ struct Lines<R> {
 }
 
 impl<R: BufRead> Lines<R> {
-    /// The next line without its LF, none at the end. What is no text has none of a listing's shapes either.
+    /// The next line without its end, none after the last. What is no text has none of a listing's shapes.
     fn next(&mut self) -> Result<Option<&str>, String> {
         self.line.clear();
         self.number += 1;
         let read = self.from.by_ref().take(LONGEST).read_until(b'\n', &mut self.line);
         match read.map_err(|error| format!("not read: {}", reason(&error)))? {
             0 => Ok(None),
-            _ => Ok(Some(str::from_utf8(self.line.strip_suffix(b"\n").unwrap_or(&self.line)).unwrap_or("?"))),
+            _ => Ok(Some(str::from_utf8(bare(&self.line)).unwrap_or("?"))),
         }
     }
 

@@ -20,7 +20,7 @@ mod translate;
 use arguments::Arguments;
 use failure::{Failure, Outcome};
 use std::env;
-use std::ffi::OsString;
+use std::ffi::{OsStr, OsString};
 use std::process::ExitCode;
 
 /// The commands: name, help, options (with whether each takes a value), and what runs it.
@@ -34,20 +34,28 @@ const COMMANDS: [Command; 5] = [
     ("histogram", help::HISTOGRAM, histogram::OPTIONS, histogram::run),
 ];
 
+/// The command with this name.
+fn named(name: &OsStr) -> Result<&'static Command, Failure> {
+    COMMANDS.iter().find(|(command, ..)| name == *command).ok_or_else(|| {
+        let name = report::shown(name);
+        Failure::said(format!("{name} is no command of wontirje; see wontirje --help"))
+    })
+}
+
 /// Runs the command that the first argument names.
 fn run(arguments: &[OsString]) -> Outcome {
     let Some((name, rest)) = arguments.split_first() else {
         return Err(Failure::said("no command given; see wontirje --help"));
     };
-    match name.to_str() {
-        Some("--help" | "-h" | "help") => return output::print(help::ALL),
-        Some("--version") => return output::print(concat!("wontirje ", env!("CARGO_PKG_VERSION"), "\n")),
+    match (name.to_str(), rest) {
+        (Some("help"), [command, ..]) => return output::print(named(command)?.1),
+        (Some("--help" | "-h" | "help"), _) => return output::print(help::ALL),
+        (Some("--version"), _) => {
+            return output::print(concat!("wontirje ", env!("CARGO_PKG_VERSION"), "\n"));
+        }
         _ => (),
     }
-    let Some((name, help, options, run)) = COMMANDS.iter().find(|(command, ..)| name == command) else {
-        let name = report::shown(name);
-        return Err(Failure::said(format!("{name} is no command of wontirje; see wontirje --help")));
-    };
+    let (name, help, options, run) = named(name)?;
     if arguments::ask_for_help(rest) {
         return output::print(help);
     }
@@ -55,8 +63,7 @@ fn run(arguments: &[OsString]) -> Outcome {
     run(&parsed.map_err(|error| Failure::said(format!("{error}; see wontirje {name} --help")))?)
 }
 
-/// The exit status: 0 when all was taken in, 1 when something was refused or a file could not be read, 2 when
-/// the command could not do its work. A reader who closed the pipe has what he wanted: no word about it.
+/// The exit status is that of `help::ALL`. A reader who closed the pipe has what he wanted: no word about it.
 fn main() -> ExitCode {
     let arguments: Vec<OsString> = env::args_os().skip(1).collect();
     match run(&arguments) {

@@ -55,15 +55,25 @@ fn byte(byte: u8) -> String {
     }
 }
 
-/// What whoever supplied the file can do.
+/// How files begin that are no FASTA, and what to do with them.
+const OTHER_KINDS: [(&[u8], &str); 6] = [
+    (b"\x1f\x8b", "it is compressed: give - for it, with gzip -dc FILE | before the command"),
+    (b"BZh", "it is compressed: give - for it, with bzip2 -dc FILE | before the command"),
+    (b"\xfd7zXZ", "it is compressed: give - for it, with xz -dc FILE | before the command"),
+    (b"\x28\xb5\x2f\xfd", "it is compressed: give - for it, with zstd -dc FILE | before the command"),
+    (b"@", "it looks like FASTQ: make FASTA of it first"),
+    (b"(survey ", "take the survey line out: settings are given as options"),
+];
+
+/// What whoever supplied the file can do. One that is too long may be of another kind too.
 fn advice(refusal: &Refusal, file: &[u8]) -> &'static str {
-    match refusal.number {
-        6 => "split it between records into files of at most 16,777,216 bytes and give them all",
-        10 if file.starts_with(b"\x1f\x8b") => "it is compressed: gzip -dc FILE | wontirje count -",
-        10 | 11 if file.starts_with(b"@") => "it looks like FASTQ: make FASTA of it first",
-        10 => "take the byte out, or mend the line, and count the file again",
-        11 => "put a header line that begins with > before it, and count the file again",
-        12 => "start a new count with this file, and add the two listings up",
+    let other = OTHER_KINDS.iter().find(|(start, _)| file.starts_with(start));
+    match (refusal.number, other) {
+        (6 | 10 | 11, Some((_, advice))) => advice,
+        (6, _) => "split it between records into files of at most 16,777,216 bytes and give them all",
+        (10, _) => "take the byte out, or mend the line, and count the file again",
+        (11, _) => "put a header line that begins with > before it, and count the file again",
+        (12, _) => "start a new count with this file, and add the two listings up",
         _ => "this is a fault of wontirje: report it",
     }
 }

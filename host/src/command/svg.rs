@@ -73,7 +73,7 @@ fn bar(svg: &mut String, bar: &Bar, x: f64, width: f64, height: f64, labelled: b
         svg,
         r##"<rect x="{at:.2}" y="{y:.2}" width="{wide:.2}" height="{height:.2}" fill="#2f6f9f">"##
     );
-    let _ = writeln!(svg, "<title>count {}: {} classes</title></rect>", bar.label(), grouped(bar.classes));
+    let _ = writeln!(svg, "<title>count {}, classes {}</title></rect>", bar.label(), grouped(bar.classes));
     if labelled {
         text(svg, (x + width / 2.0, BOTTOM + 18.0), r#"text-anchor="middle""#, &bar.label());
     }

@@ -2,6 +2,7 @@
 
 use crate::arguments::{number, Arguments};
 use crate::failure::{reason, status, Failure, Outcome};
+use crate::input::bare;
 use crate::report::{line, shown};
 use crate::survey;
 use std::ffi::OsStr;
@@ -9,26 +10,22 @@ use std::io::{self, BufRead, Write};
 use std::os::unix::ffi::OsStrExt;
 use wontirje::{Code, Refusal, Settings};
 
-/// A line of standard input without its end, LF or CR LF.
-fn bare(line: &[u8]) -> &[u8] {
-    line.strip_suffix(b"\r\n").or(line.strip_suffix(b"\n")).unwrap_or(line)
-}
-
-/// Hands each operand, or each line of standard input where there is none or it is -, to some work.
+/// Hands each operand, or each line of standard input where there is none or it is -, to some work, with what
+/// an empty one is called.
 fn each_item(
     arguments: &Arguments,
-    mut work: impl FnMut(&OsStr) -> Result<(), Failure>,
+    mut work: impl FnMut(&OsStr, &str) -> Result<(), Failure>,
 ) -> Result<(), Failure> {
     match &arguments.operands[..] {
         [] => (),
         [only] if only == "-" => (),
-        operands => return operands.iter().try_for_each(|operand| work(operand)),
+        operands => return operands.iter().try_for_each(|operand| work(operand, "an empty argument")),
     }
     let unread = |error: io::Error| Failure::said(format!("standard input: not read: {}", reason(&error)));
     let mut input = io::stdin().lock();
     let mut line = Vec::new();
     while input.read_until(b'\n', &mut line).map_err(unread)? > 0 {
-        work(OsStr::from_bytes(bare(&line)))?;
+        work(OsStr::from_bytes(bare(&line)), "an empty line")?;
         line.clear();
     }
     Ok(())
@@ -38,11 +35,11 @@ fn each_item(
 pub fn translate(arguments: &Arguments, translated: impl Fn(&OsStr) -> Result<String, String>) -> Outcome {
     let mut refused = false;
     let mut to = io::stdout().lock();
-    each_item(arguments, |item| match translated(item) {
+    each_item(arguments, |item, empty| match translated(item) {
         Ok(text) => writeln!(to, "{text}").map_err(|error| Failure::of_printing(error, status(refused))),
         Err(reason) => {
             refused = true;
-            let name = if item.is_empty() { String::from("an empty line") } else { shown(item) };
+            let name = if item.is_empty() { String::from(empty) } else { shown(item) };
             line(format_args!("{name}: {reason}"));
             Ok(())
         }
@@ -55,7 +52,7 @@ pub fn translate(arguments: &Arguments, translated: impl Fn(&OsStr) -> Result<St
 fn word_refused(settings: &Settings, word: &[u8], refusal: Refusal) -> String {
     match settings.mirror_of(word, &mut vec![0; settings.k]) {
         Err(Refusal { number: 9, place }) => format!("{refusal}: letter {} of the word", place + 1),
-        _ => format!("{refusal}: {} letters, k is {}", word.len(), settings.k),
+        _ => format!("{refusal}: its length is {}, k is {}", word.len(), settings.k),
     }
 }
 
@@ -76,7 +73,7 @@ pub fn words(arguments: &Arguments) -> Outcome {
         let mut word = vec![0; settings.k];
         match settings.word(Code(code), &mut word) {
             Ok(_) => Ok(String::from_utf8_lossy(&word).into_owned()),
-            Err(refusal) => Err(format!("{refusal}: there are {classes} classes")),
+            Err(refusal) => Err(format!("{refusal}, {classes}")),
         }
     })
 }

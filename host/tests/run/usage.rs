@@ -30,7 +30,8 @@ extern "C" {
 /// Waits for a process to end, and tells what it took; none where its status is not 0.
 pub fn ended(child: Child) -> Option<Taken> {
     let (mut status, mut usage) = (0, Usage::default());
-    // SAFETY: the process is our child, which nobody else waits for; both pointers are to places of their own.
+    // SAFETY: the process is our child, which nobody else waits for; both pointers are to places of their
+    // own.
     let waited = unsafe { wait4(child.id() as i32, &mut status, 0, &mut usage) };
     let [user, user_micro, system, system_micro] = usage.times.map(|time| time as f64);
     let seconds = user + system + (user_micro + system_micro) / 1e6;
