@@ -1,5 +1,5 @@
--- The kernel for every alphabet: what follows from a window (`Window`) of its code, of the window within and of the next one, and the
--- invariants of the scan and of the loop that opens the first window.
+-- The kernel for every alphabet: what follows from a window (`Window`) of its code, of the window within and of the next one, the invariant of the
+-- scan, and the first window (FirstWindows) in the terms of this kernel.
 use mathlib.Core.Path.{_≡_, refl, sym, ap, _∙_}
 use mathlib.Core.List.{List, [], _∷_}
 use mathlib.Core.Logic.{_≢_}
@@ -19,6 +19,7 @@ use Rattle.encoding.proofs.CodesByEnds.{code-none}
 use Rattle.sequence.specs.declared.general.Inner.{Inner}
 use Rattle.sequence.specs.Needs.{part, Input, Window, OuterPair}
 use Rattle.sequence.proofs.Parts.{ranks-at, part-cons, plain-more, plain-first, part-lt, back-more, back-first, back-lt}
+use Rattle.sequence.proofs.FirstWindows.{Opened}
 use Rattle.sequence.proofs.WindowEnds.{code-lt, differ-is, same-is, forward-is, back-is, palindromes-within}
 
 module _ {s : ℕ} {m : Mirror} {k : ℕ} {pw d : List ℕ} (I : Input s m k pw d) where
@@ -218,47 +219,10 @@ module _ {s : ℕ} {m : Mirror} {k : ℕ} {pw d : List ℕ} {j : ℕ} {t : Inner
             (mirrorRank-lt s m x (rw x-is (ranks-at s d (suc j) (W .input .ranks) (omega arith)))));
       }
 
--- ---- the first window, letter by letter: i of its n inner letters are taken in
+-- ---- the first window: its inner letters, from place 1, are taken in
 
-pub record Opened (s : ℕ) (m : Mirror) (d : List ℕ) (n u v i : ℕ) : Type 0 where
-  pub upto : i ≤ n
-  pub ahead : u ≡ plain s (part 1 i d)
-  pub behind : v ≡ plain s (mirror s m (part 1 i d))
-
-pub open-none : (s : ℕ) (m : Mirror) (d : List ℕ) (n : ℕ) → Opened s m d n 0 0 0
-unfolding plain mirror
-open-none s m d n = record { upto = omega arith; ahead = refl; behind = refl }
-
-module _ {s : ℕ} {m : Mirror} {k : ℕ} {pw d : List ℕ} (I : Input s m k pw d) (long : k ≤ length d) {n u v i : ℕ} (en : n ≡ k - 2) (O : Opened s m d n u v i) where
-  pub open-all : (e : ℕ) → e ≡ palindromes s m k → n ≤ i → Window s m k pw d 0 (record { palindromes = e; forward = u; back = v })
-  open-all e q h =
+module _ {s : ℕ} {m : Mirror} {k : ℕ} {pw d : List ℕ} (I : Input s m k pw d) {n u v i : ℕ} (en : n ≡ k - 2) (O : Opened s m d 1 n u v i) where
+  pub open-all : k ≤ length d → (e : ℕ) → e ≡ palindromes s m k → n ≤ i → Window s m k pw d 0 (record { palindromes = e; forward = u; back = v })
+  open-all long e q h =
       let i-is : i ≡ k - 2 = omega (arith, O .upto) in
       record { input = I; inside = omega arith; count = q; ahead = rw i-is at (O .ahead); behind = rw i-is at (O .behind) }
-
-  module _ (more : i < n) {x : ℕ} (ex : x ≡ getD d (i + 1) 0) where
-    inside : 1 + i < length d
-    inside = omega arith
-
-    x-at : x ≡ getD d (1 + i) 0
-    x-at = ex ∙ (let e : i + 1 ≡ 1 + i = omega arith in rw e)
-
-    pub open-lt : x < s
-    open-lt = rw x-at (ranks-at s d (1 + i) (I .ranks) inside)
-
-    ahead-more′ : u * s + x ≡ plain s (part 1 (suc i) d)
-    ahead-more′ = rw (O .ahead, x-at) (sym (plain-more s 1 i d inside))
-
-    pub open-ahead : u * s + x < 2 ^ 62
-    open-ahead = rw ahead-more′ (lt-of-lt-of-le (part-lt s 1 (suc i) d (I .ranks) (omega (arith, inside))) (power-fits I (suc i) (omega arith)))
-
-    module _ {y q : ℕ} (ey : y ≡ mirrorRank s m x) (eq : q ≡ s ^ i) where
-      behind-more′ : v + y * q ≡ plain s (mirror s m (part 1 (suc i) d))
-      behind-more′ = rw (O .behind, ey, x-at, eq) (omega (arith, back-more s m 1 i d inside))
-
-      pub open-behind : v + y * q < 2 ^ 62
-      open-behind =
-          let below = back-lt s m 1 (suc i) d (I .ranks) (omega (arith, inside)) in
-          rw behind-more′ (lt-of-lt-of-le below (power-fits I (suc i) (omega arith)))
-
-      pub open-more : Opened s m d n (u * s + x) (v + y * q) (i + 1)
-      open-more = record { upto = omega arith; ahead = ahead-more′ ∙ rw add-one; behind = behind-more′ ∙ rw add-one }
