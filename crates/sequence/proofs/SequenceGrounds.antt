@@ -1,7 +1,7 @@
 -- The grounds of the calls along a sequence one after the other, as the calls meet them, and what the kernels ask under good settings.
-use mathlib.Core.Path.{_≡_, refl, sym, ap, _∙_, subst, subst⁻¹}
+use mathlib.Core.Path.{_≡_, sym, ap, _∙_, subst, subst⁻¹}
 use mathlib.Core.List.{List, map}
-use mathlib.Core.Option.{Option, none, some}
+use mathlib.Core.Option.{none}
 use Prim.Native.Nat.{ℕ, _+_, _-_, _*_, _^_, _<_, _≤_}
 use native.Mathlib.Omega.{arith}
 use borrow.Author.Tests.{lt-ltb, le-ltb}
@@ -9,11 +9,10 @@ use lib.ListN.{length}
 use Rattle.settings.specs.declared.Refusal.{Refusal}
 use Rattle.settings.specs.declared.Refusal.the-variants.{TooLarge, ShortBuffer}
 use Rattle.settings.specs.declared.Settings.{Settings}
-use Rattle.settings.specs.Grounds.{Ground, refused, groundOf, _orElse_, outcome, overwritten}
+use Rattle.settings.specs.Grounds.{refused, groundOf, groundAt, tooShort, outcome}
 use Rattle.settings.specs.Settings.{mirrorOf, classes, settingsGround, settingsOf}
-use Rattle.settings.proofs.Outcomes.{refused-on}
+use Rattle.settings.proofs.Outcomes.{kept-by, set-by, kept-on}
 use Rattle.settings.proofs.SettingsGrounds.{good-settings, limits}
-use Rattle.encoding.specs.Needs.{palindromes}
 use Rattle.encoding.proofs.ClassNumbers.{twice-classes, palindromes-le}
 use Rattle.settings.specs.declared.Filling.the-variants.{Filled, Unfilled}
 use Rattle.sequence.specs.declared.kernels.Kernel.{Kernel}
@@ -26,22 +25,12 @@ use Rattle.sequence.specs.Needs.{Fills, Powers, Takes, Coding, codeBy}
 use Rattle.sequence.proofs.Windows.{length-windows}
 use Rattle.sequence.proofs.RankTables.{Bytes, codes-by-table}
 
--- A call refused by its first grounds changes nothing, whatever grounds come after.
-refused-leaves : {A : Type 0} (f : Ground) (a : A) (g later : Option Ground) (places old : List ℕ) → refused f ≡ outcome g a
-    → old ≡ overwritten (g orElse later) places old
-refused-leaves f a none later places old e = absurd (let z : _≡_ {A = ℕ} 0 1 = cc in omega arith)
-refused-leaves f a (some g) later places old e = refl
-
 module _ (letters : List ℕ) (k m : ℕ) (sequence old : List ℕ) where
   -- Bad settings.
   pub settings-refused : (f : Refusal) → refused (groundOf f) ≡ outcome (settingsGround letters k m) (settingsOf letters k m)
       → FillsCodes letters k m sequence old (Unfilled f) old
   unfolding sequenceGround
-  settings-refused f e =
-      record {
-        answers = refused-on (groundOf f) (settingsOf letters k m) (length (windows k sequence)) (settingsGround letters k m) _ e;
-        leaves = refused-leaves (groundOf f) (settingsOf letters k m) (settingsGround letters k m) _ _ old e;
-      }
+  settings-refused f e = kept-on (groundOf f) (settingsOf letters k m) (settingsGround letters k m) _ _ _ old e
 
   module _ (good : settingsGround letters k m ≡ none) where
     some-k : 1 ≤ k
@@ -49,31 +38,24 @@ module _ (letters : List ℕ) (k m : ℕ) (sequence old : List ℕ) where
 
     pub too-large : 16777216 < length sequence → FillsCodes letters k m sequence old (Unfilled TooLarge) old
     unfolding sequenceGround
-    too-large h = record { answers = rw (good, lt-ltb 16777216 (length sequence) h); leaves = rw (good, lt-ltb 16777216 (length sequence) h) }
+    too-large h = kept-by _ _ _ old _ (rw (good, lt-ltb 16777216 (length sequence) h))
 
     module _ (within : length sequence ≤ 16777216) (needed : ℕ) (is : needed ≡ length sequence + 1 - k) where
       needed-is : length (windows k sequence) ≡ needed
       needed-is = length-windows k some-k sequence ∙ sym is
 
-      pub too-short : length old < needed → FillsCodes letters k m sequence old (Unfilled (ShortBuffer needed)) old
+      room-alone : sequenceGround letters k m sequence (length old) ≡ groundAt 7 (tooShort (length old) needed)
       unfolding sequenceGround
-      too-short h =
-          record {
-            answers = rw (good, le-ltb 16777216 (length sequence) within, needed-is, lt-ltb (length old) needed h);
-            leaves = rw (good, le-ltb 16777216 (length sequence) within, needed-is, lt-ltb (length old) needed h);
-          }
+      room-alone = rw (good, le-ltb 16777216 (length sequence) within, needed-is)
+
+      pub too-short : length old < needed → FillsCodes letters k m sequence old (Unfilled (ShortBuffer needed)) old
+      too-short h = kept-by _ _ _ old _ (room-alone ∙ rw (lt-ltb (length old) needed h))
 
       pub all-filled : {table new : List ℕ} → needed ≤ length old → RankTable letters table → Bytes sequence
           → Fills (map (codeBy (rankByTable table) (length letters) (mirrorOf m) k) (windows k sequence)) old new
           → FillsCodes letters k m sequence old (Filled needed) new
-      unfolding sequenceGround
       all-filled h T B F =
-          record {
-            answers = rw (good, le-ltb 16777216 (length sequence) within, needed-is, le-ltb (length old) needed h);
-            leaves =
-                F .is
-                ∙ rw (codes-by-table T k m sequence B, good, le-ltb 16777216 (length sequence) within, needed-is, le-ltb (length old) needed h);
-          }
+          rw (← needed-is) (set-by _ _ _ old _ (room-alone ∙ rw (le-ltb (length old) needed h)) (F .is ∙ rw (codes-by-table T k m sequence B)))
 
 -- ---- what the kernels ask holds under good settings
 
