@@ -6,7 +6,7 @@ use mathlib.Core.List.{List, map, [], _∷_}
 use Prim.Native.Nat.{ℕ, zero, _<_, suc}
 use native.Mathlib.Omega.{arith}
 use borrow.Author.Tests.{eq-eqb, ne-eqb}
-use lib.Dec.{T, leb}
+use lib.Dec.{leb}
 use lib.ListN.{length, length-map, getD, take, length-take}
 use lib.Seq.{getD-take}
 use Rattle.encoding.specs.Calls.{rankOrZero, ranksOf}
