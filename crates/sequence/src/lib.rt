@@ -1,7 +1,7 @@
 // Codes along a sequence: the code of every window of plain sequence bytes, by a kernel for every alphabet or, for ACGT under complement, by two-bit
 // numbers. Both calls have one definition in their contracts.
 mod batches;
-pub mod bytes;
+mod bytes;
 mod general;
 pub mod kernels;
 mod pairs;
