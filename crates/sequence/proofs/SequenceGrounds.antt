@@ -21,7 +21,7 @@ use Rattle.sequence.specs.Windows.{windows}
 use Rattle.sequence.specs.Sequences.{sequenceGround, FillsCodes}
 use Rattle.settings.specs.RankTables.{rankByTable, RankTable, RanksBelow}
 use Rattle.settings.proofs.RankTables.{table-below}
-use Rattle.sequence.specs.Needs.{Fills, Powers, Takes, Coding, codeBy}
+use Rattle.sequence.specs.Needs.{Fills, Powers, Takes, coderOf, Coding, codeBy}
 use Rattle.sequence.proofs.Windows.{length-windows}
 use Rattle.sequence.proofs.RankTables.{Bytes, codes-by-table}
 
@@ -60,10 +60,7 @@ module _ (letters : List ℕ) (k m : ℕ) (sequence old : List ℕ) where
 -- ---- what the kernels ask holds under good settings
 
 module _ (letters : List ℕ) (k m : ℕ) (good : settingsGround letters k m ≡ none) (kernel : Kernel) (takes : Takes kernel (length letters) (mirrorOf m)) where
-  abbrev coderOf : Settings → Coder
-  coderOf st = record { kernel = kernel; s = st .s; k = k; mirror = st .mirror; palindromes = 2 * st .classes - st .words }
-
-  ready : {powers : List ℕ} → Powers (length letters) k powers → Coding (coderOf (settingsOf letters k m)) powers
+  ready : {powers : List ℕ} → Powers (length letters) k powers → Coding (coderOf kernel k (settingsOf letters k m)) powers
   ready P =
       let L = limits letters k m good in
       record {
@@ -75,14 +72,24 @@ module _ (letters : List ℕ) (k m : ℕ) (good : settingsGround letters k m ≡
       }
 
   module _ (st : Settings) (is : st ≡ settingsOf letters k m) where
-    pub s-is : st .s ≡ length letters
+    s-is : st .s ≡ length letters
     s-is = ap (λ (x : Settings). x .s) is
 
-    pub mirror-is : st .mirror ≡ mirrorOf m
-    mirror-is = ap (λ (x : Settings). x .mirror) is
+    -- The coder that `kernels::coder_of` makes.
+    pub coder-is : {c : Coder} → c ≡ coderOf kernel (st .k) st → c ≡ coderOf kernel k st
+    coder-is e = e ∙ ap (λ (x : Settings). coderOf kernel (x .k) st) is
 
-    pub coder-ready : {powers : List ℕ} → Powers (st .s) k powers → Coding (coderOf st) powers
-    coder-ready {powers} P = subst⁻¹ (λ (x : Settings). Coding (coderOf x) powers) is (ready (subst (λ (x : Settings). Powers (x .s) k powers) is P))
+    pub coder-codes : {c : Coder} {old new : List ℕ} (table sequence : List ℕ) → c ≡ coderOf kernel (st .k) st
+        → Fills (map (codeBy (rankByTable table) (c .s) (c .mirror) (c .k)) (windows (c .k) sequence)) old new
+        → Fills (map (codeBy (rankByTable table) (length letters) (mirrorOf m) k) (windows k sequence)) old new
+    coder-codes {c} {old} {new} table sequence e F =
+        subst (λ (x : Coder). Fills (map (codeBy (rankByTable table) (x .s) (x .mirror) (x .k)) (windows (x .k) sequence)) old new)
+        (e ∙ ap (λ (x : Settings). coderOf kernel (x .k) x) is)
+        F
+
+    pub coder-ready : {powers : List ℕ} → Powers (st .s) k powers → Coding (coderOf kernel k st) powers
+    coder-ready {powers} P =
+        subst⁻¹ (λ (x : Settings). Coding (coderOf kernel k x) powers) is (ready (subst (λ (x : Settings). Powers (x .s) k powers) is P))
 
     pub ranks-ready : {table : List ℕ} → RankTable letters table → RanksBelow (st .s) table
     ranks-ready {table} T = subst⁻¹ (λ (s : ℕ). RanksBelow s table) s-is (table-below T)
