@@ -21,7 +21,7 @@ use Rattle.sequence.specs.Windows.{windows}
 use Rattle.sequence.specs.Sequences.{sequenceGround, FillsCodes}
 use Rattle.settings.specs.RankTables.{rankByTable, RankTable, RanksBelow}
 use Rattle.settings.proofs.RankTables.{table-below}
-use Rattle.sequence.specs.Needs.{Fills, Powers, Takes, coderOf, Coding, codeBy}
+use Rattle.sequence.specs.Needs.{Fills, Powers, Takes, coderOf, ReadyCoder, codeBy}
 use Rattle.sequence.proofs.Windows.{length-windows}
 use Rattle.sequence.proofs.RankTables.{Bytes, codes-by-table}
 
@@ -60,7 +60,7 @@ module _ (letters : List ℕ) (k m : ℕ) (sequence old : List ℕ) where
 -- ---- what the kernels ask holds under good settings
 
 module _ (letters : List ℕ) (k m : ℕ) (good : settingsGround letters k m ≡ none) (kernel : Kernel) (takes : Takes kernel (length letters) (mirrorOf m)) where
-  ready : {powers : List ℕ} → Powers (length letters) k powers → Coding (coderOf kernel k (settingsOf letters k m)) powers
+  ready : {powers : List ℕ} → Powers (length letters) k powers → ReadyCoder (coderOf kernel k (settingsOf letters k m)) powers
   ready P =
       let L = limits letters k m good in
       record {
@@ -87,9 +87,9 @@ module _ (letters : List ℕ) (k m : ℕ) (good : settingsGround letters k m ≡
         (e ∙ ap (λ (x : Settings). coderOf kernel (x .k) x) is)
         F
 
-    pub coder-ready : {powers : List ℕ} → Powers (st .s) k powers → Coding (coderOf kernel k st) powers
+    pub coder-ready : {powers : List ℕ} → Powers (st .s) k powers → ReadyCoder (coderOf kernel k st) powers
     coder-ready {powers} P =
-        subst⁻¹ (λ (x : Settings). Coding (coderOf kernel k x) powers) is (ready (subst (λ (x : Settings). Powers (x .s) k powers) is P))
+        subst⁻¹ (λ (x : Settings). ReadyCoder (coderOf kernel k x) powers) is (ready (subst (λ (x : Settings). Powers (x .s) k powers) is P))
 
     pub ranks-ready : {table : List ℕ} → RankTable letters table → RanksBelow (st .s) table
     ranks-ready {table} T = subst⁻¹ (λ (s : ℕ). RanksBelow s table) s-is (table-below T)

@@ -100,7 +100,7 @@ abbrev pub coderOf : Kernel → ℕ → Settings → Coder
 coderOf kernel k st = record { kernel = kernel; s = st .s; k = k; mirror = st .mirror; palindromes = 2 * st .classes - st .words }
 
 -- Good settings as a kernel takes them, with the powers of s.
-pub record Coding (c : Coder) (powers : List ℕ) : Type 0 where
+pub record ReadyCoder (c : Coder) (powers : List ℕ) : Type 0 where
   pub limits : Limits (c .s) (c .mirror) (c .k)
   pub some : 1 ≤ c .k
   pub count : c .palindromes ≡ palindromes (c .s) (c .mirror) (c .k)

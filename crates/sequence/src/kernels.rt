@@ -9,7 +9,7 @@ ghost use Prim.Native.Nat.{_+_, _-_, _*_, _^_, _<_, _≤_};
 ghost use lib.ListN.{length};
 ghost use Rattle.encoding.specs.Words.{Ranks};
 ghost use Rattle.sequence.specs.Windows.{windowCodes};
-ghost use Rattle.sequence.specs.Needs.{Fills, Powers, coderOf, Coding};
+ghost use Rattle.sequence.specs.Needs.{Fills, Powers, coderOf, ReadyCoder};
 
 // How codes are worked out: by the kernel for every alphabet, or by two-bit numbers, which four letters under complement alone have.
 pub enum Kernel {
@@ -71,9 +71,9 @@ pub fn power_table(s: u64, k: usize) -> [u64; 64]
 }
 
 // The codes of all windows of a list of ranks, from the start of a lent list. It asks for a coder of good settings whose kernel takes them, with its
-// powers (`Coding`), ranks below s, and a place for each window.
+// powers (`ReadyCoder`), ranks below s, and a place for each window.
 pub fn fill_codes(ranks: &[u8], c: Coder, powers: &[u64; 64], out: &mut [u64])
-    requires { ⌜ Coding c (now powers) ⌝ }
+    requires { ⌜ ReadyCoder c (now powers) ⌝ }
     requires { ⌜ Ranks (c .s) (now ranks) ⌝ }
     requires { ⌜ length (now ranks) + 1 - c .k ≤ length (now out) ⌝ }
     ensures { λ _. ⌜ Fills (windowCodes (c .s) (c .mirror) (c .k) (now (ranks .entry))) (now (out .entry)) (now (out .exit)) ⌝ }
