@@ -1,5 +1,5 @@
--- The kernel for every alphabet: what follows from a window (`Window`) of its code, of the window within and of the next one, and the
--- invariants of the scan and of the loop that opens the first window.
+-- The kernel for every alphabet: what follows from a window (`Window`) of its code, of the window within and of the next one, the invariant of the
+-- scan, and the first window (FirstWindows) in the terms of this kernel.
 use mathlib.Core.Path.{_≡_, refl, sym, ap, _∙_}
 use mathlib.Core.List.{List, [], _∷_}
 use mathlib.Core.Logic.{_≢_}
@@ -19,6 +19,7 @@ use Rattle.encoding.proofs.CodesByEnds.{code-none}
 use Rattle.sequence.specs.declared.general.Inner.{Inner}
 use Rattle.sequence.specs.Needs.{part, Input, Window, OuterPair}
 use Rattle.sequence.proofs.Parts.{ranks-at, part-cons, plain-more, plain-first, part-lt, back-more, back-first, back-lt}
+use Rattle.sequence.proofs.FirstWindows.{Opened}
 use Rattle.sequence.proofs.WindowEnds.{code-lt, differ-is, same-is, forward-is, back-is, palindromes-within}
 
 module _ {s : ℕ} {m : Mirror} {k : ℕ} {pw d : List ℕ} (I : Input s m k pw d) where
@@ -120,7 +121,7 @@ module _ {s : ℕ} {m : Mirror} {k : ℕ} {pw d : List ℕ} {j : ℕ} {t : Inner
 pub record Scan (s : ℕ) (m : Mirror) (k : ℕ) (pw d : List ℕ) (j : ℕ) (t : Inner) (a n closing scale : ℕ) : Type 0 where
   pub window : Window s m n pw d a t
   pub rest : code s m k (part j k d) ≡ closing + scale * code s m n (part a n d)
-  pub bound : scale * s ^ n ≤ 2 ^ 62
+  bound : scale * s ^ n ≤ 2 ^ 62
   pub fits : code s m k (part j k d) < 2 ^ 62
 
 pub scan-start : {s : ℕ} {m : Mirror} {k : ℕ} {pw d : List ℕ} {j : ℕ} {t : Inner} → Window s m k pw d j t → Scan s m k pw d j t j k 0 1
@@ -166,99 +167,76 @@ pub entering-lt : {s : ℕ} {m : Mirror} {k : ℕ} {pw d : List ℕ} {j : ℕ} {
     → {n y : ℕ} → n ≡ k - 2 → y ≡ getD d (j + 1 + n) 0 → 1 ≤ k → y < s
 entering-lt {s} {d = d} {j = j} W more {n = n} en ey some = rw ey (ranks-at s d (j + 1 + n) (W .input .ranks) (omega arith))
 
-module _ {s : ℕ} {m : Mirror} {k : ℕ} {pw d : List ℕ} {j : ℕ} {t : Inner} (W : Window s m k pw d j t) (some : 1 ≤ k) (more : j + k < length d)
-    {n q x y z : ℕ} (en : n ≡ k - 2) (eq : q ≡ s ^ n) (ex : x ≡ getD d (j + 1) 0) (ey : y ≡ getD d (j + 1 + n) 0) (ez : z ≡ mirrorRank s m y) where
+-- From the window at j to the next one: of its n inner letters x leaves, and y enters, as z on the mirror's side.
+pub record Entering (s : ℕ) (m : Mirror) (k : ℕ) (pw d : List ℕ) (j : ℕ) (t : Inner) (n q x y z : ℕ) : Type 0 where
+  pub window : Window s m k pw d j t
+  pub some : 1 ≤ k
+  pub more : j + k < length d
+  pub between : n ≡ k - 2
+  pub power : q ≡ s ^ n
+  pub leaving : x ≡ getD d (j + 1) 0
+  pub entering : y ≡ getD d (j + 1 + n) 0
+  pub shown : z ≡ mirrorRank s m y
+
+module _ {s : ℕ} {m : Mirror} {k : ℕ} {pw d : List ℕ} {j : ℕ} {t : Inner} {n q x y z : ℕ} (E : Entering s m k pw d j t n q x y z) where
   x-is : x ≡ getD d (suc j) 0
-  x-is = ex ∙ rw (add-one j)
+  x-is = E .leaving ∙ rw (add-one j)
 
   y-is : y ≡ getD d (suc j + n) 0
-  y-is = ey ∙ (let e : j + 1 + n ≡ suc j + n = omega arith in rw e)
+  y-is = E .entering ∙ (let e : j + 1 + n ≡ suc j + n = omega arith in rw e)
+
+  inside : suc j + n < length d
+  inside = omega (arith, E .some, E .more, E .between)
+
+  few : suc n ≤ k
+  few = omega (arith, E .some, E .between)
 
   now-ahead : t .forward ≡ plain s (part (suc j) n d)
-  now-ahead = W .ahead ∙ rw en
+  now-ahead = E .window .ahead ∙ rw (E .between)
 
   now-behind : t .back ≡ plain s (mirror s m (part (suc j) n d))
-  now-behind = W .behind ∙ rw en
+  now-behind = E .window .behind ∙ rw (E .between)
 
   ahead-more : t .forward * s + y ≡ plain s (part (suc j) (suc n) d)
-  ahead-more = rw (now-ahead, y-is) (sym (plain-more s (suc j) n d (omega arith)))
+  ahead-more = rw (now-ahead, y-is) (sym (plain-more s (suc j) n d inside))
 
   behind-more : t .back + z * q ≡ plain s (mirror s m (part (suc j) (suc n) d))
-  behind-more = rw (now-behind, ez, y-is, eq) (omega (arith, back-more s m (suc j) n d (omega arith)))
+  behind-more = rw (now-behind, E .shown, y-is, E .power) (omega (arith, back-more s m (suc j) n d inside))
 
   ahead-is : t .forward * s + y ≡ x * q + plain s (part (suc (suc j)) n d)
-  ahead-is = ahead-more ∙ rw (x-is, eq) (plain-first s (suc j) n d (omega arith))
+  ahead-is = ahead-more ∙ rw (x-is, E .power) (plain-first s (suc j) n d inside)
 
   behind-is : t .back + z * q ≡ plain s (mirror s m (part (suc (suc j)) n d)) * s + mirrorRank s m x
-  behind-is = behind-more ∙ rw x-is (back-first s m (suc j) n d (omega arith))
+  behind-is = behind-more ∙ rw x-is (back-first s m (suc j) n d inside)
 
   pub ahead-fits : (t .forward * s + y < 2 ^ 62) × (x * q ≤ t .forward * s + y)
   ahead-fits = (
-    rw ahead-more (lt-of-lt-of-le (part-lt s (suc j) (suc n) d (W .input .ranks) (omega arith)) (power-fits (W .input) (suc n) (fit k n some en))),
+    rw ahead-more (lt-of-lt-of-le (part-lt s (suc j) (suc n) d (E .window .input .ranks) (omega (arith, inside))) (power-fits (E .window .input) (suc n) few)),
     omega (arith, ahead-is),
   )
-    where
-      fit : (k n : ℕ) → 1 ≤ k → n ≡ k - 2 → suc n ≤ k
-      fit k n h e = omega arith
 
   pub behind-fits : t .back + z * q < 2 ^ 62
   behind-fits =
-      rw behind-more (lt-of-lt-of-le (back-lt s m (suc j) (suc n) d (W .input .ranks) (omega arith)) (power-fits (W .input) (suc n) (omega arith)))
+      rw behind-more
+      (lt-of-lt-of-le (back-lt s m (suc j) (suc n) d (E .window .input .ranks) (omega (arith, inside))) (power-fits (E .window .input) (suc n) few))
 
   pub next-is : (u v : ℕ) → u ≡ t .forward * s + y - x * q → v ≡ (t .back + z * q) / s
       → Window s m k pw d (j + 1) (record { palindromes = t .palindromes; forward = u; back = v })
   next-is u v eu ev =
       record {
-        input = W .input;
-        inside = omega arith;
-        count = W .count;
-        ahead = eu ∙ rw (← en, add-one) (omega (arith, ahead-is));
-        behind = ev ∙ rw (← en, add-one, behind-is)
+        input = E .window .input;
+        inside = omega (arith, E .more);
+        count = E .window .count;
+        ahead = eu ∙ rw (← (E .between), add-one) (omega (arith, ahead-is));
+        behind = ev ∙ rw (← (E .between), add-one, behind-is)
             (digits-div (plain s (mirror s m (part (suc (suc j)) n d)))
-            (mirrorRank-lt s m x (rw x-is (ranks-at s d (suc j) (W .input .ranks) (omega arith)))));
+            (mirrorRank-lt s m x (rw x-is (ranks-at s d (suc j) (E .window .input .ranks) (omega (arith, inside))))));
       }
 
--- ---- the first window, letter by letter: i of its n inner letters are taken in
+-- ---- the first window: its inner letters, from place 1, are taken in
 
-pub record Opened (s : ℕ) (m : Mirror) (d : List ℕ) (n u v i : ℕ) : Type 0 where
-  pub upto : i ≤ n
-  pub ahead : u ≡ plain s (part 1 i d)
-  pub behind : v ≡ plain s (mirror s m (part 1 i d))
-
-pub open-none : (s : ℕ) (m : Mirror) (d : List ℕ) (n : ℕ) → Opened s m d n 0 0 0
-unfolding plain mirror
-open-none s m d n = record { upto = omega arith; ahead = refl; behind = refl }
-
-module _ {s : ℕ} {m : Mirror} {k : ℕ} {pw d : List ℕ} (I : Input s m k pw d) (long : k ≤ length d) {n u v i : ℕ} (en : n ≡ k - 2) (O : Opened s m d n u v i) where
-  pub open-all : (e : ℕ) → e ≡ palindromes s m k → n ≤ i → Window s m k pw d 0 (record { palindromes = e; forward = u; back = v })
-  open-all e q h =
+module _ {s : ℕ} {m : Mirror} {k : ℕ} {pw d : List ℕ} (I : Input s m k pw d) {n u v i : ℕ} (en : n ≡ k - 2) (O : Opened s m d 1 n u v i) where
+  pub open-all : k ≤ length d → (e : ℕ) → e ≡ palindromes s m k → n ≤ i → Window s m k pw d 0 (record { palindromes = e; forward = u; back = v })
+  open-all long e q h =
       let i-is : i ≡ k - 2 = omega (arith, O .upto) in
       record { input = I; inside = omega arith; count = q; ahead = rw i-is at (O .ahead); behind = rw i-is at (O .behind) }
-
-  module _ (more : i < n) {x : ℕ} (ex : x ≡ getD d (i + 1) 0) where
-    inside : 1 + i < length d
-    inside = omega arith
-
-    x-at : x ≡ getD d (1 + i) 0
-    x-at = ex ∙ (let e : i + 1 ≡ 1 + i = omega arith in rw e)
-
-    pub open-lt : x < s
-    open-lt = rw x-at (ranks-at s d (1 + i) (I .ranks) inside)
-
-    ahead-more′ : u * s + x ≡ plain s (part 1 (suc i) d)
-    ahead-more′ = rw (O .ahead, x-at) (sym (plain-more s 1 i d inside))
-
-    pub open-ahead : u * s + x < 2 ^ 62
-    open-ahead = rw ahead-more′ (lt-of-lt-of-le (part-lt s 1 (suc i) d (I .ranks) (omega (arith, inside))) (power-fits I (suc i) (omega arith)))
-
-    module _ {y q : ℕ} (ey : y ≡ mirrorRank s m x) (eq : q ≡ s ^ i) where
-      behind-more′ : v + y * q ≡ plain s (mirror s m (part 1 (suc i) d))
-      behind-more′ = rw (O .behind, ey, x-at, eq) (omega (arith, back-more s m 1 i d inside))
-
-      pub open-behind : v + y * q < 2 ^ 62
-      open-behind =
-          let below = back-lt s m 1 (suc i) d (I .ranks) (omega (arith, inside)) in
-          rw behind-more′ (lt-of-lt-of-le below (power-fits I (suc i) (omega arith)))
-
-      pub open-more : Opened s m d n (u * s + x) (v + y * q) (i + 1)
-      open-more = record { upto = omega arith; ahead = ahead-more′ ∙ rw add-one; behind = behind-more′ ∙ rw add-one }

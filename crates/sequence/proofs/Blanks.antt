@@ -1,13 +1,13 @@
 -- Runs of letters, and the windows that have another byte: a window has only letters where the run that ends with it is as long as it is.
 use mathlib.Core.Path.{_≡_, refl, sym, ap, _∙_}
-use mathlib.Core.Bool.{Bool, true, false, cond, _&&_, and-true}
+use mathlib.Core.Bool.{Bool, true, false, cond, _&&_, and-true, and-false, and-assoc, and-eq-true-iff}
 use mathlib.Core.List.{List, [], _∷_, _++_, map}
-use mathlib.Core.Option.{Option, some}
+use mathlib.Core.Option.{Option}
 use Prim.Native.Nat.{ℕ, zero, suc, _+_, _-_, _<_, _≤_}
 use native.Mathlib.Decide.{ℕ-discrete, decLe}
 use native.Mathlib.Numerals.{add-one}
 use native.Mathlib.Omega.{arith}
-use lib.ListN.{length, getD, drop, set, length-set, length-append, length-drop, drop-of-length-le, List·getD-append}
+use lib.ListN.{length, getD, take, drop, set, length-set, length-append, length-drop, drop-of-length-le, List·getD-append}
 use lib.Seq.{drop-cons, getD-take, getD-drop, getD-set-same, getD-set-other, getD-append-add, ext-getD}
 use Rattle.encoding.specs.Words.{Mirror}
 use Rattle.encoding.specs.Codes.{code}
@@ -30,28 +30,29 @@ module _ (rank : ℕ → Option ℕ) where
   unfolding allRanked
   ranked-false [] p h e = absurd (omega arith)
   ranked-false (b ∷ w) zero h e = rw e
-  ranked-false (b ∷ w) (suc p) h e = rw (ranked-false w p (omega arith) e) (both (isRank (rank b)))
-    where
-      both : (t : Bool) → (t && false) ≡ false
-      both true = refl
-      both false = refl
+  ranked-false (b ∷ w) (suc p) h e = rw (ranked-false w p (omega arith) e) (and-false (isRank (rank b)))
+
+-- ---- a part of a list that is mapped
+
+module _ {A B : Type 0} (f : A → B) where
+  pub map-take : (n : ℕ) (l : List A) → take n (map f l) ≡ map f (take n l)
+  map-take zero l = refl
+  map-take (suc n) [] = refl
+  map-take (suc n) (x ∷ l) = ap (λ (r : List B). f x ∷ r) (map-take n l)
+
+  pub map-drop : (n : ℕ) (l : List A) → drop n (map f l) ≡ map f (drop n l)
+  map-drop zero l = refl
+  map-drop (suc n) [] = refl
+  map-drop (suc n) (x ∷ l) = map-drop n l
 
 -- ---- bytes that are all letters
-
-and-split : (a b : Bool) → (a && b) ≡ true → (a ≡ true) × (b ≡ true)
-and-split true b e = (refl, e)
-and-split false b e = absurd (let z : _≡_ {A = ℕ} 0 1 = cc in omega arith)
-
-and-assoc : (a b c : Bool) → (a && (b && c)) ≡ ((a && b) && c)
-and-assoc true b c = refl
-and-assoc false b c = refl
 
 module _ (rank : ℕ → Option ℕ) (bytes : List ℕ) where
   -- All are letters where those up to the i-th are, and those that are left.
   pub ranked-next : (i : ℕ) (all : Bool) → i < length bytes → allRanked rank bytes ≡ (all && allRanked rank (drop i bytes))
       → allRanked rank bytes ≡ ((all && isRank (rank (getD bytes i 0))) && allRanked rank (drop (i + 1) bytes))
   unfolding allRanked
-  ranked-next i all h e = e ∙ rw (add-one i, drop-cons bytes i 0 h) (and-assoc all (isRank (rank (getD bytes i 0))) (allRanked rank (drop (suc i) bytes)))
+  ranked-next i all h e = e ∙ rw (add-one i, drop-cons bytes i 0 h) (sym (and-assoc all (isRank (rank (getD bytes i 0))) (allRanked rank (drop (suc i) bytes))))
 
   pub ranked-done : (i : ℕ) (all : Bool) → length bytes ≤ i → allRanked rank bytes ≡ (all && allRanked rank (drop i bytes)) → all ≡ allRanked rank bytes
   unfolding allRanked
@@ -60,8 +61,11 @@ module _ (rank : ℕ → Option ℕ) (bytes : List ℕ) where
 ranked-at : (rank : ℕ → Option ℕ) (w : List ℕ) → allRanked rank w ≡ true → (p : ℕ) → p < length w → isRank (rank (getD w p 0)) ≡ true
 unfolding allRanked
 ranked-at rank [] e p h = absurd (omega arith)
-ranked-at rank (b ∷ w) e zero h = and-split (isRank (rank b)) (allRanked rank w) e .0
-ranked-at rank (b ∷ w) e (suc p) h = ranked-at rank w (and-split (isRank (rank b)) (allRanked rank w) e .1) p (omega arith)
+ranked-at rank (b ∷ w) e zero h = and-eq-true-iff (isRank (rank b)) (allRanked rank w) .0 e .0
+ranked-at rank (b ∷ w) e (suc p) h = ranked-at rank w (and-eq-true-iff (isRank (rank b)) (allRanked rank w) .0 e .1) p (omega arith)
+
+at-part : (bytes : List ℕ) (j k p : ℕ) → p < k → getD (part j k bytes) p 0 ≡ getD bytes (j + p) 0
+at-part bytes j k p h = getD-take k (drop j bytes) p 0 h ∙ getD-drop j bytes p 0
 
 -- Nothing is to be blanked.
 pub blanked-nothing : (table : List ℕ) (k : ℕ) (bytes old : List ℕ) → allRanked (rankByTable table) bytes ≡ true
@@ -74,7 +78,7 @@ blanked-nothing table k bytes old all =
         ranked-true (rankByTable table) (part j k bytes)
         (λ p g.
         let q : p < k = omega (arith, length-part j k bytes h) in
-        rw (getD-take k (drop j bytes) p 0 q, getD-drop j bytes p 0) (ranked-at (rankByTable table) bytes all (j + p) (omega arith)))
+        rw (at-part bytes j k p q) (ranked-at (rankByTable table) bytes all (j + p) (omega arith)))
 
 -- ---- runs
 
@@ -105,24 +109,21 @@ module _ {table bytes : List ℕ} {i run : ℕ} (R : Run table bytes i run) wher
 
   -- The window that ends here has only letters where the run is k long.
   module _ (k j : ℕ) (end : j + k ≡ i) (inside : i ≤ length bytes) where
-    at-part : (p : ℕ) → p < k → getD (part j k bytes) p 0 ≡ getD bytes (j + p) 0
-    at-part p h = getD-take k (drop j bytes) p 0 h ∙ getD-drop j bytes p 0
-
     len : length (part j k bytes) ≡ k
     len = length-part j k bytes (omega arith)
 
     ranked-yes : k ≤ run → allRanked (rankByTable table) (part j k bytes) ≡ true
     ranked-yes h =
         ranked-true (rankByTable table) (part j k bytes)
-        (λ p g. let q : p < k = omega (arith, len) in rw (at-part p q) (R .letters (j + p) (omega arith) (omega arith)))
+        (λ p g. let q : p < k = omega (arith, len) in rw (at-part bytes j k p q) (R .letters (j + p) (omega arith) (omega arith)))
 
     ranked-no : run < k → allRanked (rankByTable table) (part j k bytes) ≡ false
     ranked-no h =
         let q : k - run - 1 < k = omega arith in
         ranked-false (rankByTable table) (part j k bytes) (k - run - 1) (omega (arith, len))
-        (rw (at-part (k - run - 1) q) (R .stop (j + (k - run - 1)) (omega (arith, R .upto))))
+        (rw (at-part bytes j k (k - run - 1) q) (R .stop (j + (k - run - 1)) (omega (arith, R .upto))))
 
-    pub run-kept : (x code : ℕ) → (k ≤ run → x ≡ code) × (run < k → x ≡ noCode) → x ≡ cond (allRanked (rankByTable table) (part j k bytes)) code noCode
+    run-kept : (x code : ℕ) → (k ≤ run → x ≡ code) × (run < k → x ≡ noCode) → x ≡ cond (allRanked (rankByTable table) (part j k bytes)) code noCode
     run-kept x code f =
         elim (decLe k run) as (λ _. x ≡ cond (allRanked (rankByTable table) (part j k bytes)) code noCode) [
           | yes h ↦ f .0 h ∙ rw (ranked-yes h)
@@ -131,14 +132,14 @@ module _ {table bytes : List ℕ} {i run : ℕ} (R : Run table bytes i run) wher
 
 -- ---- the loop over the windows
 
-pub blank-none : (table : List ℕ) (k : ℕ) (bytes old : List ℕ) → Blanked table k bytes old old 0
+blank-none : (table : List ℕ) (k : ℕ) (bytes old : List ℕ) → Blanked table k bytes old old 0
 blank-none table k bytes old = record { kept-length = refl; at = λ j h. absurd (omega arith); later = λ j h. refl }
 
 -- The windows before the one at j are done, and the run that ends before its last byte is known.
 pub record Blanking (table : List ℕ) (k : ℕ) (bytes old new : List ℕ) (run j : ℕ) : Type 0 where
   pub ran : Run table bytes (j + k - 1) run
   pub inside : j + k ≤ length bytes + 1
-  pub blanked : Blanked table k bytes old new j
+  blanked : Blanked table k bytes old new j
 
 module _ {table : List ℕ} {k : ℕ} {bytes old : List ℕ} (some : 1 ≤ k) where
   pub blanking-none : {run : ℕ} → k ≤ length bytes → Run table bytes (k - 1) run → Blanking table k bytes old old run 0
@@ -185,12 +186,7 @@ fills-at {C} {o} F j h = ap (λ (l : List ℕ). getD l j 0) (F .is) ∙ List·ge
 
 ranks-part-by : (rank : ℕ → Option ℕ) (j k : ℕ) (bytes : List ℕ) → part j k (ranksBy rank bytes) ≡ ranksBy rank (part j k bytes)
 unfolding ranksBy
-ranks-part-by rank zero zero bytes = refl
-ranks-part-by rank zero (suc k) [] = refl
-ranks-part-by rank zero (suc k) (b ∷ bs) = ap (λ (l : List ℕ). rankOrZero (rank b) ∷ l) (ranks-part-by rank zero k bs)
-ranks-part-by rank (suc j) zero bytes = refl
-ranks-part-by rank (suc j) (suc k) [] = refl
-ranks-part-by rank (suc j) (suc k) (b ∷ bs) = ranks-part-by rank j (suc k) bs
+ranks-part-by rank j k bytes = ap (take k) (map-drop (λ (b : ℕ). rankOrZero (rank b)) j bytes) ∙ map-take (λ (b : ℕ). rankOrZero (rank b)) k (drop j bytes)
 
 -- The codes of the windows of the ranks, blanked where a byte is no letter, are the numbers of the windows of the bytes.
 module _ {table : List ℕ} (s : ℕ) (m : Mirror) {k : ℕ} {bytes o mid new : List ℕ} (some : 1 ≤ k) (room : length bytes + 1 - k ≤ length o)

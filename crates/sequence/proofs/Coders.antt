@@ -9,7 +9,7 @@ use Rattle.sequence.specs.declared.kernels.Kernel.{Kernel}
 use Rattle.sequence.specs.declared.kernels.Kernel.the-variants.{TwoBit}
 use Rattle.sequence.specs.declared.kernels.Coder.{Coder}
 use Rattle.sequence.specs.Windows.{windowCodes}
-use Rattle.sequence.specs.Needs.{Fills, Takes, Coding, TwoBitInput}
+use Rattle.sequence.specs.Needs.{Fills, Takes, ReadyCoder, TwoBitInput}
 use Rattle.sequence.proofs.TwoBit.{four-pow}
 
 four-exponent : (k : ℕ) → 4 ^ k ≤ 2 ^ 62 → k ≤ 31
@@ -17,7 +17,7 @@ four-exponent k h =
     let e : 2 ^ (2 * k) ≤ 2 ^ 62 = rw (four-pow k) at h in
     omega (arith, exponent-le 2 (2 * k) (omega arith) e)
 
-module _ {c : Coder} {powers : List ℕ} (C : Coding c powers) (two : c .kernel ≡ TwoBit) where
+module _ {c : Coder} {powers : List ℕ} (C : ReadyCoder c powers) (two : c .kernel ≡ TwoBit) where
   taken : (c .s ≡ 4) × (c .mirror ≡ Complement)
   taken = subst (λ (x : Kernel). Takes x (c .s) (c .mirror)) two (C .takes)
 

@@ -4,6 +4,7 @@ pub mod Parts
 pub mod Filling
 pub mod OneLetter
 pub mod WindowEnds
+pub mod FirstWindows
 pub mod AnyAlphabet
 pub mod TwoBit
 pub mod TwoBitRolls

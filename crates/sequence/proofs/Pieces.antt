@@ -1,10 +1,10 @@
 -- A sequence in batches: the ranks of a batch in the first places of an array, its numbers, and how the numbers of the batches follow each other.
--- From the law for batches (Windows).
-use mathlib.Core.Path.{_≡_, refl, sym, ap, _∙_}
-use mathlib.Core.List.{List, [], _∷_, _++_, map, append-nil}
+-- From the windows of the first letters and of the later ones (`windows-take`, `windows-drop`).
+use mathlib.Core.Path.{_≡_, sym, ap, _∙_}
+use mathlib.Core.List.{List, [], _++_, map, append-nil}
 use mathlib.Core.Bool.{Bool, true}
 use mathlib.Core.Option.{Option}
-use Prim.Native.Nat.{ℕ, zero, suc, _+_, _-_, _<_, _≤_, min}
+use Prim.Native.Nat.{ℕ, _+_, _-_, _<_, _≤_, min}
 use native.Mathlib.Omega.{arith}
 use lib.ListN.{length, take, drop, length-append, length-drop, drop-of-length-le}
 use lib.Seq.{take-at, take-all}
@@ -16,7 +16,7 @@ use Rattle.sequence.specs.Needs.{part, Fills, ranksBy, allRanked, codeBy
 use Rattle.sequence.proofs.Windows.{windows-take, windows-drop, length-codes}
 use Rattle.sequence.proofs.Parts.{length-part}
 use Rattle.sequence.proofs.RankTables.{length-ranks-by}
-use Rattle.sequence.proofs.Blanks.{blanked-codes, blanked-nothing}
+use Rattle.sequence.proofs.Blanks.{map-take, map-drop, blanked-codes, blanked-nothing}
 
 -- ---- the ranks of a batch, R, written over the first places of an array
 
@@ -44,16 +44,6 @@ module _ (table : List ℕ) (s : ℕ) (m : Mirror) (k : ℕ) (bytes : List ℕ) 
   batch-letters all e h = batch-numbers (blanked-nothing table k bytes mid (sym e ∙ h))
 
 -- ---- batch after batch
-
-map-take : (f : List ℕ → ℕ) (n : ℕ) (l : List (List ℕ)) → take n (map f l) ≡ map f (take n l)
-map-take f zero l = refl
-map-take f (suc n) [] = refl
-map-take f (suc n) (x ∷ l) = ap (λ (r : List ℕ). f x ∷ r) (map-take f n l)
-
-map-drop : (f : List ℕ → ℕ) (n : ℕ) (l : List (List ℕ)) → drop n (map f l) ≡ map f (drop n l)
-map-drop f zero l = refl
-map-drop f (suc n) [] = refl
-map-drop f (suc n) (x ∷ l) = map-drop f n l
 
 -- A batch of at most 4,096 letters, of the n there are, that has at least one window.
 pub record Batch (k n at end : ℕ) : Type 0 where

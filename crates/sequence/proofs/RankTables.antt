@@ -5,7 +5,7 @@ use mathlib.Core.Option.{none, some, Option}
 use mathlib.Core.List.{List, map, [], _∷_}
 use Prim.Native.Nat.{ℕ, zero, _<_, suc}
 use native.Mathlib.Omega.{arith}
-use lib.Dec.{T, leb}
+use lib.Dec.{leb}
 use lib.ListN.{length, length-map, getD, take, length-take}
 use lib.Seq.{getD-take}
 use Rattle.encoding.specs.Calls.{rankOrZero, ranksOf}

@@ -1,5 +1,5 @@
 -- The grounds of the calls along a sequence one after the other, as the calls meet them, and what the kernels ask under good settings.
-use mathlib.Core.Path.{_≡_, refl, sym, ap, _∙_, subst, subst⁻¹}
+use mathlib.Core.Path.{_≡_, sym, ap, _∙_, subst, subst⁻¹}
 use mathlib.Core.List.{List, map}
 use mathlib.Core.Option.{none}
 use Prim.Native.Nat.{ℕ, _+_, _-_, _*_, _^_, _<_, _≤_}
@@ -9,11 +9,10 @@ use lib.ListN.{length}
 use Rattle.settings.specs.declared.Refusal.{Refusal}
 use Rattle.settings.specs.declared.Refusal.the-variants.{TooLarge, ShortBuffer}
 use Rattle.settings.specs.declared.Settings.{Settings}
-use Rattle.settings.specs.Grounds.{refused, groundOf, outcome}
+use Rattle.settings.specs.Grounds.{refused, groundOf, groundAt, tooShort, outcome}
 use Rattle.settings.specs.Settings.{mirrorOf, classes, settingsGround, settingsOf}
-use Rattle.settings.proofs.Outcomes.{refused-on, refused-leaves}
+use Rattle.settings.proofs.Outcomes.{kept-by, set-by, kept-on}
 use Rattle.settings.proofs.SettingsGrounds.{good-settings, limits}
-use Rattle.encoding.specs.Needs.{palindromes}
 use Rattle.encoding.proofs.ClassNumbers.{twice-classes, palindromes-le}
 use Rattle.settings.specs.declared.Filling.the-variants.{Filled, Unfilled}
 use Rattle.sequence.specs.declared.kernels.Kernel.{Kernel}
@@ -22,7 +21,7 @@ use Rattle.sequence.specs.Windows.{windows}
 use Rattle.sequence.specs.Sequences.{sequenceGround, FillsCodes}
 use Rattle.settings.specs.RankTables.{rankByTable, RankTable, RanksBelow}
 use Rattle.settings.proofs.RankTables.{table-below}
-use Rattle.sequence.specs.Needs.{Fills, Powers, Takes, Coding, codeBy}
+use Rattle.sequence.specs.Needs.{Fills, Powers, Takes, coderOf, ReadyCoder, codeBy}
 use Rattle.laws.proofs.Windows.{length-windows}
 use Rattle.sequence.proofs.RankTables.{Bytes, codes-by-table}
 
@@ -31,11 +30,7 @@ module _ (letters : List ℕ) (k m : ℕ) (sequence old : List ℕ) where
   pub settings-refused : (f : Refusal) → refused (groundOf f) ≡ outcome (settingsGround letters k m) (settingsOf letters k m)
       → FillsCodes letters k m sequence old (Unfilled f) old
   unfolding sequenceGround
-  settings-refused f e =
-      record {
-        answers = refused-on (groundOf f) (settingsOf letters k m) (length (windows k sequence)) (settingsGround letters k m) _ e;
-        leaves = refused-leaves (groundOf f) (settingsOf letters k m) (settingsGround letters k m) _ _ old e;
-      }
+  settings-refused f e = kept-on (groundOf f) (settingsOf letters k m) (settingsGround letters k m) _ _ _ old e
 
   module _ (good : settingsGround letters k m ≡ none) where
     some-k : 1 ≤ k
@@ -43,39 +38,29 @@ module _ (letters : List ℕ) (k m : ℕ) (sequence old : List ℕ) where
 
     pub too-large : 16777216 < length sequence → FillsCodes letters k m sequence old (Unfilled TooLarge) old
     unfolding sequenceGround
-    too-large h = record { answers = rw (good, lt-ltb 16777216 (length sequence) h); leaves = rw (good, lt-ltb 16777216 (length sequence) h) }
+    too-large h = kept-by _ _ _ old _ (rw (good, lt-ltb 16777216 (length sequence) h))
 
     module _ (within : length sequence ≤ 16777216) (needed : ℕ) (is : needed ≡ length sequence + 1 - k) where
       needed-is : length (windows k sequence) ≡ needed
       needed-is = length-windows k some-k sequence ∙ sym is
 
-      pub too-short : length old < needed → FillsCodes letters k m sequence old (Unfilled (ShortBuffer needed)) old
+      room-alone : sequenceGround letters k m sequence (length old) ≡ groundAt 7 (tooShort (length old) needed)
       unfolding sequenceGround
-      too-short h =
-          record {
-            answers = rw (good, le-ltb 16777216 (length sequence) within, needed-is, lt-ltb (length old) needed h);
-            leaves = rw (good, le-ltb 16777216 (length sequence) within, needed-is, lt-ltb (length old) needed h);
-          }
+      room-alone = rw (good, le-ltb 16777216 (length sequence) within, needed-is)
+
+      pub too-short : length old < needed → FillsCodes letters k m sequence old (Unfilled (ShortBuffer needed)) old
+      too-short h = kept-by _ _ _ old _ (room-alone ∙ rw (lt-ltb (length old) needed h))
 
       pub all-filled : {table new : List ℕ} → needed ≤ length old → RankTable letters table → Bytes sequence
           → Fills (map (codeBy (rankByTable table) (length letters) (mirrorOf m) k) (windows k sequence)) old new
           → FillsCodes letters k m sequence old (Filled needed) new
-      unfolding sequenceGround
       all-filled h T B F =
-          record {
-            answers = rw (good, le-ltb 16777216 (length sequence) within, needed-is, le-ltb (length old) needed h);
-            leaves =
-                F .is
-                ∙ rw (codes-by-table T k m sequence B, good, le-ltb 16777216 (length sequence) within, needed-is, le-ltb (length old) needed h);
-          }
+          rw (← needed-is) (set-by _ _ _ old _ (room-alone ∙ rw (le-ltb (length old) needed h)) (F .is ∙ rw (codes-by-table T k m sequence B)))
 
 -- ---- what the kernels ask holds under good settings
 
 module _ (letters : List ℕ) (k m : ℕ) (good : settingsGround letters k m ≡ none) (kernel : Kernel) (takes : Takes kernel (length letters) (mirrorOf m)) where
-  abbrev coderOf : Settings → Coder
-  coderOf st = record { kernel = kernel; s = st .s; k = k; mirror = st .mirror; palindromes = 2 * st .classes - st .words }
-
-  ready : {powers : List ℕ} → Powers (length letters) k powers → Coding (coderOf (settingsOf letters k m)) powers
+  ready : {powers : List ℕ} → Powers (length letters) k powers → ReadyCoder (coderOf kernel k (settingsOf letters k m)) powers
   ready P =
       let L = limits letters k m good in
       record {
@@ -87,14 +72,24 @@ module _ (letters : List ℕ) (k m : ℕ) (good : settingsGround letters k m ≡
       }
 
   module _ (st : Settings) (is : st ≡ settingsOf letters k m) where
-    pub s-is : st .s ≡ length letters
+    s-is : st .s ≡ length letters
     s-is = ap (λ (x : Settings). x .s) is
 
-    pub mirror-is : st .mirror ≡ mirrorOf m
-    mirror-is = ap (λ (x : Settings). x .mirror) is
+    -- The coder that `kernels::coder_of` makes.
+    pub coder-is : {c : Coder} → c ≡ coderOf kernel (st .k) st → c ≡ coderOf kernel k st
+    coder-is e = e ∙ ap (λ (x : Settings). coderOf kernel (x .k) st) is
 
-    pub coder-ready : {powers : List ℕ} → Powers (st .s) k powers → Coding (coderOf st) powers
-    coder-ready {powers} P = subst⁻¹ (λ (x : Settings). Coding (coderOf x) powers) is (ready (subst (λ (x : Settings). Powers (x .s) k powers) is P))
+    pub coder-codes : {c : Coder} {old new : List ℕ} (table sequence : List ℕ) → c ≡ coderOf kernel (st .k) st
+        → Fills (map (codeBy (rankByTable table) (c .s) (c .mirror) (c .k)) (windows (c .k) sequence)) old new
+        → Fills (map (codeBy (rankByTable table) (length letters) (mirrorOf m) k) (windows k sequence)) old new
+    coder-codes {c} {old} {new} table sequence e F =
+        subst (λ (x : Coder). Fills (map (codeBy (rankByTable table) (x .s) (x .mirror) (x .k)) (windows (x .k) sequence)) old new)
+        (e ∙ ap (λ (x : Settings). coderOf kernel (x .k) x) is)
+        F
+
+    pub coder-ready : {powers : List ℕ} → Powers (st .s) k powers → ReadyCoder (coderOf kernel k st) powers
+    coder-ready {powers} P =
+        subst⁻¹ (λ (x : Settings). ReadyCoder (coderOf kernel k x) powers) is (ready (subst (λ (x : Settings). Powers (x .s) k powers) is P))
 
     pub ranks-ready : {table : List ℕ} → RankTable letters table → RanksBelow (st .s) table
     ranks-ready {table} T = subst⁻¹ (λ (s : ℕ). RanksBelow s table) s-is (table-below T)

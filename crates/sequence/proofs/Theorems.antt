@@ -2,21 +2,21 @@
 -- of `codes` and `codes_two_bit` are one definition, `FillsCodes`.
 use mathlib.Core.Path.{_≡_, refl, sym, ap, _∙_}
 use mathlib.Core.Bool.{Bool, true, false, cond}
-use mathlib.Core.List.{List, [], _∷_, _++_, map}
+use mathlib.Core.List.{List, _++_, map, map-append}
 use mathlib.Core.Logic.{_↔_}
 use mathlib.Core.Option.{none}
 use Prim.Native.Nat.{ℕ, suc, _+_, _-_, _<_, _≤_}
 use native.Mathlib.Omega.{arith}
-use lib.ListN.{length, getD, take, drop, length-map}
+use lib.ListN.{length, getD, take, drop}
 use Rattle.laws.specs.Text.{bytes}
-use Rattle.settings.specs.Settings.{mirrorOf, rankIn, settingsGround}
+use Rattle.settings.specs.Settings.{mirrorOf, settingsGround}
 use Rattle.settings.proofs.SettingsGrounds.{limits}
 use Rattle.encoding.specs.Words.{Mirror}
 use Rattle.encoding.specs.Codes.{code}
-use Rattle.encoding.specs.Calls.{rankOrZero, ranksOf}
+use Rattle.encoding.specs.Calls.{ranksOf}
 use Rattle.encoding.proofs.ClassNumbers.{classes-le}
 use Rattle.encoding.proofs.Codes.{code-below}
-use Rattle.encoding.proofs.LetterLoops.{ranks-below}
+use Rattle.encoding.proofs.LetterLoops.{ranks-below, length-ranksOf}
 use Rattle.settings.specs.declared.Filling.{Filling}
 use Rattle.settings.specs.Grounds.{ofFilling}
 use Rattle.sequence.specs.Windows.{windows, windowCodes}
@@ -39,13 +39,13 @@ module _ (letters : List ℕ) (k m : ℕ) (sequence : List ℕ) (some-k : 1 ≤ 
 -- Under good settings 2^64 - 1 is no code: it stands exactly for the words of k bytes of which one is no letter of the settings.
 pub no-code : (letters : List ℕ) (k m : ℕ) → settingsGround letters k m ≡ none → (word : List ℕ) → length word ≡ k
     → (codeOrNone letters k m word ≡ noCode) ↔ (allLetters letters word ≡ false)
-unfolding codeOrNone ranksOf
+unfolding codeOrNone
 no-code letters k m good word l = go (allLetters letters word)
   where
     below : code (length letters) (mirrorOf m) k (ranksOf letters word) < noCode
     below =
         let L = limits letters k m good in
-        let n : length (ranksOf letters word) ≡ k = length-map word (λ (b : ℕ). rankOrZero (rankIn letters b)) ∙ l in
+        let n : length (ranksOf letters word) ≡ k = length-ranksOf letters word ∙ l in
         omega (
           arith,
           code-below (length letters) (mirrorOf m) (L .two) (L .even) k (ranksOf letters word) n (ranks-below letters word (omega (arith, L .two))),
@@ -58,10 +58,6 @@ no-code letters k m good word l = go (allLetters letters word)
     go false = (λ e. refl, λ e. refl)
 
 -- ---- pieces
-
-map-append : (f : List ℕ → ℕ) (u v : List (List ℕ)) → map f (u ++ v) ≡ map f u ++ map f v
-map-append f [] v = refl
-map-append f (x ∷ u) v = ap (λ (l : List ℕ). f x ∷ l) (map-append f u v)
 
 -- A run cut into pieces that overlap by k - 1 letters has the same windows, and so the same codes, one piece after the other.
 pub pieces : (k : ℕ) → 1 ≤ k → (a : ℕ) (run : List ℕ) → a + k ≤ suc (length run)

@@ -7,6 +7,7 @@ use Prim.Native.Nat.{ℕ, zero, suc, _+_, _-_, _*_, _/_, _%_, _^_, _<_, _≤_, m
 use native.Mathlib.Nat.{div-add-mod', mod-eq-of-lt, mod-lt, one-le-pow, pow-zero, pow-suc, pow-succ', pow-le-pow-right, lt-of-lt-of-le, div-div-eq-div-mul, div-eq-of-lt, le-div-iff-mul-le}
 use native.Mathlib.Decide.{decLe}
 use native.Mathlib.Omega.{arith}
+use lib.Arith.{lt-of-le-ne}
 use lib.Bits.{bitAnd, bitXor, and-le-l, and-le-r, xor-add-and, xor-shr, xor-self, and-mask, and-high}
 use lib.Count.{leadingZeros, leading-length}
 use lib.Pow.{pow-add}
@@ -26,7 +27,7 @@ use Rattle.encoding.proofs.EqualPairs.{Agree, agree-at}
 use Rattle.encoding.proofs.Codes.{canonical-low, code-mirror}
 use Rattle.sequence.specs.Needs.{part, Differ, Ordered, TwoBitWindow}
 use Rattle.sequence.proofs.Parts.{ranks-part, length-part, part-lt, back-lt}
-use Rattle.sequence.proofs.WindowEnds.{code-lt}
+use Rattle.sequence.proofs.WindowEnds.{pair-total, code-lt}
 
 -- ---- powers of 4
 
@@ -51,12 +52,6 @@ four-shifted i h =
 pub four-div : (a i : ℕ) → a / 2 ^ (2 * i) ≡ a / 4 ^ i
 four-div a i = rw (four-pow i)
 
-pub four-pos : (i : ℕ) → 1 ≤ 4 ^ i
-four-pos i = one-le-pow i 4 (omega arith)
-
-pub four-le : (lo hi : ℕ) → lo ≤ hi → 4 ^ lo ≤ 4 ^ hi
-four-le lo hi h = pow-le-pow-right (omega arith) h
-
 pub low-is : (a i q : ℕ) → q ≡ 4 ^ i → bitAnd a (q - 1) ≡ a % 4 ^ i
 low-is a i q e = rw (e, four-pow i) (and-mask a (2 * i))
 
@@ -66,7 +61,9 @@ between-is a lo hi p q h ep eq =
     rw (ep, eq, four-pow lo, four-pow hi, four-pow (hi - lo), e) (and-high a (2 * (hi - lo)) (2 * lo))
 
 pub rest-lt : (a i one rest : ℕ) → one ≡ 4 ^ i → rest ≡ a % 4 ^ i → (1 ≤ one) × (rest ≤ one - 1)
-rest-lt a i one rest eo er = rw (eo, er) (four-pos i, omega (arith, mod-lt a (four-pos i)))
+rest-lt a i one rest eo er =
+    let pos : 1 ≤ 4 ^ i = one-le-pow i 4 (omega arith) in
+    rw (eo, er) (pos, omega (arith, mod-lt a pos))
 
 -- ---- the letters in which two numbers differ
 
@@ -146,20 +143,14 @@ palindromes-up s m n (suc p) =
     let e : n + 2 * suc p ≡ suc (suc (n + 2 * p)) = omega arith in
     rw e (palindromes-suc s m (n + 2 * p) ∙ omega (arith, ap (λ (x : ℕ). s * x) (palindromes-up s m n p), ap (λ (x : ℕ). x * palindromes s m n) (pow-suc s p)))
 
-total : (s A B C X R x top E : ℕ) → 2 * C ≡ B + X → top ≡ A * B * s → E ≡ A * s * X → A * (s * C + R * B + x) ≡ (top + E) / 2 + R * (A * B) + A * x
-total s A B C X R x top E e f g =
-    let h : 2 * (A * s * C) ≡ top + E = omega (arith, ap (λ (y : ℕ). A * s * y) e) in
-    let k : (top + E) / 2 ≡ A * s * C = omega arith in
-    rw k (omega arith)
-
 -- p equal pairs, a pair that differs, and n letters within.
-pair-value : (n p k e a b : ℕ) → k ≡ n + 2 * suc p → e ≡ palindromes 4 Complement k
+differing-value : (n p k e a b : ℕ) → k ≡ n + 2 * suc p → e ≡ palindromes 4 Complement k
     → byRanks 4 Complement k p a b
     ≡ (4 ^ suc (p + n) + e) / 2 + pairRank 4 (a / 4 ^ suc (p + n) % 4) (b / 4 ^ suc (p + n) % 4) * 4 ^ (p + n)
     + a / 4 / 4 ^ p % 4 ^ n * 4 ^ p
     + (4 ^ p - 1 - a % 4 ^ p)
 unfolding byRanks within closing window
-pair-value n p k e a b ek ee =
+differing-value n p k e a b ek ee =
     let i₁ : k - 2 * p ≡ suc (suc n) = omega arith in
     let i₂ : k - p - 1 ≡ suc (p + n) = omega arith in
     let i₃ : p + 1 ≡ suc p = omega arith in
@@ -173,7 +164,7 @@ pair-value n p k e a b ek ee =
     let low : a / 4 ^ suc p ≡ a / 4 / 4 ^ p = rw (pow-succ' 4 p) (sym (div-div-eq-div-mul a 4 (4 ^ p))) in
     rw (i₁, i₂, i₃, one)
     (ap (λ (x : ℕ). x + (4 ^ p - 1 - a % 4 ^ p))
-    (total 4 (4 ^ p) (4 ^ n) (classes 4 Complement n) (palindromes 4 Complement n)
+    (pair-total 4 (4 ^ p) (4 ^ n) (classes 4 Complement n) (palindromes 4 Complement n)
     (pairRank 4 (a / 4 ^ suc (p + n) % 4) (b / 4 ^ suc (p + n) % 4)) (a / 4 ^ suc p % 4 ^ n) (4 ^ suc (p + n)) e
     (twice-classes 4 Complement n four-even) top E
     ∙ rw (pow-add 4 p n, low) (omega arith)))
@@ -236,12 +227,9 @@ module _ {k e : ℕ} {d : List ℕ} {j x y : ℕ} (W : TwoBitWindow k e d j x y)
           let power : 4 ^ (q - 1) * 4 ≡ 4 ^ q = sym (pow-suc 4 (q - 1)) ∙ ap (λ (z : ℕ). 4 ^ z) (sym s) in
           let f : (n : ℕ) → n / 4 ^ (q - 1) / 4 ≡ n / 4 ^ q
           = λ n. div-div-eq-div-mul n (4 ^ (q - 1)) 4 ∙ ap (λ (z : ℕ). n / z) power in
-          let le : a / 4 ^ (q - 1) ≤ b / 4 ^ (q - 1) = div-mono a b (4 ^ (q - 1)) (four-pos (q - 1)) (omega (arith, O .lower, O .higher)) in
+          let le : a / 4 ^ (q - 1) ≤ b / 4 ^ (q - 1) = div-mono a b (4 ^ (q - 1)) (one-le-pow (q - 1) 4 (omega arith)) (omega (arith, O .lower, O .higher)) in
           let ne : a / 4 ^ (q - 1) ≢ b / 4 ^ (q - 1) = O .differ .other (omega arith) in
-          digit-lt (a / 4 ^ (q - 1)) (b / 4 ^ (q - 1)) (f a ∙ O .differ .same ∙ sym (f b)) (strict (a / 4 ^ (q - 1)) (b / 4 ^ (q - 1)) le ne)
-        where
-          strict : (m n : ℕ) → m ≤ n → m ≢ n → m < n
-          strict m n h g = omega arith
+          digit-lt (a / 4 ^ (q - 1)) (b / 4 ^ (q - 1)) (f a ∙ O .differ .same ∙ sym (f b)) (lt-of-le-ne le ne)
 
       pair-agree : Agree 4 k a b (k - q)
       pair-agree =
@@ -261,7 +249,7 @@ module _ {k e : ℕ} {d : List ℕ} {j x y : ℕ} (W : TwoBitWindow k e d j x y)
           let i₃ : k ≡ q - 2 - (k - q) + 2 * suc (k - q) = omega (arith, pair-in) in
           rw (eh, eL, eR, et, el, ei, eo, er)
           (sym (sym (by-code (k - q) pair-agree)
-          ∙ pair-value (q - 2 - (k - q)) (k - q) k e a b i₃ (W .input .count)
+          ∙ differing-value (q - 2 - (k - q)) (k - q) k e a b i₃ (W .input .count)
           ∙ rw (← i₁, ← i₂)))
 
     module _ (short : 2 * q < k + 2) where

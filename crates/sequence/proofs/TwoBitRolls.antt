@@ -1,4 +1,4 @@
--- Two-bit numbers from one window to the next: the first window letter by letter, then one letter more by a shift and a mask.
+-- Two-bit numbers from one window to the next: the first window (FirstWindows) in the terms of this kernel, then one letter more by a shift and a mask.
 use mathlib.Core.Path.{_≡_, refl, sym, _∙_}
 use mathlib.Core.List.{List}
 use Prim.Native.Nat.{ℕ, suc, _+_, _-_, _*_, _/_, _%_, _^_, _<_, _≤_}
@@ -8,49 +8,22 @@ use native.Mathlib.Omega.{arith}
 use lib.ListN.{length, getD}
 use Rattle.encoding.specs.Words.{Complement, mirrorRank, mirror, plain}
 use Rattle.sequence.specs.Needs.{part, TwoBitInput, TwoBitWindow}
-use Rattle.sequence.proofs.Parts.{ranks-at, part-lt, back-lt, plain-more, back-more, plain-next, back-next}
+use Rattle.sequence.proofs.Parts.{ranks-at, part-lt, back-lt, plain-next, back-next}
+use Rattle.sequence.proofs.FirstWindows.{Opened}
 use Rattle.sequence.proofs.TwoBit.{four-fits}
 
--- ---- the first window: i of its k letters are taken in
+-- ---- the first window: its letters, from place 0, are taken in
 
-pub record Opened (k : ℕ) (d : List ℕ) (x y i : ℕ) : Type 0 where
-  pub upto : i ≤ k
-  pub ahead : x ≡ plain 4 (part 0 i d)
-  pub behind : y ≡ plain 4 (mirror 4 Complement (part 0 i d))
-
-pub open-none : (k : ℕ) (d : List ℕ) → Opened k d 0 0 0
-unfolding plain mirror
-open-none k d = record { upto = omega arith; ahead = refl; behind = refl }
-
-module _ {k e : ℕ} {d : List ℕ} (I : TwoBitInput k e d) (long : k ≤ length d) {x y i : ℕ} (O : Opened k d x y i) where
-  pub open-all : k ≤ i → TwoBitWindow k e d 0 x y
-  open-all h =
+module _ {k e : ℕ} {d : List ℕ} (I : TwoBitInput k e d) {x y i : ℕ} (O : Opened 4 Complement d 0 k x y i) where
+  pub open-all : k ≤ length d → k ≤ i → TwoBitWindow k e d 0 x y
+  open-all long h =
       let i-is : i ≡ k = omega (arith, O .upto) in
       record { input = I; inside = omega arith; ahead = rw i-is at (O .ahead); behind = rw i-is at (O .behind) }
 
-  module _ (more : i < k) {c : ℕ} (ec : c ≡ getD d i 0) where
-    c-at : c ≡ getD d (0 + i) 0
-    c-at = ec ∙ (let z : 0 + i ≡ i = omega arith in rw z)
-
-    pub open-lt : c < 4
-    open-lt = rw ec (ranks-at 4 d i (I .ranks) (omega arith))
-
-    ahead-more : x * 4 + c ≡ plain 4 (part 0 (suc i) d)
-    ahead-more = rw (O .ahead, c-at) (sym (plain-more 4 0 i d (omega arith)))
-
-    pub open-ahead : x * 4 + c < 2 ^ 62
-    open-ahead = rw ahead-more (lt-of-lt-of-le (part-lt 4 0 (suc i) d (I .ranks) (omega arith)) (four-fits (suc i) (omega (arith, I .small))))
-
-    module _ {q : ℕ} (eq : q ≡ 4 ^ i) where
-      behind-more : y + (3 - c) * q ≡ plain 4 (mirror 4 Complement (part 0 (suc i) d))
-      unfolding mirrorRank
-      behind-more = rw (O .behind, c-at, eq) (omega (arith, back-more 4 Complement 0 i d (omega arith)))
-
-      pub open-behind : y + (3 - c) * q < 2 ^ 62
-      open-behind = rw behind-more (lt-of-lt-of-le (back-lt 4 Complement 0 (suc i) d (I .ranks) (omega arith)) (four-fits (suc i) (omega (arith, I .small))))
-
-      pub open-more : Opened k d (x * 4 + c) (y + (3 - c) * q) (i + 1)
-      open-more = record { upto = omega arith; ahead = ahead-more ∙ rw add-one; behind = behind-more ∙ rw add-one }
+-- What the mirror shows of a rank, as this kernel works it out.
+pub three-less : (c : ℕ) → 3 - c ≡ mirrorRank 4 Complement c
+unfolding mirrorRank
+three-less c = refl
 
 -- ---- the next window
 

@@ -9,7 +9,7 @@ use native.Mathlib.Nat.{pow-suc}
 use native.Mathlib.Decide.{decLe}
 use native.Mathlib.Omega.{arith}
 use lib.ListN.{length, getD}
-use lib.Arith.{digits-div}
+use lib.Arith.{digits-div, lt-of-le-ne}
 use Rattle.settings.specs.Settings.{classes}
 use Rattle.settings.specs.Limits.{EvenUnder}
 use Rattle.encoding.specs.Words.{Mirror, Ranks, mirrorRank, mirror, plain}
@@ -23,11 +23,12 @@ use Rattle.encoding.proofs.CodesByEnds.{code-less, code-more, code-same}
 use Rattle.sequence.specs.Needs.{part}
 use Rattle.sequence.proofs.Parts.{ranks-at, ranks-part, length-part, part-ends}
 
--- The value of a pair that differs: s times the classes within are half of s^(n+1) and the palindromes together.
-pair-value : (s B C X R x top E : ℕ) → 2 * C ≡ B + X → top ≡ B * s → E ≡ s * X → s * C + R * B + x ≡ (top + E) / 2 + R * B + x
-pair-value s B C X R x top E e f g =
-    let h : 2 * (s * C) ≡ top + E = omega (arith, ap (λ (y : ℕ). s * y) e) in
-    let k : (top + E) / 2 ≡ s * C = omega arith in
+-- The value of a pair that differs, within equal pairs that have A values: s times the classes within are half of the words and the palindromes together.
+pub pair-total : (s A B C X R x top E : ℕ) → 2 * C ≡ B + X → top ≡ A * B * s → E ≡ A * s * X
+    → A * (s * C + R * B + x) ≡ (top + E) / 2 + R * (A * B) + A * x
+pair-total s A B C X R x top E e f g =
+    let h : 2 * (A * s * C) ≡ top + E = omega (arith, ap (λ (y : ℕ). A * s * y) e) in
+    let k : (top + E) / 2 ≡ A * s * C = omega arith in
     rw k (omega arith)
 
 -- The first digit taken off, then the last.
@@ -65,7 +66,11 @@ module _ (s : ℕ) (m : Mirror) (hs : 1 < s) (he : EvenUnder s m) (d : List ℕ)
     differ e R x g h =
         ap (code s m (suc (suc n))) outer
         ∙ h
-        ∙ pair-value s (s ^ n) (classes s m n) (palindromes s m n) R x (s ^ suc n) e (twice-classes s m n he) (pow-suc s n) (g ∙ palindromes-suc s m n)
+        ∙ omega (
+          arith,
+          pair-total s 1 (s ^ n) (classes s m n) (palindromes s m n) R x (s ^ suc n) e (twice-classes s m n he)
+              (omega (arith, pow-suc s n)) (omega (arith, g, palindromes-suc s m n)),
+        )
 
     less : (e : ℕ) → e ≡ palindromes s m (suc (suc n)) → first < mirrorRank s m last
         → code s m (suc (suc n)) (part j (suc (suc n)) d) ≡ (s ^ suc n + e) / 2 + pairRank s first (mirrorRank s m last) * s ^ n + plain s inner
@@ -110,14 +115,11 @@ module _ (s : ℕ) (m : Mirror) (hs : 1 < s) (he : EvenUnder s m) (d : List ℕ)
             let b : max (getD d j 0) (mirrorRank s m (getD d i 0)) ≡ mirrorRank s m (getD d i 0) = omega arith in
             sym (less s m hs he d hd j n inside e ee (rw i-is at p) ∙ rw (wu p, eu, k2, eR, a, b, i-is))
         | no np ↦
-            let q : mirrorRank s m (getD d i 0) < getD d j 0 = below (getD d j 0) (mirrorRank s m (getD d i 0)) ne (omega arith) in
+            let q : mirrorRank s m (getD d i 0) < getD d j 0 = lt-of-le-ne (omega arith) (λ same. ne (sym same)) in
             let a : min (getD d j 0) (mirrorRank s m (getD d i 0)) ≡ mirrorRank s m (getD d i 0) = omega arith in
             let b : max (getD d j 0) (mirrorRank s m (getD d i 0)) ≡ getD d j 0 = omega arith in
             sym (more s m hs he d hd j n inside e ee (rw i-is at q) ∙ rw (wv (omega arith), ev, k2, eR, a, b, i-is))
       ])
-    where
-      below : (x y : ℕ) → x ≢ y → y ≤ x → y < x
-      below x y f g = omega arith
 
   pub same-is : (k i : ℕ) → 2 ≤ k → j + k ≤ length d → i ≡ j + k - 1 → getD d j 0 ≡ mirrorRank s m (getD d i 0)
       → code s m k (part j k d) ≡ s * code s m (k - 2) (part (suc j) (k - 2) d) + getD d j 0

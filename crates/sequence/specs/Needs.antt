@@ -5,8 +5,9 @@ use mathlib.Core.Bool.{Bool, true, false, cond, _&&_}
 use mathlib.Core.List.{List, [], _∷_, _++_, map}
 use mathlib.Core.Option.{Option}
 use mathlib.Core.Logic.{_≢_}
-use Prim.Native.Nat.{ℕ, suc, _+_, _-_, _/_, _^_, _<_, _≤_, min, max}
+use Prim.Native.Nat.{ℕ, suc, _+_, _-_, _*_, _/_, _^_, _<_, _≤_, min, max}
 use lib.ListN.{length, getD, drop}
+use Rattle.settings.specs.declared.Settings.{Settings}
 use Rattle.settings.specs.Limits.{Limits}
 use Rattle.settings.specs.RankTables.{rankByTable}
 use Rattle.encoding.specs.Words.{Mirror, Complement, Ranks, mirrorRank, mirror, plain}
@@ -91,8 +92,12 @@ abbrev pub Takes : Kernel → ℕ → Mirror → Type 0
 Takes AnyAlphabet s m = Unit
 Takes TwoBit s m = (s ≡ 4) × (m ≡ Complement)
 
+-- The coder of settings: their numbers, k, and of the words and classes the number of palindromes.
+abbrev pub coderOf : Kernel → ℕ → Settings → Coder
+coderOf kernel k st = record { kernel = kernel; s = st .s; k = k; mirror = st .mirror; palindromes = 2 * st .classes - st .words }
+
 -- Good settings as a kernel takes them, with the powers of s.
-pub record Coding (c : Coder) (powers : List ℕ) : Type 0 where
+pub record ReadyCoder (c : Coder) (powers : List ℕ) : Type 0 where
   pub limits : Limits (c .s) (c .mirror) (c .k)
   pub some : 1 ≤ c .k
   pub count : c .palindromes ≡ palindromes (c .s) (c .mirror) (c .k)

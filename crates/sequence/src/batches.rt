@@ -10,7 +10,7 @@ ghost use Prim.Native.Nat.{_+_, _-_, _≤_, min};
 ghost use lib.ListN.{length};
 ghost use Rattle.sequence.specs.Windows.{windows};
 ghost use Rattle.settings.specs.RankTables.{rankByTable, RanksBelow};
-ghost use Rattle.sequence.specs.Needs.{Fills, Coding, codeBy};
+ghost use Rattle.sequence.specs.Needs.{Fills, ReadyCoder, codeBy};
 
 // Room for the ranks of a batch.
 fn no_ranks() -> [u8; 4096]
@@ -21,7 +21,7 @@ fn no_ranks() -> [u8; 4096]
 
 // The numbers of the windows of one batch. Most batches have only letters, and nothing to blank.
 fn fill_batch(bytes: &[u8], table: &[u8; 256], c: Coder, powers: &[u64; 64], out: &mut [u64])
-    requires { ⌜ Coding c (now powers) ⌝ }
+    requires { ⌜ ReadyCoder c (now powers) ⌝ }
     requires { ⌜ RanksBelow (c .s) (now table) ⌝ }
     requires { ⌜ length (now bytes) ≤ 4096 ⌝ }
     requires { ⌜ length (now bytes) + 1 - c .k ≤ length (now out) ⌝ }
@@ -55,7 +55,7 @@ pub fn fill_sequence(
     powers: &[u64; 64],
     list: &mut [u64],
 )
-    requires { ⌜ Coding c (now powers) ⌝ }
+    requires { ⌜ ReadyCoder c (now powers) ⌝ }
     requires { ⌜ RanksBelow (c .s) (now table) ⌝ }
     requires { ⌜ length (now sequence) + 1 - c .k ≤ length (now list) ⌝ }
     ensures { λ _.

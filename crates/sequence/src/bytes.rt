@@ -55,8 +55,7 @@ fn next_run(bytes: &[u8], table: &[u8; 256], i: usize, run: usize) -> usize
     requires { ⌜ i < length (now bytes) ⌝ }
     ensures { λ r. ⌜ Run (now (table .entry)) (now (bytes .entry)) (i + 1) r ⌝ }
 {
-    let b = bytes[i] as usize;
-    let r = table[b];
+    let r = table_at(table, bytes[i]);
     if r == 255 { 0 } else { run + 1 }
 }
 

@@ -1,15 +1,17 @@
 // From ranks to codes: the piece that codes along a sequence and adding a file share. It takes good settings as a `Coder` with the powers of s, made
-// once a call, and a list of ranks of any length; longer runs come in pieces that overlap by k - 1 letters.
+// once a call, and a list of ranks. Callers cut what is too long for their arrays into pieces that overlap by k - 1 letters.
 use super::general;
 use super::two_bit;
 use settings::Mirror;
+use settings::Settings;
 ghost use mathlib.Core.Path.{_≡_};
-ghost use Prim.Native.Nat.{_+_, _-_, _^_, _<_, _≤_};
+ghost use Prim.Native.Nat.{_+_, _-_, _*_, _^_, _<_, _≤_};
 ghost use lib.ListN.{length};
 ghost use Rattle.encoding.specs.Words.{Ranks};
 ghost use Rattle.sequence.specs.Windows.{windowCodes};
-ghost use Rattle.sequence.specs.Needs.{Fills, Powers, Coding};
+ghost use Rattle.sequence.specs.Needs.{Fills, Powers, coderOf, ReadyCoder};
 
+// How codes are worked out: by the kernel for every alphabet, or by two-bit numbers, which four letters under complement alone have.
 pub enum Kernel {
     AnyAlphabet,
     TwoBit,
@@ -41,7 +43,23 @@ fn fill_powers(table: &mut [u64], s: u64, k: usize)
     }
 }
 
-// The powers of s up to s^k. As s is at least 2, k is at most 62.
+// The coder of good settings: 2c - w of w words in c classes are palindromes. Of the settings it asks only that this number can be worked out.
+pub fn coder_of(st: Settings, kernel: Kernel) -> Coder
+    requires { ⌜ 2 * st .classes < 2 ^ 64 ⌝ }
+    requires { ⌜ st .words ≤ 2 * st .classes ⌝ }
+    ensures { λ r. ⌜ r ≡ coderOf kernel (st .k) st ⌝ }
+{
+    let mirror = st.mirror;
+    Coder {
+        kernel,
+        s: st.s,
+        k: st.k,
+        mirror,
+        palindromes: 2 * st.classes - st.words,
+    }
+}
+
+// The powers of s up to s^k. It asks for good settings' s and k: as s is at least 2, k is at most 62, and as s^k is at most 2^62, no product wraps.
 pub fn power_table(s: u64, k: usize) -> [u64; 64]
     requires { ⌜ 1 < s ⌝ }
     requires { ⌜ s ^ k ≤ 2 ^ 62 ⌝ }
@@ -52,9 +70,10 @@ pub fn power_table(s: u64, k: usize) -> [u64; 64]
     table
 }
 
-// The codes of all windows of a list of ranks, from the start of a lent list.
+// The codes of all windows of a list of ranks, from the start of a lent list. It asks for a coder of good settings whose kernel takes them, with its
+// powers (`ReadyCoder`), ranks below s, and a place for each window.
 pub fn fill_codes(ranks: &[u8], c: Coder, powers: &[u64; 64], out: &mut [u64])
-    requires { ⌜ Coding c (now powers) ⌝ }
+    requires { ⌜ ReadyCoder c (now powers) ⌝ }
     requires { ⌜ Ranks (c .s) (now ranks) ⌝ }
     requires { ⌜ length (now ranks) + 1 - c .k ≤ length (now out) ⌝ }
     ensures { λ _. ⌜ Fills (windowCodes (c .s) (c .mirror) (c .k) (now (ranks .entry))) (now (out .entry)) (now (out .exit)) ⌝ }

@@ -1,13 +1,12 @@
 // Codes along a sequence: the code of every window of plain sequence bytes, by a kernel for every alphabet or, for ACGT under complement, by two-bit
 // numbers. Both calls have one definition in their contracts.
 mod batches;
-pub mod bytes;
+mod bytes;
 mod general;
 pub mod kernels;
 mod pairs;
 mod two_bit;
 
-use kernels::Coder;
 use kernels::Kernel;
 use settings::Checked;
 use settings::Filling;
@@ -54,14 +53,7 @@ fn fill_checked(
     }
     let table = settings::rank_table(letters);
     let powers = kernels::power_table(st.s, k);
-    let m = st.mirror;
-    let c = Coder {
-        kernel,
-        s: st.s,
-        k,
-        mirror: m,
-        palindromes: 2 * st.classes - st.words,
-    };
+    let c = kernels::coder_of(st, kernel);
     batches::fill_sequence(sequence, &table, c, &powers, list);
     Filling::Filled(needed)
 }

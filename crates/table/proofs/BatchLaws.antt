@@ -20,7 +20,7 @@ use Rattle.settings.specs.RankTables.{rankByTable, RanksBelow}
 use Rattle.fasta.proofs.Scans.{items-end}
 use Rattle.sequence.specs.declared.kernels.Coder.{Coder}
 use Rattle.laws.specs.Windows.{windows}
-use Rattle.sequence.specs.Needs.{Fills, Coding}
+use Rattle.sequence.specs.Needs.{Fills, ReadyCoder}
 use Rattle.laws.proofs.Windows.{windows-none}
 use Rattle.sequence.proofs.Windows.{length-codes}
 use Rattle.table.specs.declared.batches.Gathered.{Gathered}
@@ -34,7 +34,7 @@ use Rattle.table.proofs.Cuts.{cut-all, cut-batch}
 
 -- ---- one batch
 
-module _ {c : Coder} {powers : List ℕ} (C : Coding c powers) (ranks : List ℕ) where
+module _ {c : Coder} {powers : List ℕ} (C : ReadyCoder c powers) (ranks : List ℕ) where
   pub codes-length : length (codesBy c (windows (c .k) ranks)) ≡ length ranks + 1 - c .k
   codes-length = length-codes (c .k) (C .some) (code (c .s) (c .mirror) (c .k)) ranks
 
@@ -90,7 +90,7 @@ pub record Counting (c : Coder) (table file counts₀ counts array : List ℕ) (
       ≡ bumps counts (codesBy c (cutFrom (rankByTable table) (c .k) (take n array) file mode at))
   pub room : Room (length (cutFrom (rankByTable table) (c .k) (take n array) file mode at)) counts
 
-module _ {c : Coder} {powers : List ℕ} (C : Coding c powers) where
+module _ {c : Coder} {powers : List ℕ} (C : ReadyCoder c powers) where
   pub short-words : c .k ≤ 62
   short-words = exponent-le (c .s) (c .k) (C .limits .two) (C .limits .small)
 

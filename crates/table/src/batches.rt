@@ -15,7 +15,7 @@ ghost use Rattle.encoding.specs.Words.{Ranks};
 ghost use Rattle.fasta.specs.File.{fileWindows};
 ghost use Rattle.settings.specs.RankTables.{asRank, rankByTable, RanksBelow};
 ghost use Rattle.sequence.specs.Windows.{windowCodes};
-ghost use Rattle.sequence.specs.Needs.{Coding};
+ghost use Rattle.sequence.specs.Needs.{ReadyCoder};
 ghost use Rattle.table.specs.Table.{bumps};
 ghost use Rattle.table.specs.Needs.{Room, markOfRank, markOf, codesBy, Gathers, Carries};
 
@@ -156,7 +156,7 @@ fn no_codes() -> [u64; 1024]
 
 // Counts the windows of some letters of a run.
 fn count_batch(counts: &mut [u32], ranks: &[u8], c: Coder, powers: &[u64; 64])
-    requires { ⌜ Coding c (now powers) ⌝ }
+    requires { ⌜ ReadyCoder c (now powers) ⌝ }
     requires { ⌜ Ranks (c .s) (now ranks) ⌝ }
     requires { ⌜ length (now ranks) ≤ 1024 ⌝ }
     requires { ⌜ length (now counts) ≡ classes (c .s) (c .mirror) (c .k) ⌝ }
@@ -179,7 +179,7 @@ fn no_ranks() -> [u8; 1024]
 
 // Counts every window of a file.
 pub fn count_file(counts: &mut [u32], file: &[u8], table: &[u8; 256], c: Coder, powers: &[u64; 64])
-    requires { ⌜ Coding c (now powers) ⌝ }
+    requires { ⌜ ReadyCoder c (now powers) ⌝ }
     requires { ⌜ RanksBelow (c .s) (now table) ⌝ }
     requires { ⌜ length (now counts) ≡ classes (c .s) (c .mirror) (c .k) ⌝ }
     requires { ⌜ Room (length (fileWindows (rankByTable (now table)) (c .k) (now file))) (now counts) ⌝ }

@@ -21,7 +21,7 @@ ghost use Rattle.settings.specs.Settings.{classes, settingsGround, settingsOf, 
 ghost use Rattle.fasta.specs.File.{fileWindows};
 ghost use Rattle.fasta.specs.Scan.{ofAnswer};
 ghost use Rattle.settings.specs.RankTables.{rankByTable, RankTable, RanksBelow};
-ghost use Rattle.sequence.specs.Needs.{Takes, Coding};
+ghost use Rattle.sequence.specs.Needs.{Takes, ReadyCoder};
 ghost use Rattle.table.specs.Table.{classCount, readyGround, Added, Clears};
 ghost use Rattle.table.specs.Calls.{Surveyed};
 ghost use Rattle.table.specs.Needs.{codesBy, CountedUnlessFull, AddedUnlessFull, CleanFile, ClearsPlaces};
@@ -81,7 +81,7 @@ fn count_unless_full(
     powers: &[u64; 64],
     n: Numbers,
 ) -> Answer
-    requires { ⌜ Coding c (now powers) ⌝ }
+    requires { ⌜ ReadyCoder c (now powers) ⌝ }
     requires { ⌜ RanksBelow (c .s) (now ranks) ⌝ }
     requires { ⌜ length (now counts) ≡ classes (c .s) (c .mirror) (c .k) ⌝ }
     requires { ⌜ n .windows ≡ length (fileWindows (rankByTable (now ranks)) (c .k) (now file)) ⌝ }

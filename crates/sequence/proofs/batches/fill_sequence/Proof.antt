@@ -20,23 +20,29 @@ Inv-loop sequence table c powers list₀ k at₀ list at = Written (map (codeBy 
 abbrev μ-loop : tie.MeasureT-loop
 μ-loop sequence table c powers list₀ k at₀ list at = length sequence + 1 - at
 
--- The batch of a turn.
+-- Where the function began, from the place at which the batch of a turn is known; that batch, and that it starts within the list.
+abbrev start : tie.After-batch-end Inv-loop μ-loop → tie.Start Inv-loop μ-loop
+start c = c .before .before .before .before .before
+
 batch : (c : tie.After-batch-end Inv-loop μ-loop)
-    → let start = c .before .before .before .before .before in Batch (start .args .c .k) (length (now (start .args .sequence)))
-    (c .before .before .loop .at) (c .batch-end .result)
+    → let a = start c .args in Batch (a .c .k) (length (now (a .sequence))) (c .before .before .loop .at) (c .batch-end .result)
 batch c =
-    let start = c .before .before .before .before .before in
-    let more : c .before .before .loop .at + start .args .c .k ≤ length (now (start .args .sequence)) = omega (arith, c .before .loop-test .taken) in
-    batch-of (exponent-le _ _ (start .pre .0 .limits .two) (start .pre .0 .limits .small)) more (c .batch-end .ensures)
+    let a = start c .args in
+    let l = start c .pre .0 .limits in
+    let more : c .before .before .loop .at + a .c .k ≤ length (now (a .sequence)) = omega (arith, c .before .loop-test .taken) in
+    batch-of (exponent-le _ _ (l .two) (l .small)) more (c .batch-end .ensures)
+
+from : (c : tie.After-batch-end Inv-loop μ-loop) → c .before .before .loop .at ≤ length (c .before .before .loop .list)
+from c = batch-from _ (start c .pre .0 .some) (now (start c .args .sequence)) (c .before .before .loop .inv .0) (batch c)
 
 loop-holds : tie.Need-loop-holds Inv-loop μ-loop
 loop-holds c = let p = c .before .before .pre in (batches-none _ (p .0 .some) (now (c .before .before .args .sequence)) _ (p .1 .1), omega arith)
 
 add-loop : tie.Need-add-loop Inv-loop μ-loop
 add-loop c =
-    let start = c .before .before .before in
-    let l = start .pre .0 .limits in
-    omega (arith, exponent-le _ _ (l .two) (l .small), c .loop .inv .1, start .good)
+    let begin = c .before .before .before in
+    let l = begin .pre .0 .limits in
+    omega (arith, exponent-le _ _ (l .two) (l .small), c .loop .inv .1, begin .good)
 
 batch-end-requires : tie.Need-batch-end-requires Inv-loop μ-loop
 batch-end-requires c κs = c .before .loop .inv .1
@@ -51,65 +57,51 @@ part-fill-batch-end : tie.Need-part-fill-batch-end Inv-loop μ-loop
 part-fill-batch-end c = batch c .inside
 
 mul-fill-batch : tie.Need-mul-fill-batch Inv-loop μ-loop
-mul-fill-batch c =
-    let start = c .before .before .before .before .before .before in
-    let at-loop = c .before .before .before in
-    let from = batch-from _ (start .pre .0 .some) (now (start .args .sequence)) (at-loop .loop .inv .0) (batch (c .before)) in
-    omega (arith, from, written-length (at-loop .loop .inv .0), start .good)
+mul-fill-batch c = omega (arith, from (c .before), written-length (c .before .before .before .loop .inv .0), start (c .before) .good)
 
 sub-fill-batch-2 : tie.Need-sub-fill-batch-2 Inv-loop μ-loop
-sub-fill-batch-2 c =
-    let start = c .before .before .before .before .before .before in
-    batch-from _ (start .pre .0 .some) (now (start .args .sequence)) (c .before .before .before .loop .inv .0) (batch (c .before))
+sub-fill-batch-2 c = from (c .before)
 
 part-fill-batch-start-2 : tie.Need-part-fill-batch-start-2 Inv-loop μ-loop
-part-fill-batch-start-2 c =
-    let start = c .before .before .before .before .before .before in
-    batch-from _ (start .pre .0 .some) (now (start .args .sequence)) (c .before .before .before .loop .inv .0) (batch (c .before))
+part-fill-batch-start-2 c = from (c .before)
 
 part-fill-batch-end-2 : tie.Need-part-fill-batch-end-2 Inv-loop μ-loop
 part-fill-batch-end-2 c = omega arith
 
 fill-batch-requires : tie.Need-fill-batch-requires Inv-loop μ-loop
 fill-batch-requires c κs =
-    let start = c .before .before .before .before .before .before .before in
-    let p = start .pre in
-    let room = batch-room _ (p .0 .some) (now (start .args .sequence)) (c .before .before .before .before .loop .inv .0) (batch (c .before .before)) in
+    let now-at = c .before .before in
+    let p = start now-at .pre in
+    let room = batch-room _ (p .0 .some) (now (start now-at .args .sequence)) (now-at .before .before .loop .inv .0) (batch now-at) in
     (p .0, (p .1 .0, (room .0, room .1)))
 
 add-at : tie.Need-add-at Inv-loop μ-loop
-add-at c =
-    let start = c .before .before .before .before .before .before .before .before .before .before in
-    omega (arith, batch (c .before .before .before .before .before) .inside, start .good)
+add-at c = let now-at = c .before .before .before .before .before in omega (arith, batch now-at .inside, start now-at .good)
 
 sub-at : tie.Need-sub-at Inv-loop μ-loop
 sub-at c = omega (arith, batch (c .before .before .before .before .before) .window)
 
 loop-less : tie.Need-loop-less Inv-loop μ-loop
 loop-less c =
-    let start = c .before .before .before .before .before .before .before .before .before .before in
-    let B = batch (c .before .before .before .before .before) in
-    batch-less (omega (arith, B .window)) (omega (arith, B .inside, start .pre .0 .some))
+    let now-at = c .before .before .before .before .before in
+    let B = batch now-at in
+    batch-less (omega (arith, B .window)) (omega (arith, B .inside, start now-at .pre .0 .some))
 
 loop-again : tie.Need-loop-again Inv-loop μ-loop
 loop-again c =
-    let start = c .before .before .before .before .before .before .before .before .before .before in
-    let at-loop = c .before .before .before .before .before .before .before in
-    let p = start .pre .0 in
-    let B = batch (c .before .before .before .before .before) in (
-      batch-next _ (p .some) (now (start .args .sequence)) (at-loop .loop .inv .0) B _ (c .before .before .fill-batch .ensures),
-      omega
-          (arith, B .inside, p .some),
-    )
+    let now-at = c .before .before .before .before .before in
+    let some-k = start now-at .pre .0 .some in
+    let B = batch now-at in
+    let inv = now-at .before .before .loop .inv in
+    (batch-next _ some-k (now (start now-at .args .sequence)) (inv .0) B _ (c .before .before .fill-batch .ensures), omega (arith, B .inside, some-k))
 
 same-length : tie.Need-same-length Inv-loop μ-loop
 same-length c = written-length (c .before .loop .inv .0)
 
 returns : tie.Need-returns Inv-loop μ-loop
 returns c =
-    let start = c .before .before .before .before in
-    let p = start .pre .0 in
-    batches-all _ (p .some) (now (start .args .sequence)) (c .before .loop .inv .0) (c .loop-test .left)
+    let begin = c .before .before .before .before in
+    batches-all _ (begin .pre .0 .some) (now (begin .args .sequence)) (c .before .loop .inv .0) (c .loop-test .left)
 
 pub fill-sequence-spec : {M : Type 1} → statement M
 fill-sequence-spec =

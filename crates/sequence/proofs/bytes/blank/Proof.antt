@@ -1,7 +1,7 @@
 -- `sequence::bytes::blank` meets its contract. The invariant: the numbers of the windows before the one at j are right, and the run that ends before its
 -- last byte is known.
 use mathlib.Core.Path.{_≡_, refl}
-use Prim.Native.Nat.{_+_, _-_}
+use Prim.Native.Nat.{_+_, _-_, _<_}
 use native.Mathlib.Omega.{arith}
 use borrow.Author.Needs.{needs}
 use lib.ListN.{length, length-set}
@@ -18,6 +18,13 @@ abbrev μ-loop : tie.MeasureT-loop
 returns : tie.Need-returns Inv-loop μ-loop
 returns c = blanked-none _ _ _ _ (c .if1 .taken)
 
+-- Where the function began, from a turn of its loop; and that the list has the place j of that turn.
+abbrev start : tie.In-loop Inv-loop μ-loop → tie.Start Inv-loop μ-loop
+start c = c .before .before .before .before .before .before
+
+place : (c : tie.In-loop Inv-loop μ-loop) → c .before .loop .j < length (c .before .loop .out)
+place c = omega (arith, c .before .loop .inv .1, c .loop-test .taken, start c .pre)
+
 sub-first-run : tie.Need-sub-first-run Inv-loop μ-loop
 sub-first-run c = c .before .before .before .pre .0
 
@@ -31,52 +38,41 @@ add-loop : tie.Need-add-loop Inv-loop μ-loop
 add-loop c = omega (arith, c .loop .inv .0 .inside, c .before .before .before .before .before .good)
 
 add-next-run : tie.Need-add-next-run Inv-loop μ-loop
-add-next-run c = omega (arith, c .before .loop .inv .0 .inside, c .before .before .before .before .before .before .good)
+add-next-run c = omega (arith, c .before .loop .inv .0 .inside, start c .good)
 
 sub-next-run : tie.Need-sub-next-run Inv-loop μ-loop
-sub-next-run c = omega (arith, c .before .before .before .before .before .before .pre .0)
+sub-next-run c = omega (arith, start c .pre .0)
 
 next-run-requires : tie.Need-next-run-requires Inv-loop μ-loop
-next-run-requires c κs = (c .before .loop .inv .0 .ran, omega (arith, c .before .before .before .before .before .before .pre .0, c .loop-test .taken))
+next-run-requires c κs = (c .before .loop .inv .0 .ran, omega (arith, start c .pre .0, c .loop-test .taken))
 
 mul-kept : tie.Need-mul-kept Inv-loop μ-loop
-mul-kept c =
-    let start = c .before .before .before .before .before .before .before in
-    omega (arith, c .before .before .loop .inv .1, c .before .loop-test .taken, start .pre, start .good)
+mul-kept c = omega (arith, place (c .before), c .before .before .loop .inv .1, start (c .before) .good)
 
 slice-read-kept : tie.Need-slice-read-kept Inv-loop μ-loop
-slice-read-kept c =
-    let start = c .before .before .before .before .before .before .before .before in
-    omega (arith, c .before .before .before .loop .inv .1, c .before .before .loop-test .taken, start .pre)
+slice-read-kept c = place (c .before .before)
 
 kept-requires : tie.Need-kept-requires Inv-loop μ-loop
 kept-requires c κs = search needs
 
 mul-out : tie.Need-mul-out Inv-loop μ-loop
-mul-out c =
-    let start = c .before .before .before .before .before .before .before .before .before in
-    omega (arith, c .before .before .before .before .loop .inv .1, c .before .before .before .loop-test .taken, start .pre, start .good)
+mul-out c = let turn = c .before .before .before in omega (arith, place turn, turn .before .loop .inv .1, start turn .good)
 
 slice-write-out : tie.Need-slice-write-out Inv-loop μ-loop
-slice-write-out c =
-    let start = c .before .before .before .before .before .before .before .before .before in
-    omega (arith, c .before .before .before .before .loop .inv .1, c .before .before .before .loop-test .taken, start .pre)
+slice-write-out c = place (c .before .before .before)
 
 add-j : tie.Need-add-j Inv-loop μ-loop
-add-j c = omega (arith, c .before .before .before .loop-test .taken, c .before .before .before .before .before .before .before .before .before .good)
+add-j c = let turn = c .before .before .before in omega (arith, turn .loop-test .taken, start turn .good)
 
 loop-less : tie.Need-loop-less Inv-loop μ-loop
-loop-less c = omega (arith, c .before .before .before .loop-test .taken, c .before .before .before .before .before .before .before .before .before .pre .0)
+loop-less c = let turn = c .before .before .before in omega (arith, turn .loop-test .taken, start turn .pre .0)
 
 loop-again : tie.Need-loop-again Inv-loop μ-loop
 loop-again c =
-    let start = c .before .before .before .before .before .before .before .before .before in
-    let at-loop = c .before .before .before .before in
-    let p = start .pre in (
-      blanking-next (p .0) _ _ (p .1) (at-loop .loop .inv .0) (c .before .before .before .loop-test .taken) (c .before .before .next-run .ensures)
-          (c .kept .ensures),
-      simp length-set (at-loop .loop .inv .1),
-    )
+    let turn = c .before .before .before in
+    let p = start turn .pre in
+    let inv = turn .before .loop .inv in
+    (blanking-next (p .0) _ _ (p .1) (inv .0) (turn .loop-test .taken) (c .before .before .next-run .ensures) (c .kept .ensures), simp length-set (inv .1))
 
 same-length : tie.Need-same-length Inv-loop μ-loop
 same-length c = c .before .loop .inv .1

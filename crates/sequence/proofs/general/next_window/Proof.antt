@@ -2,9 +2,35 @@
 use mathlib.Core.Path.{refl}
 use native.Mathlib.Omega.{arith}
 use borrow.Author.Needs.{needs}
-use Rattle.sequence.proofs.AnyAlphabet.{k-lt, entering-lt, ahead-fits, behind-fits, next-is}
+use denote.Ref.{now}
+use Rattle.sequence.proofs.AnyAlphabet.{k-lt, entering-lt, Entering, ahead-fits, behind-fits, next-is}
 use Rattle.sequence.proofs.general.next_window.Statement.{statement}
 use Rattle.sequence.proofs.general.next_window.Tie as tie
+
+-- Where the function began, from the place at which the letter that enters is known, and what is known there.
+abbrev start : tie.After-mirror-rank → tie.Start
+start c = c .before .before .before .before .before .before
+
+entering : (c : tie.After-mirror-rank)
+    → let a = start c .args in
+    let y = c .before in
+    let q = y .before .before in
+    Entering (a .s) (a .m) (a .k) (now (a .powers)) (now (a .ranks)) (a .j) (a .inner) (q .before .inner-length .result) (q .power-at .result)
+    (y .before .rank-at .result) (y .rank-at2 .result) (c .mirror-rank .result)
+entering c =
+    let p = start c .pre in
+    let y = c .before in
+    let q = y .before .before in
+    record {
+      window = p .0;
+      some = p .1 .0;
+      more = p .1 .1;
+      between = q .before .inner-length .ensures;
+      power = q .power-at .ensures;
+      leaving = y .before .rank-at .ensures;
+      entering = y .rank-at2 .ensures;
+      shown = c .mirror-rank .ensures;
+    }
 
 inner-length-requires : tie.Need-inner-length-requires
 inner-length-requires c κs = search needs
@@ -29,70 +55,32 @@ rank-at-requires-2 c κs = search needs
 
 mirror-rank-requires : tie.Need-mirror-rank-requires
 mirror-rank-requires c κs =
-    let start = c .before .before .before .before .before in
-    let p = start .pre in
+    let p = c .before .before .before .before .before .pre in
     entering-lt (p .0) (p .1 .1) (c .before .before .before .inner-length .ensures) (c .rank-at2 .ensures) (p .1 .0)
 
 add-forward : tie.Need-add-forward
-add-forward c =
-    let start = c .before .before .before .before .before .before .before in
-    let p = start .pre in
-    omega (
-      arith,
-      ahead-fits (p .0) (p .1 .0) (p .1 .1) (c .before .before .before .before .before .inner-length .ensures)
-          (c .before .before .before .before .power-at .ensures) (c .before .before .before .rank-at .ensures) (c .before .before .rank-at2 .ensures)
-          (c .before .mirror-rank .ensures) .0,
-    )
+add-forward c = omega (arith, ahead-fits (entering (c .before)) .0)
 
 mul-forward : tie.Need-mul-forward
 mul-forward c = omega (arith, add-forward c)
 
 sub-forward : tie.Need-sub-forward
-sub-forward c =
-    let start = c .before .before .before .before .before .before .before in
-    let p = start .pre in
-    ahead-fits (p .0) (p .1 .0) (p .1 .1) (c .before .before .before .before .before .inner-length .ensures)
-    (c .before .before .before .before .power-at .ensures) (c .before .before .before .rank-at .ensures) (c .before .before .rank-at2 .ensures)
-    (c .before .mirror-rank .ensures) .1
+sub-forward c = ahead-fits (entering (c .before)) .1
 
 mul-forward-2 : tie.Need-mul-forward-2
 mul-forward-2 c = omega (arith, add-forward c, sub-forward c)
 
 mul-divided : tie.Need-mul-divided
-mul-divided c =
-    let start = c .before .before .before .before .before .before .before in
-    let p = start .pre in
-    omega (
-      arith,
-      behind-fits (p .0) (p .1 .0) (p .1 .1) (c .before .before .before .before .before .inner-length .ensures)
-          (c .before .before .before .before .power-at .ensures) (c .before .before .before .rank-at .ensures) (c .before .before .rank-at2 .ensures)
-          (c .before .mirror-rank .ensures),
-    )
+mul-divided c = omega (arith, behind-fits (entering (c .before)))
 
 add-divided : tie.Need-add-divided
-add-divided c =
-    let start = c .before .before .before .before .before .before .before .before in
-    let at-inner-length = c .before .before .before .before .before .before in
-    let p = start .pre in
-    omega (
-      arith,
-      behind-fits (p .0) (p .1 .0) (p .1 .1) (at-inner-length .inner-length .ensures)
-          (c .before .before .before .before .before .power-at .ensures) (c .before .before .before .before .rank-at .ensures)
-          (c .before .before .before .rank-at2 .ensures) (c .before .before .mirror-rank .ensures),
-    )
+add-divided c = omega (arith, behind-fits (entering (c .before .before)))
 
 divided-requires : tie.Need-divided-requires
 divided-requires c κs = search needs
 
 returns : tie.Need-returns
-returns c =
-    let start = c .before .before .before .before .before .before .before .before .before in
-    let at-inner-length = c .before .before .before .before .before .before .before in
-    let at-power-at = c .before .before .before .before .before .before in
-    let p = start .pre in
-    next-is (p .0) (p .1 .0) (p .1 .1) (at-inner-length .inner-length .ensures) (at-power-at .power-at .ensures)
-    (c .before .before .before .before .before .rank-at .ensures) (c .before .before .before .before .rank-at2 .ensures)
-    (c .before .before .before .mirror-rank .ensures) _ _ refl (c .divided .ensures)
+returns c = next-is (entering (c .before .before .before)) _ _ refl (c .divided .ensures)
 
 pub next-window-spec : {M : Type 1} → statement M
 next-window-spec =

@@ -1,8 +1,9 @@
 -- `sequence::general::scanned_code` meets its contract. The invariant, `Scan`: the code is what the equal pairs so far give and the scale times the code of
 -- the n letters left.
 use native.Mathlib.Omega.{arith}
+use denote.Ref.{now}
+use Rattle.sequence.specs.Needs.{OuterPair}
 use Rattle.sequence.proofs.AnyAlphabet.{rank-lt, Scan, scan-start, scale-fits, scan-rest, scan-within, scan-done, scan-one, scan-none}
-use Rattle.encoding.proofs.ByRanks.{closing}
 use Rattle.sequence.proofs.general.scanned_code.Statement.{statement}
 use Rattle.sequence.proofs.general.scanned_code.Tie as tie
 
@@ -27,34 +28,27 @@ sub-mirror-rank-at c = omega arith
 mirror-rank-at-requires : tie.Need-mirror-rank-at-requires Inv-loop μ-loop
 mirror-rank-at-requires c κs = (omega (arith, c .before .before .loop .inv .window .inside), c .before .before .loop .inv .window .input .ranks)
 
+-- The outer pair of a turn.
+outer : (c : tie.After-mirror-rank-at Inv-loop μ-loop)
+    → let at-loop = c .before .before .before in
+    let a = at-loop .before .before .args in
+    OuterPair (a .s) (a .m) (at-loop .loop .n) (now (a .ranks)) (at-loop .loop .a) (c .before .rank-at .result) (c .mirror-rank-at .result)
+outer c = record { two = c .before .before .loop-test .taken; first = c .before .rank-at .ensures; last = c .mirror-rank-at .ensures }
+
 differing-code-requires : tie.Need-differing-code-requires Inv-loop μ-loop
-differing-code-requires c κs =
-    let last = c .before in
-    let first = last .before in
-    let test = first .before in (
-      test .before .loop .inv .window,
-      (record { two = test .loop-test .taken; first = first .rank-at .ensures; last = last .mirror-rank-at .ensures }, c .if1 .taken),
-    )
-
-add-result : tie.Need-add-result Inv-loop μ-loop
-add-result c = let S = c .before .before .before .before .before .loop .inv in omega (arith, scan-done S _ (c .differing-code .ensures), S .fits)
-
-mul-result : tie.Need-mul-result Inv-loop μ-loop
-mul-result c = omega (arith, add-result c)
+differing-code-requires c κs = (c .before .before .before .before .loop .inv .window, (outer (c .before), c .if1 .taken))
 
 returns : tie.Need-returns Inv-loop μ-loop
 returns c = scan-done (c .before .before .before .before .before .loop .inv) _ (c .differing-code .ensures)
 
+add-result : tie.Need-add-result Inv-loop μ-loop
+add-result c = omega (arith, returns c, c .before .before .before .before .before .loop .inv .fits)
+
+mul-result : tie.Need-mul-result Inv-loop μ-loop
+mul-result c = omega (arith, add-result c)
+
 add-closing : tie.Need-add-closing Inv-loop μ-loop
-add-closing c =
-    let S = c .before .before .before .before .loop .inv in
-    omega (
-      arith,
-      scan-rest S
-          (record { two = c .before .before .before .loop-test .taken; first = c .before .before .rank-at .ensures; last = c .before .mirror-rank-at .ensures })
-          (c .if1 .left),
-      S .fits,
-    )
+add-closing c = let S = c .before .before .before .before .loop .inv in omega (arith, scan-rest S (outer (c .before)) (c .if1 .left), S .fits)
 
 mul-closing : tie.Need-mul-closing Inv-loop μ-loop
 mul-closing c = omega (arith, add-closing c)
@@ -73,12 +67,8 @@ loop-less c = omega arith
 
 loop-again : tie.Need-loop-again Inv-loop μ-loop
 loop-again c =
-    let last = c .before .before in
-    let first = last .before in
-    let test = first .before in
-    scan-within (test .before .loop .inv)
-    (record { two = test .loop-test .taken; first = first .rank-at .ensures; last = last .mirror-rank-at .ensures }) (c .before .if1 .left)
-    (c .inner-window .ensures)
+    let pair = c .before .before in
+    scan-within (pair .before .before .before .loop .inv) (outer pair) (c .before .if1 .left) (c .inner-window .ensures)
 
 rank-at-requires-2 : tie.Need-rank-at-requires-2 Inv-loop μ-loop
 rank-at-requires-2 c κs = omega (arith, c .before .before .loop .inv .window .inside)
@@ -89,25 +79,16 @@ middle-code-requires c κs =
     let W = at-loop .loop .inv .window in
     (W .input .limits .two, (rw (c .rank-at2 .ensures) (rank-lt W (at-loop .loop .a) (omega (arith, W .inside))), W .input .limits .even))
 
-mul-result-2 : tie.Need-mul-result-2 Inv-loop μ-loop
-mul-result-2 c = let S = c .before .before .before .before .loop .inv in omega (
-  arith,
-  scan-one S _ _ (c .before .before .if2 .taken)
-      (c .before .rank-at2 .ensures) (c .middle-code .ensures),
-  S .fits,
-)
+returns-2 : tie.Need-returns-2 Inv-loop μ-loop
+returns-2 c =
+    let letter = c .before in
+    scan-one (letter .before .before .before .loop .inv) _ _ (letter .before .if2 .taken) (letter .rank-at2 .ensures) (c .middle-code .ensures)
 
 add-result-2 : tie.Need-add-result-2 Inv-loop μ-loop
-add-result-2 c = let S = c .before .before .before .before .loop .inv in omega (
-  arith,
-  scan-one S _ _ (c .before .before .if2 .taken)
-      (c .before .rank-at2 .ensures) (c .middle-code .ensures),
-  S .fits,
-)
+add-result-2 c = omega (arith, returns-2 c, c .before .before .before .before .loop .inv .fits)
 
-returns-2 : tie.Need-returns-2 Inv-loop μ-loop
-returns-2 c = scan-one (c .before .before .before .before .loop .inv) _ _ (c .before .before .if2 .taken) (c .before .rank-at2 .ensures)
-    (c .middle-code .ensures)
+mul-result-2 : tie.Need-mul-result-2 Inv-loop μ-loop
+mul-result-2 c = omega (arith, add-result-2 c)
 
 returns-3 : tie.Need-returns-3 Inv-loop μ-loop
 returns-3 c = scan-none (c .before .before .loop .inv) (c .before .loop-test .left) (c .if2 .left)

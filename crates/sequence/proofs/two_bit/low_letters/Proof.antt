@@ -1,7 +1,8 @@
 -- `sequence::two_bit::low_letters` meets its contract. A mask of 2i ones is a remainder by 4^i (TwoBit).
+use native.Mathlib.Nat.{one-le-pow}
 use native.Mathlib.Omega.{arith}
 use borrow.Author.Needs.{needs}
-use Rattle.sequence.proofs.TwoBit.{four-pos, low-is}
+use Rattle.sequence.proofs.TwoBit.{low-is}
 use Rattle.sequence.proofs.two_bit.low_letters.Statement.{statement}
 use Rattle.sequence.proofs.two_bit.low_letters.Tie as tie
 
@@ -9,7 +10,7 @@ power-of-four-requires : tie.Need-power-of-four-requires
 power-of-four-requires c κs = search needs
 
 sub-result : tie.Need-sub-result
-sub-result c = omega (arith, c .power-of-four .ensures, four-pos (c .before .args .i))
+sub-result c = omega (arith, c .power-of-four .ensures, one-le-pow (c .before .args .i) 4 (omega arith))
 
 returns : tie.Need-returns
 returns c = let a = c .before .args in low-is (a .a) (a .i) _ (c .power-of-four .ensures)

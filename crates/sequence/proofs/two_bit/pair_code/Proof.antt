@@ -1,25 +1,42 @@
 -- `sequence::two_bit::pair_code` meets its contract. What is added up is the code, which is below 2^62.
+use Prim.Native.Nat.{_+_, _-_, _*_, _^_, _<_, _≤_}
 use native.Mathlib.Omega.{arith}
 use borrow.Author.Needs.{needs}
+use denote.Ref.{now}
+use Rattle.encoding.specs.Words.{Complement}
+use Rattle.encoding.specs.Codes.{code}
+use Rattle.sequence.specs.Needs.{part}
 use Rattle.sequence.proofs.TwoBit.{rest-lt, two-fits, pair-in, pair-lt, pair-is}
 use Rattle.sequence.proofs.two_bit.pair_code.Statement.{statement}
 use Rattle.sequence.proofs.two_bit.pair_code.Tie as tie
 
+-- How many letters reach up to the one that differs, at the function's start.
+places : (c : tie.Start) → let a = c .args in (a .differing ≤ a .k) × (a .k ≤ 31) × (a .k + 2 ≤ 2 * a .differing)
+places c = let p = c .pre in (pair-in (p .0) (p .1 .0) (p .1 .1), p .0 .input .small, p .1 .1)
+
+-- That start, from the place at which the powers are known. Before the sum the code is below 2^62, and so is what is left of a below the equal letters.
+abbrev start : tie.After-power-of-four2 → tie.Start
+start c = c .before .before .before .before .before .before
+
+below : (c : tie.After-low-letters)
+    → let a = start (c .before .before .before) .args in code 4 Complement (a .k) (part (a .j) (a .k) (now (a .ranks))) < 2 ^ 62
+below c = two-fits (start (c .before .before .before) .pre .0)
+
+rest : (c : tie.After-low-letters) → let one = c .before .power-of-four3 .result in (1 ≤ one) × (c .low-letters .result ≤ one - 1)
+rest c = rest-lt (start (c .before .before .before) .args .a) _ _ _ (c .before .power-of-four3 .ensures) (c .low-letters .ensures)
+
 returns : tie.Need-returns
 returns c =
-    let start = c .before .before .before .before .before .before .before .before .before in
-    let at-without-low = c .before .before .before .before .before .before .before in
-    let at-without-low2 = c .before .before .before .before .before .before in
-    let p = start .pre in
-    pair-is (p .0) (p .1 .0) (p .1 .1) _ _ _ _ _ _ _ _ (at-without-low .without-low .ensures) (at-without-low2 .without-low2 .ensures)
-    (c .before .before .before .before .before .pair-rank .ensures) (c .before .before .before .before .power-of-four .ensures)
-    (c .before .before .before .power-of-four2 .ensures)
-    (c .before .before .letters-between .ensures)
-    (c .before .power-of-four3 .ensures)
-    (c .low-letters .ensures)
+    let low = c .before .before .before in
+    let p = start low .pre in
+    let pair = low .before .before in
+    let r = pair .before in
+    pair-is (p .0) (p .1 .0) (p .1 .1) _ _ _ _ _ _ _ _ (r .before .without-low .ensures) (r .without-low2 .ensures) (pair .pair-rank .ensures)
+    (low .before .power-of-four .ensures) (low .power-of-four2 .ensures) (c .before .before .letters-between .ensures)
+    (c .before .power-of-four3 .ensures) (c .low-letters .ensures)
 
 sub-equal : tie.Need-sub-equal
-sub-equal c = let p = c .before .pre in pair-in (p .0) (p .1 .0) (p .1 .1)
+sub-equal c = places (c .before) .0
 
 sub-without-low : tie.Need-sub-without-low
 sub-without-low c = search needs
@@ -35,8 +52,7 @@ without-low-requires-2 c κs = search needs
 
 pair-rank-requires : tie.Need-pair-rank-requires
 pair-rank-requires c κs =
-    let start = c .before .before .before in
-    let p = start .pre in
+    let p = c .before .before .before .pre in
     (rw (c .before .without-low .ensures, c .without-low2 .ensures) (pair-lt (p .0) (p .1 .0) (p .1 .1)), omega arith, omega arith)
 
 sub-power-of-four : tie.Need-sub-power-of-four
@@ -55,50 +71,34 @@ sub-letters-between : tie.Need-sub-letters-between
 sub-letters-between c = search needs
 
 letters-between-requires : tie.Need-letters-between-requires
-letters-between-requires c κs = let p = c .before .before .before .before .before .before .pre in omega (
-  arith,
-  pair-in (p .0) (p .1 .0)
-      (p .1 .1),
-  p .0 .input .small,
-  p .1 .1,
-)
+letters-between-requires c κs = omega (arith, places (start c))
 
 power-of-four-requires-3 : tie.Need-power-of-four-requires-3
-power-of-four-requires-3 c κs =
-    let start = c .before .before .before .before .before .before .before in
-    let p = start .pre in
-    omega (arith, pair-in (p .0) (p .1 .0) (p .1 .1), p .0 .input .small, p .1 .1)
+power-of-four-requires-3 c κs = omega (arith, places (start (c .before)))
 
 low-letters-requires : tie.Need-low-letters-requires
-low-letters-requires c κs =
-    let start = c .before .before .before .before .before .before .before .before in
-    let p = start .pre in
-    omega (arith, pair-in (p .0) (p .1 .0) (p .1 .1), p .0 .input .small, p .1 .1)
+low-letters-requires c κs = omega (arith, places (start (c .before .before)))
 
 add-result : tie.Need-add-result
-add-result c = omega (arith, returns c, two-fits (c .before .before .before .before .before .before .before .before .before .pre .0))
+add-result c = omega (arith, returns c, below c)
 
 mul-result : tie.Need-mul-result
-mul-result c = omega (arith, returns c, two-fits (c .before .before .before .before .before .before .before .before .before .pre .0))
+mul-result c = omega (arith, returns c, below c)
 
 add-result-2 : tie.Need-add-result-2
-add-result-2 c = omega (arith, returns c, two-fits (c .before .before .before .before .before .before .before .before .before .pre .0))
+add-result-2 c = omega (arith, returns c, below c)
 
 add-result-3 : tie.Need-add-result-3
-add-result-3 c = omega (arith, returns c, two-fits (c .before .before .before .before .before .before .before .before .before .pre .0))
+add-result-3 c = omega (arith, returns c, below c)
 
 sub-result : tie.Need-sub-result
-sub-result c =
-    let start = c .before .before .before .before .before .before .before .before .before in
-    rest-lt (start .args .a) _ _ _ (c .before .power-of-four3 .ensures) (c .low-letters .ensures) .0
+sub-result c = rest c .0
 
 sub-result-2 : tie.Need-sub-result-2
-sub-result-2 c =
-    let start = c .before .before .before .before .before .before .before .before .before in
-    rest-lt (start .args .a) _ _ _ (c .before .power-of-four3 .ensures) (c .low-letters .ensures) .1
+sub-result-2 c = rest c .1
 
 add-result-4 : tie.Need-add-result-4
-add-result-4 c = omega (arith, returns c, two-fits (c .before .before .before .before .before .before .before .before .before .pre .0))
+add-result-4 c = omega (arith, returns c, below c)
 
 pub pair-code-spec : {M : Type 1} → statement M
 pair-code-spec =
