@@ -58,5 +58,6 @@ module _ (s : ℕ) (m : Mirror) (hs : 1 < s) where
   unfolding digits
   low-one a h g = omega (arith, plain-one s (mirrorRank s m a), mirrorRank-lt s m a (h .0), pow-one s)
 
+  -- The value of the digits of a canonical word of n letters is below s^n.
   pub value-lt : (n : ℕ) (w : List ℕ) → length w ≡ n → Ranks s w → IsCanonical s m w → plain s (digits s m n w) < s ^ n
   value-lt = ends Low low-zero low-one low-step

@@ -92,7 +92,7 @@ other-one : (s : ℕ) (hs : 1 < s) (he : EvenUnder s Complement) (a : ℕ) → a
 unfolding mirror mirrorRank middleOfCode
 other-one s hs he a h g = one-low s Complement hs he (s - 1 - a) (omega arith) (omega arith)
 
--- A word of one letter has that code.
+-- The code of a word of one letter is its `middleCode`.
 pub code-one : (s : ℕ) (m : Mirror) (hs : 1 < s) (he : EvenUnder s m) (a : ℕ) → a < s → code s m 1 (a ∷ []) ≡ middleCode s m a
 unfolding middleCode middleOfCode mirrorRank
 code-one s Reversal hs he a h = one-low s Reversal hs he a h (omega arith)

@@ -62,6 +62,7 @@ module _ (s : ℕ) (hs : 1 < s) (n a x b c y d : ℕ) (hb : b < s) (hd : d < s) 
       let e₂ : c * s ^ suc n + y * s + d ≡ c * s ^ suc n + (y * s + d) = omega arith in
       g .differs (omega arith) (rw (e, e₁, e₂, digits-div a hr, digits-div c hr′) q)
 
+-- Where the plain ranks of a word of n letters and of its mirror agree in just their first p digits (Agree), the word has p equal outer pairs.
 pub agree-at : (s : ℕ) (m : Mirror) → 1 < s → (n : ℕ) (w : List ℕ) → length w ≡ n → Ranks s w → (p : ℕ)
     → Agree s n (plain s w) (plain s (mirror s m w)) p → equalPairs s m n w ≡ p
 unfolding equalPairs

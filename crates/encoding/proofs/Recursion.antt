@@ -117,7 +117,8 @@ module _ (s : ℕ) (m : Mirror) (hs : 1 < s) (he : EvenUnder s m) where
   unfolding digits codeRec differingPair
   value-one a h g = plain-one s (mirrorRank s m a) ∙ one-value s m he a (h .0) (canonical-one s m a g)
 
-  -- The value of a canonical word's digits is its code with the shift and the odd-k subtraction added: neither subtraction is cut off.
+  -- The value of a canonical word's digits is its code by recursion, which is its code (`code-is` below), with the shift and the odd-k subtraction
+  -- added: neither subtraction is cut off.
   pub value : (n : ℕ) (w : List ℕ) → length w ≡ n → Ranks s w → IsCanonical s m w
       → plain s (digits s m n w) ≡ codeRec s m n w + shift s n (differingPair s m n w) + oddShift s m n
   value = ends (Value s m hs he) value-zero value-one (value-step s m hs he)

@@ -58,6 +58,7 @@ more-refusals :
 unfolding outputOf
 more-refusals = (refl, refl, refl, refl)
 
+-- Document 01's worked example, from input to output.
 worked-example :
     outputOf "(survey (letters ACGT) (k 2) (mirror complement))\n>a\nACGTN\n>b\nAG\nCT\n"
     ≡ bytes "(survey (letters ACGT) (k 2) (mirror complement))\n(count CG 1)\n(count GC 1)\n(count AG 2)\n(count AC 2)\n(total 6)\n"

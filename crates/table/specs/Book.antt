@@ -1,4 +1,5 @@
--- Document 01, "The tally book". It keeps one tally a class, by the class's canonical word, and knows nothing of codes or of the table.
+-- Document 01, "The tally book". It keeps one tally a class, by the class's canonical word, and reads neither codes nor the
+-- table's places; the rules for the grounds are those of Table.
 -- Throughout, s is the number of letters and m the mirror.
 use mathlib.Core.Path.{_≡_}
 use mathlib.Core.Bool.{Bool, true, false, cond, _&&_, _||_}
