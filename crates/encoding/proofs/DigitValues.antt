@@ -72,7 +72,13 @@ digits-one s m w e = rw e (sym (plain-one s (mirrorRank s m (getD w 0 0))))
 pub last-lt : (s : ℕ) (w : List ℕ) → Ranks s w → (length w ≡ 0 → ⊥) → getD w (length w - 1) 0 < s
 last-lt s w h g = ranks-at s w (length w - 1) h (omega arith)
 
-module _ (s : ℕ) (m : Mirror) (w : List ℕ) (c : FitCanonical s m w) (h0 : length w ≡ 0 → ⊥) (h1 : length w ≡ 1 → ⊥) where
+-- A canonical word of two letters or more, as `digits_value` has it past its two tests.
+pub record LongCanonical (s : ℕ) (m : Mirror) (w : List ℕ) : Type 0 where
+  pub fits : FitCanonical s m w
+  pub not-none : length w ≡ 0 → ⊥
+  pub not-one : length w ≡ 1 → ⊥
+
+module _ {s : ℕ} {m : Mirror} {w : List ℕ} (L : LongCanonical s m w) where
   in-len : length (take (length w - 1 - 1) (drop 1 w)) ≡ length w - 1 - 1
   in-len = length-part 1 (length w - 1 - 1) w (omega arith)
 
@@ -101,17 +107,17 @@ module _ (s : ℕ) (m : Mirror) (w : List ℕ) (c : FitCanonical s m w) (h0 : le
       ∙ (rw (zero-add (suc (length w - 1 - 1)), last-at) at (value-part s m 0 (length w - 1 - 1) w (omega arith)))
 
   whole-ranks : Ranks s (getD w 0 0 ∷ (take (length w - 1 - 1) (drop 1 w) ++ (getD w (length w - 1) 0 ∷ [])))
-  whole-ranks = subst (Ranks s) whole (c .word .ranks)
+  whole-ranks = subst (Ranks s) whole (L .fits .word .ranks)
 
   whole-least : IsCanonical s m (getD w 0 0 ∷ (take (length w - 1 - 1) (drop 1 w) ++ (getD w (length w - 1) 0 ∷ [])))
-  whole-least = subst (IsCanonical s m) whole (c .least)
+  whole-least = subst (IsCanonical s m) whole (L .fits .least)
 
   pub inner-canonical : getD w 0 0 ≡ mirrorRank s m (getD w (length w - 1) 0) → FitCanonical s m (take (length w - 1 - 1) (drop 1 w))
   inner-canonical e =
       record {
-        word = inner-of s w (c .word .two) (c .word .ranks) (c .word .small) (length w - 1 - 1) (omega arith);
-        few = c .few;
-        even = c .even;
+        word = inner-of s w (L .fits .word .two) (L .fits .word .ranks) (L .fits .word .small) (length w - 1 - 1) (omega arith);
+        few = L .fits .few;
+        even = L .fits .even;
         least =
             canonical-inner s m (length w - 1 - 1) (getD w 0 0) (getD w (length w - 1) 0) (take (length w - 1 - 1) (drop 1 w)) in-len whole-ranks
             whole-least e;
@@ -129,7 +135,7 @@ module _ (s : ℕ) (m : Mirror) (w : List ℕ) (c : FitCanonical s m w) (h0 : le
       sym (step ∙ rw (eq-eqb (getD w 0 0) (mirrorRank s m (getD w (length w - 1) 0)) e, g))
 
   pub value-small : plain s (digits s m (length w) w) < 2 ^ 62
-  value-small = omega (arith, value-lt s m (c .word .two) (length w) w refl (c .word .ranks) (c .least), c .word .small)
+  value-small = omega (arith, value-lt s m (L .fits .word .two) (length w) w refl (L .fits .word .ranks) (L .fits .least), L .fits .word .small)
 
   differs : (getD w 0 0 ≡ mirrorRank s m (getD w (length w - 1) 0) → ⊥) → FitDiffering s w (getD w 0 0) (mirrorRank s m (getD w (length w - 1) 0))
   differs d =
@@ -137,11 +143,11 @@ module _ (s : ℕ) (m : Mirror) (w : List ℕ) (c : FitCanonical s m w) (h0 : le
       = canonical-first s m (length w - 1 - 1) (getD w 0 0) (getD w (length w - 1) 0) (take (length w - 1 - 1) (drop 1 w)) in-len whole-ranks
       whole-least in
       record {
-        word = c .word;
-        few = c .few;
+        word = L .fits .word;
+        few = L .fits .few;
         long = omega arith;
         less = omega arith;
-        rank = mirrorRank-lt s m (getD w (length w - 1) 0) (last-lt s w (c .word .ranks) h0);
+        rank = mirrorRank-lt s m (getD w (length w - 1) 0) (last-lt s w (L .fits .word .ranks) (L .not-none));
       }
 
   value-differ : (getD w 0 0 ≡ mirrorRank s m (getD w (length w - 1) 0) → ⊥)

@@ -3,8 +3,9 @@
 use mathlib.Core.Path.{_∙_, subst}
 use Prim.Native.Nat.{_-_, ℕ, _<_}
 use native.Mathlib.Omega.{arith}
+use denote.Ref.{now}
 use lib.ListN.{length, take, drop}
-use Rattle.encoding.proofs.DigitValues.{digits-none, last-lt, digits-one, shorter, inner-canonical, value-equal, value-small, fit-differing, differing-answer}
+use Rattle.encoding.proofs.DigitValues.{digits-none, last-lt, digits-one, LongCanonical, shorter, inner-canonical, value-equal, value-small, fit-differing, differing-answer}
 use borrow.Fn.Kinds.{In}
 use borrow.Fn.PlainCycle.{Measures, is, falls, and}
 use Rattle.encoding.proofs.to_code.digits_value.Reads as digits-value
@@ -40,6 +41,16 @@ claims t = (
   differing-value-reads.Asked,
   differing-value-reads.Learnt,
 )
+
+-- Where the function began, from the place past its two tests; and that the word is a long one there.
+abbrev Long : ℕ → Type 0
+Long t = digits-value-lts.Else2 (claims t) (digits-value-at t) digits-value.Post
+
+abbrev start : (t : ℕ) → Long t → digits-value-lts.Start (claims t) (digits-value-at t) digits-value.Post
+start t c = c .before .before .before .before .before
+
+long : (t : ℕ) (c : Long t) → let a = start t c .args in LongCanonical (a .s) (a .m) (now (a .w))
+long t c = record { fits = start t c .pre .1; not-none = c .before .before .before .if1 .left; not-one = c .if2 .left }
 
 digits-value-returns : (t : ℕ) → digits-value-lts.Need-returns (claims t) (digits-value-at t) digits-value.Post
 digits-value-returns t c =
@@ -83,28 +94,17 @@ digits-value-part-digits-value-end t c = omega arith
 digits-value-digits-value-requires : (t : ℕ) → digits-value-lts.Need-digits-value-requires (claims t) (digits-value-at t) digits-value.Post
 digits-value-digits-value-requires t c κs =
     let if2 = c .before .before .before in
-    let if1 = if2 .before .before .before in
-    let start = if1 .before .before in
-    let a = start .args in
-    let w = a .w .now in
-    let can = start .pre .1 in
+    let w = now (start t if2 .args .w) in
     let e = c .before .if3 .taken ∙ if2 .before .mirror-rank .ensures in
-    let fewer = shorter (a .s) (a .m) w can (if1 .if1 .left) (if2 .if2 .left) in
-    let inner = inner-canonical (a .s) (a .m) w can (if1 .if1 .left) (if2 .if2 .left) e in
-    (subst (λ (j : ℕ). length (take (length w - 1 - 1) (drop 1 w)) < j) (start .pre .0) fewer, inner)
+    let fewer = subst (λ (j : ℕ). length (take (length w - 1 - 1) (drop 1 w)) < j) (start t if2 .pre .0) (shorter (long t if2)) in
+    (fewer, inner-canonical (long t if2) e)
 
 digits-value-add-result : (t : ℕ) → digits-value-lts.Need-add-result (claims t) (digits-value-at t) digits-value.Post
 digits-value-add-result t c =
     let if3 = c .before .before in
     let if2 = if3 .before .before in
-    let if1 = if2 .before .before .before in
-    let start = if1 .before .before in
-    let a = start .args in
     let e = if3 .if3 .taken ∙ if2 .before .mirror-rank .ensures in
-    let can = start .pre .1 in
-    let value = value-equal (a .s) (a .m) (a .w .now) can (if1 .if1 .left) (if2 .if2 .left) e _ (c .digits-value .ensures) in
-    let small = value-small (a .s) (a .m) (a .w .now) can (if1 .if1 .left) (if2 .if2 .left) in
-    omega (arith, if2 .before .mirror-rank .ensures, value, small)
+    omega (arith, if2 .before .mirror-rank .ensures, value-equal (long t if2) e _ (c .digits-value .ensures), value-small (long t if2))
 
 digits-value-mul-result : (t : ℕ) → digits-value-lts.Need-mul-result (claims t) (digits-value-at t) digits-value.Post
 digits-value-mul-result t c = omega (arith, digits-value-add-result t c)
@@ -113,32 +113,21 @@ digits-value-returns-3 : (t : ℕ) → digits-value-lts.Need-returns-3 (claims t
 digits-value-returns-3 t c =
     let if3 = c .before .before in
     let if2 = if3 .before .before in
-    let if1 = if2 .before .before .before in
-    let start = if1 .before .before in
-    let a = start .args in
     let e = if3 .if3 .taken ∙ if2 .before .mirror-rank .ensures in
-    rw (if2 .before .mirror-rank .ensures)
-    (value-equal (a .s) (a .m) (a .w .now) (start .pre .1) (if1 .if1 .left) (if2 .if2 .left) e _ (c .digits-value .ensures))
+    rw (if2 .before .mirror-rank .ensures) (value-equal (long t if2) e _ (c .digits-value .ensures))
 
 digits-value-differing-value-requires : (t : ℕ) → digits-value-lts.Need-differing-value-requires (claims t) (digits-value-at t) digits-value.Post
 digits-value-differing-value-requires t c κs =
     let if2 = c .before .before in
-    let if1 = if2 .before .before .before in
-    let start = if1 .before .before in
-    let a = start .args in
     let last = if2 .before .mirror-rank in
-    fit-differing (a .s) (a .m) (a .w .now) (start .pre .1) (if1 .if1 .left) (if2 .if2 .left) (last .result) (last .ensures) (c .if3 .left)
+    fit-differing (long t if2) (last .result) (last .ensures) (c .if3 .left)
 
 digits-value-returns-4 : (t : ℕ) → digits-value-lts.Need-returns-4 (claims t) (digits-value-at t) digits-value.Post
 digits-value-returns-4 t c =
     let if3 = c .before in
     let if2 = if3 .before .before in
-    let if1 = if2 .before .before .before in
-    let start = if1 .before .before in
-    let a = start .args in
     let last = if2 .before .mirror-rank in
-    differing-answer (a .s) (a .m) (a .w .now) (start .pre .1) (if1 .if1 .left) (if2 .if2 .left) (last .result) (last .ensures) (if3 .if3 .left) _
-    (c .differing-value .ensures)
+    differing-answer (long t if2) (last .result) (last .ensures) (if3 .if3 .left) _ (c .differing-value .ensures)
 
 pub +digits-value-spec : {M : Type 1} → statement M
 +digits-value-spec = close μ-digits-value λ t. digits-value-lts.spec (claims t)
