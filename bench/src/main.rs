@@ -26,6 +26,9 @@ fn drawn(letters: &[u8], length: usize) -> Vec<u8> {
     (0..length).map(|_| letters[random.below(letters.len() as u64) as usize]).collect()
 }
 
+/// Fills codes along a sequence and tells how many.
+type Version<'a> = &'a dyn Fn(&mut [u64]) -> usize;
+
 /// The one in the middle.
 fn median(mut numbers: Vec<f64>) -> f64 {
     numbers.sort_by(f64::total_cmp);
@@ -34,7 +37,7 @@ fn median(mut numbers: Vec<f64>) -> f64 {
 
 /// The medians of several versions in nanoseconds a letter; their runs take turns, and all must fill the same
 /// codes.
-fn medians(sequence: &[u8], versions: &[&dyn Fn(&mut [u64]) -> usize]) -> Vec<f64> {
+fn medians(sequence: &[u8], versions: &[Version]) -> Vec<f64> {
     let mut first = vec![0; sequence.len()];
     let filled = versions[0](&mut first);
     let mut codes = vec![0; sequence.len()];
@@ -59,7 +62,7 @@ fn print_ratio(what: &str, ours: f64, plain: f64) {
 /// two-bit path and of the general path.
 fn print_paths(what: &str, k: usize, dna: &[u8]) -> [f64; 2] {
     let settings = Settings::dna(k);
-    let versions: [&dyn Fn(&mut [u64]) -> usize; 4] = [
+    let versions: [Version; 4] = [
         &|codes| codes_two_bit(k, dna, codes).expect("room for all codes"),
         &|codes| baseline::two_bit(k, dna, codes),
         &|codes| settings.codes(dna, codes).expect("room for all codes"),
@@ -97,7 +100,7 @@ fn print_alphabets() {
         let sequence = drawn(letters, LETTERS);
         for mirror in [Mirror::Reversal, Mirror::Complement] {
             let settings = Settings { letters, k, mirror };
-            let versions: [&dyn Fn(&mut [u64]) -> usize; 2] =
+            let versions: [Version; 2] =
                 [&|codes| settings.codes(&sequence, codes).expect("room for all codes"), &|codes| {
                     baseline::general(&settings, &sequence, codes)
                 }];

@@ -123,7 +123,7 @@ fn sequences_with_no_letter() {
 fn one_letter_over_and_over() {
     for settings in some_settings(&mut Random::new(28)) {
         for &letter in &settings.letters {
-            check_along(&settings, &vec![letter; 200], 200);
+            check_along(&settings, &[letter; 200], 200);
         }
     }
 }
