@@ -40,12 +40,13 @@ foreign-none letters word i h = rw (drop-of-length-le word h)
 
 -- ---- ranks are below s
 
+-- What stands for a byte is below s where its rank, if it has one, is.
+pub or-zero-below : {s : ℕ} (o : Option ℕ) → 0 < s → ((x : ℕ) → o ≡ some x → x < s) → rankOrZero o < s
+or-zero-below none h f = h
+or-zero-below (some x) h f = f x refl
+
 rank-lt : (letters : List ℕ) (b : ℕ) → 0 < length letters → rankAt letters b < length letters
-rank-lt letters b h = go (rankIn letters b) refl
-  where
-    go : (o : Option ℕ) → rankIn letters b ≡ o → rankOrZero o < length letters
-    go none e = h
-    go (some x) e = rank-below-count letters b x (sym e)
+rank-lt letters b h = or-zero-below (rankIn letters b) h (λ x e. rank-below-count letters b x (sym e))
 
 pub ranks-below : (letters word : List ℕ) → 0 < length letters → Ranks (length letters) (ranksOf letters word)
 unfolding ranksOf

@@ -48,6 +48,7 @@ fn with_place(answer: Filling) -> u64
     }
 }
 
+// The code of a word. What a C program needs to know of each call is in include/kmer.h.
 #[no_mangle]
 pub extern "C" fn kmer_code(letters: &[u8], k: usize, mirror: u64, word: &[u8]) -> u64
     ensures { λ r. ⌜ r ≡ returned (coding (now (letters .entry)) k mirror (now (word .entry))) ⌝ }
@@ -58,6 +59,7 @@ pub extern "C" fn kmer_code(letters: &[u8], k: usize, mirror: u64, word: &[u8]) 
     }
 }
 
+// The canonical word of a code.
 #[no_mangle]
 pub extern "C" fn kmer_word(letters: &[u8], k: usize, mirror: u64, code: u64, out: &mut [u8]) -> u64
     ensures { λ r.
@@ -70,6 +72,7 @@ pub extern "C" fn kmer_word(letters: &[u8], k: usize, mirror: u64, code: u64, ou
     }
 }
 
+// The mirror of a word.
 #[no_mangle]
 pub extern "C" fn kmer_mirror(
     letters: &[u8],
@@ -85,6 +88,7 @@ pub extern "C" fn kmer_mirror(
     with_place(encoding::mirror_of(letters, k, mirror, word, out))
 }
 
+// The codes of all windows along a sequence.
 #[no_mangle]
 pub extern "C" fn kmer_codes(
     letters: &[u8],
@@ -101,7 +105,7 @@ pub extern "C" fn kmer_codes(
     with_place(sequence::codes(letters, k, mirror, sequence, codes))
 }
 
-// For ACGT under complement, by two-bit numbers.
+// The same for ACGT under complement, by two-bit numbers.
 #[no_mangle]
 pub extern "C" fn kmer_codes_two_bit(k: usize, sequence: &[u8], codes: &mut [u64]) -> u64
     ensures { λ r.
@@ -111,6 +115,7 @@ pub extern "C" fn kmer_codes_two_bit(k: usize, sequence: &[u8], codes: &mut [u64
     with_place(sequence::codes_two_bit(k, sequence, codes))
 }
 
+// Clears a table.
 #[no_mangle]
 pub extern "C" fn kmer_clear(letters: &[u8], k: usize, mirror: u64, table: &mut [u32]) -> u64
     ensures { λ r.
@@ -121,6 +126,7 @@ pub extern "C" fn kmer_clear(letters: &[u8], k: usize, mirror: u64, table: &mut 
     with_place(table::clear(letters, k, mirror, table))
 }
 
+// Writes the five numbers to the first places of the answer list.
 fn write_numbers(n: Numbers, answer: &mut [u64])
     requires { ⌜ 5 ≤ length (now answer) ⌝ }
     ensures { λ _. ⌜ now (answer .exit) ≡ fiveNumbers n ++ drop 5 (now (answer .entry)) ⌝ }
@@ -132,6 +138,7 @@ fn write_numbers(n: Numbers, answer: &mut [u64])
     answer[4] = n.windows as u64;
 }
 
+// Adds a file to a table; the file's five numbers go into the answer list, whose own ground 7 comes after the table's.
 #[no_mangle]
 pub extern "C" fn kmer_add(
     letters: &[u8],
@@ -161,6 +168,7 @@ pub extern "C" fn kmer_add(
     }
 }
 
+// The listing of a table.
 #[no_mangle]
 pub extern "C" fn kmer_listing(
     letters: &[u8],

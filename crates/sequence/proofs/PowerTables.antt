@@ -2,13 +2,13 @@
 use mathlib.Core.Path.{_≡_, sym, _∙_}
 use mathlib.Core.List.{List}
 use Prim.Native.Nat.{ℕ, _+_, _*_, _^_, _<_, _≤_}
-use native.Mathlib.Nat.{pow-zero, pow-suc, pow-le-pow-right, le-trans}
-use native.Mathlib.Numerals.{add-one}
+use native.Mathlib.Nat.{pow-zero}
 use native.Mathlib.Decide.{ℕ-discrete}
 use native.Mathlib.Omega.{arith}
 use lib.ListN.{length, getD, set, length-set}
 use lib.Seq.{getD-set-same, getD-set-other}
-use Rattle.laws.proofs.Powers.{exponent-le}
+use Rattle.laws.proofs.Powers.{exponent-le, pow-fits}
+use Rattle.settings.proofs.Powers.{power-next}
 use Rattle.sequence.specs.Needs.{Powers}
 
 -- The powers up to s^i are written, and p is the last of them.
@@ -30,10 +30,10 @@ module _ (s k : ℕ) where
 
   module _ (two : 1 < s) (small : s ^ k ≤ 2 ^ 62) {i p : ℕ} {table : List ℕ} (P : PowersTo s k i p table) (more : i < k) where
     next-is : p * s ≡ s ^ (i + 1)
-    next-is = rw (P .last, add-one i) (sym (pow-suc s i))
+    next-is = power-next s p i (P .last)
 
     pub power-fits : p * s ≤ 2 ^ 62
-    power-fits = rw next-is (le-trans (pow-le-pow-right (omega arith) (omega arith)) small)
+    power-fits = rw next-is (pow-fits s (i + 1) k two (omega arith) small)
 
     pub power-room : i + 1 < length table
     power-room = omega (arith, P .room, exponent-le s k two small)

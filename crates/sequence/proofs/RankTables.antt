@@ -1,7 +1,7 @@
 -- Ranks as bytes and the table of all bytes' ranks: it stands for the settings' ranks in the numbers of all windows of bytes.
 use mathlib.Core.Path.{_≡_, ap, refl, ap₂}
 use mathlib.Core.Bool.{Bool, cond, true, false, _&&_}
-use mathlib.Core.Option.{none, some, Option}
+use mathlib.Core.Option.{Option}
 use mathlib.Core.List.{List, map, [], _∷_}
 use Prim.Native.Nat.{ℕ, zero, _<_, suc}
 use native.Mathlib.Omega.{arith}
@@ -9,6 +9,7 @@ use lib.Dec.{leb}
 use lib.ListN.{length, length-map, getD, take, length-take}
 use lib.Seq.{getD-take}
 use Rattle.encoding.specs.Calls.{rankOrZero, ranksOf}
+use Rattle.encoding.proofs.LetterLoops.{or-zero-below}
 use Rattle.encoding.specs.Words.{Ranks}
 pub use Rattle.settings.proofs.RankTables.{as-none, as-itself}
 use Rattle.settings.specs.RankTables.{asRank, RankTable, RanksBelow, rankByTable}
@@ -70,11 +71,7 @@ same-codes f g k same (b ∷ bs) B = go (leb k (suc (length bs))) (same (take k 
 -- What stands for a byte in a list of ranks is below s: a rank of the table, or 0 for a byte that has none.
 module _ {s : ℕ} {table : List ℕ} (T : RanksBelow s table) (some-s : 0 < s) where
   rank-below : (b : ℕ) → b < 256 → rankOrZero (rankByTable table b) < s
-  rank-below b byte = go (rankByTable table b) refl
-    where
-      go : (r : Option ℕ) → rankByTable table b ≡ r → rankOrZero r < s
-      go none e = some-s
-      go (some x) e = T .below b x byte e
+  rank-below b byte = or-zero-below (rankByTable table b) some-s (λ x e. T .below b x byte e)
 
   pub ranks-below : (bytes : List ℕ) → Bytes bytes → Ranks s (ranksBy (rankByTable table) bytes)
   unfolding ranksBy

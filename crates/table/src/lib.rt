@@ -118,14 +118,8 @@ fn add_scanned(
     let m = st.mirror;
     let kernel = kernel_for(st.s, m);
     let powers = sequence::kernels::power_table(st.s, k);
-    let c = Coder {
-        kernel,
-        s: st.s,
-        k,
-        mirror: m,
-        palindromes: 2 * st.classes - st.words,
-    };
     let classes = st.classes as usize;
+    let c = sequence::kernels::coder_of(st, kernel);
     count_unless_full(&mut table[..classes], file, ranks, c, &powers, n)
 }
 

@@ -8,9 +8,13 @@ use lib.Seq.{length-take-le}
 use denote.Ref.{now}
 use Rattle.settings.specs.declared.Settings.{Settings}
 use Rattle.settings.specs.Settings.{mirrorOf}
-use Rattle.sequence.specs.Needs.{Takes}
+use Rattle.settings.specs.RankTables.{rankByTable}
+use Rattle.fasta.specs.File.{fileWindows}
+use Rattle.sequence.specs.declared.kernels.Coder.{Coder}
+use Rattle.sequence.specs.Needs.{Takes, coderOf}
 use Rattle.table.specs.Table.{classCount}
-use Rattle.sequence.proofs.SequenceGrounds.{coder-ready, ranks-ready, palindromes-fit, power-ready}
+use Rattle.table.specs.Needs.{codesBy}
+use Rattle.sequence.proofs.SequenceGrounds.{coder-is, coder-ready, ranks-ready, palindromes-fit, power-ready}
 use borrow.Author.Needs.{needs}
 use Rattle.table.proofs.add_scanned.Statement.{statement}
 use Rattle.table.proofs.add_scanned.Tie as tie
@@ -39,36 +43,38 @@ power-table-requires c κs =
     let p = power-ready _ _ _ (start c .pre .0) (c .kernel-for .result) (takes c) _ (start c .pre .1 .0) in
     (p .0, p .1)
 
-mul-t15 : tie.Need-mul-t15
-mul-t15 c =
-    let kernel = c .before .before in
-    record { fits = palindromes-fit _ _ _ (start kernel .pre .0) (kernel .kernel-for .result) (takes kernel) _ (start kernel .pre .1 .0) .0 }
+coder-of-requires : tie.Need-coder-of-requires
+coder-of-requires c κs =
+    let kernel = c .before in
+    let p = palindromes-fit _ _ _ (start kernel .pre .0) (kernel .kernel-for .result) (takes kernel) _ (start kernel .pre .1 .0) in
+    (p .0, p .1)
 
-sub-t16 : tie.Need-sub-t16
-sub-t16 c =
-    let kernel = c .before .before .before in
-    palindromes-fit _ _ _ (start kernel .pre .0) (kernel .kernel-for .result) (takes kernel) _ (start kernel .pre .1 .0) .1
+-- The coder is that of the settings, with the k of the call.
+made : (c : tie.After-coder-of) → c .coder-of .result ≡ coderOf (c .before .before .kernel-for .result) (start (c .before .before) .args .k) (start (c .before .before) .args .st)
+made c =
+    let kernel = c .before .before in
+    coder-is _ _ _ (start kernel .pre .0) (kernel .kernel-for .result) (takes kernel) _ (start kernel .pre .1 .0) (c .coder-of .ensures)
 
 slice-relend-prefix-count-unless-full : tie.Need-slice-relend-prefix-count-unless-full
-slice-relend-prefix-count-unless-full c = room (start (c .before .before .before))
+slice-relend-prefix-count-unless-full c = room (start (c .before .before))
 
 slice-aggregate-count-unless-full : tie.Need-slice-aggregate-count-unless-full
-slice-aggregate-count-unless-full c = sym (length-take-le _ _ (room (start (c .before .before .before .before))))
+slice-aggregate-count-unless-full c = sym (length-take-le _ _ (room (start (c .before .before .before))))
 
 count-unless-full-requires : tie.Need-count-unless-full-requires
 count-unless-full-requires c κs =
-    let powers = c .before .before .before .before in
-    let kernel = powers .before in
+    let coder = c .before .before in
+    let kernel = coder .before .before in
     let good = start kernel .pre .0 in
     let st-is = start kernel .pre .1 .0 in
     let pre = start kernel .pre .1 .1 in
-    let coding = coder-ready _ _ _ good (kernel .kernel-for .result) (takes kernel) _ st-is (powers .power-table .ensures) in
+    let coding = coder-ready _ _ _ good (kernel .kernel-for .result) (takes kernel) _ st-is (coder .before .power-table .ensures) in
     let below = ranks-ready _ _ _ good (kernel .kernel-for .result) (takes kernel) _ st-is (pre .0) in
     let a = start kernel .args in
     let n-taken = length-take-le (a .st .classes) (now (a .table)) (room (start kernel)) in
     let n-counts = n-taken ∙ classes-of (now (a .letters)) (a .k) (a .mirror) (a .st) st-is in
     let n-windows = n-windows-by-table _ _ _ _ (pre .1 .0) _ (pre .0) in
-    (coding, (below, (n-counts, (n-windows, few-windows _ _ _ _ (pre .1 .0) _ good))))
+    rw (made coder) (coding, (below, (n-counts, (n-windows, few-windows _ _ _ _ (pre .1 .0) _ good))))
 
 same-length : tie.Need-same-length
 same-length c = search needs
@@ -76,12 +82,14 @@ same-length c = search needs
 returns : tie.Need-returns
 returns c =
     let count = c .before .before in
-    let kernel = count .before .before .before .before .before .before in
+    let coder = count .before .before .before in
+    let kernel = coder .before .before in
     let good = start kernel .pre .0 in
     let st-is = start kernel .pre .1 .0 in
     let pre = start kernel .pre .1 .1 in
     let a = start kernel .args in
-    let places-are = places-by-table _ (a .k) (a .mirror) _ (now (a .file)) _ st-is (pre .0) in
+    let codes-are = ap (λ (c : Coder). codesBy c (fileWindows (rankByTable (now (a .ranks))) (c .k) (now (a .file)))) (made coder) in
+    let places-are = codes-are ∙ places-by-table _ (a .k) (a .mirror) _ (now (a .file)) _ st-is (pre .0) in
     whole-table _ _ _ _ _ good (pre .1 .1) _ (pre .1 .0) _ _ _ _ (classes-are (start kernel)) places-are (count .count-unless-full .ensures)
 
 pub add-scanned-spec : {M : Type 1} → statement M
@@ -90,8 +98,7 @@ add-scanned-spec =
     (tie.spec
     kernel-for-requires
     power-table-requires
-    mul-t15
-    sub-t16
+    coder-of-requires
     slice-relend-prefix-count-unless-full
     slice-aggregate-count-unless-full
     count-unless-full-requires
