@@ -25,7 +25,7 @@ unfolding mirrorRank
 mirrorRank-twice s Reversal a h = refl
 mirrorRank-twice s Complement a h = omega arith
 
-pub plain-lt : (s : ℕ) (w : List ℕ) → Ranks s w → plain s w < s ^ length w
+plain-lt : (s : ℕ) (w : List ℕ) → Ranks s w → plain s w < s ^ length w
 unfolding plain
 plain-lt s [] h = omega (arith, pow-zero s)
 plain-lt s (a ∷ w) h = omega (arith, plain-lt s w (h .1), pow-suc s (length w), mul-le-mul-right (s ^ length w) (h .0))

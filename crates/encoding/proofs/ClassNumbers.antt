@@ -149,7 +149,7 @@ shift-suc s n i h g =
     (shift-exponents s (n - suc (suc i)) (halfUp n - 1) (suc (suc n) - suc (suc i)) (n - suc i) (halfUp n) h
     (omega (arith, halfUp-twice n)) (omega arith) (omega arith) (omega (arith, halfUp-twice n)))
 
--- The number of classes is at most s^k.
+-- No more palindromes than words.
 pub palindromes-le : (s : ℕ) (m : Mirror) (n : ℕ) → 1 < s → palindromes s m n ≤ s ^ n
 unfolding palindromes
 palindromes-le s Reversal n hs = pow-le-pow-right (omega arith) (halfUp-le n)
@@ -159,6 +159,7 @@ palindromes-le s Complement n hs = go (isOdd n)
     go true = omega arith
     go false = pow-le-pow-right (omega arith) (halfUp-le n)
 
+-- The number of classes is at most s^k.
 pub classes-le : (s : ℕ) (m : Mirror) (n : ℕ) → 1 < s → EvenUnder s m → classes s m n ≤ s ^ n
 classes-le s m n hs he = omega (arith, twice-classes s m n he, palindromes-le s m n hs)
 

@@ -69,8 +69,8 @@ pub digits-one : (s : ℕ) (m : Mirror) (w : List ℕ) → length w ≡ 1 → mi
 unfolding digits
 digits-one s m w e = rw e (sym (plain-one s (mirrorRank s m (getD w 0 0))))
 
-pub last-lt : (s : ℕ) (w : List ℕ) → Ranks s w → (length w ≡ 0 → ⊥) → getD w (length w - 1) 0 < s
-last-lt s w h g = ranks-at s w (length w - 1) h (omega arith)
+pub last-rank-lt : (s : ℕ) (w : List ℕ) → Ranks s w → (length w ≡ 0 → ⊥) → getD w (length w - 1) 0 < s
+last-rank-lt s w h g = ranks-at s w (length w - 1) h (omega arith)
 
 -- A canonical word of two letters or more, as `digits_value` has it past its two tests.
 pub record LongCanonical (s : ℕ) (m : Mirror) (w : List ℕ) : Type 0 where
@@ -147,7 +147,7 @@ module _ {s : ℕ} {m : Mirror} {w : List ℕ} (L : LongCanonical s m w) where
         few = L .fits .few;
         long = omega arith;
         less = omega arith;
-        rank = mirrorRank-lt s m (getD w (length w - 1) 0) (last-lt s w (L .fits .word .ranks) (L .not-none));
+        rank = mirrorRank-lt s m (getD w (length w - 1) 0) (last-rank-lt s w (L .fits .word .ranks) (L .not-none));
       }
 
   value-differ : (getD w 0 0 ≡ mirrorRank s m (getD w (length w - 1) 0) → ⊥)

@@ -23,7 +23,7 @@ use Rattle.encoding.proofs.Canonical.{IsCanonical, mirrorRank-lt, mirro
 use Rattle.encoding.proofs.Recursion.{codeRec, code-is, codeRec-same, codeRec-differ}
 use Rattle.encoding.proofs.Codes.{is-canonical}
 
--- Two words with as many letters within that are equal have equal first letters and equal words within.
+-- Two equal lists of one length are equal without their last letters.
 tails-equal : (n b d : ℕ) (u v : List ℕ) → length u ≡ n → length v ≡ n → u ++ (b ∷ []) ≡ v ++ (d ∷ []) → u ≡ v
 tails-equal n b d u v lu lv e = sym (take-at u (b ∷ []) n lu) ∙ ap (take n) e ∙ take-at v (d ∷ []) n lv
 

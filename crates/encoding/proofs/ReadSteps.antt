@@ -185,8 +185,8 @@ module _ {s : ℕ} {m : Mirror} {out : List ℕ} {q : ℕ} (F : FitHighCode s m 
   pub right-lt : pairOfRank (s - 1) (q / p) .1 < s
   right-lt = omega (arith, rank-of-pair s (q / p) rank-lt .0 .within, F .limits .two)
 
-  pub rest-lt : (n : ℕ) → n ≡ length out - 2 → q % p < s ^ n
-  rest-lt n e = rw e (subst (λ (x : ℕ). q % p < x) z (mod-lt q p-pos))
+  pub remainder-lt : (n : ℕ) → n ≡ length out - 2 → q % p < s ^ n
+  remainder-lt n e = rw e (subst (λ (x : ℕ). q % p < x) z (mod-lt q p-pos))
 
 pub none-word : (s : ℕ) (m : Mirror) (q : ℕ) (out : List ℕ) → length out ≡ 0 → out ≡ wordOf s m (length out) q
 unfolding wordOf

@@ -57,10 +57,11 @@ digits-part s m i n w h =
     ap (digits s m (suc (suc n))) (part-ends i n w h)
     ∙ digits-ends s m n (getD w i 0) (getD w (i + suc n) 0) (part (suc i) n w) (length-part (suc i) n w (omega arith))
 
--- The value of the digits of a part, from the value of those of the part within.
+-- The value of the two digits of a pair, as the code sums it up.
 two-digits : (s R p q x : ℕ) → q ≡ p * s → (R / s + 1) * q + (R % s * p + x) ≡ (R + s) * p + x
 two-digits s R p q x e = pair-value s R p q x e ∙ omega (arith, e)
 
+-- The value of the digits of a part, from the value of those of the part within.
 pub value-part : (s : ℕ) (m : Mirror) (i n : ℕ) (w : List ℕ) → i + suc (suc n) ≤ length w
     → plain s (digits s m (suc (suc n)) (part i (suc (suc n)) w))
     ≡ cond (eqb (getD w i 0) (mirrorRank s m (getD w (i + suc n) 0)))

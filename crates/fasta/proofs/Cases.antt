@@ -156,6 +156,7 @@ empty-file : numbersOfFile [] ≡ five 0 0 0 0 0
 unfolding numbersOfFile
 empty-file = refl
 
+-- And it has no fault: neither 10 nor 11 refuses it.
 empty-faultless : fileFault [] ≡ none
 unfolding isLetter lfNext lineItem item next itemsFrom faultFrom
 empty-faultless = refl

@@ -12,8 +12,7 @@ use lib.Dec.{eqb}
 use borrow.Author.Tests.{ne-eqb, eqb-true, lt-ltb, le-ltb}
 use Rattle.fasta.specs.declared.records.Found.{Found}
 use Rattle.fasta.specs.declared.records.Found.the-variants.{Record, Nothing}
-use Rattle.fasta.specs.Records.{isLf, isHeader, firstFrom, headerAt, lineEnd, headerLength, recordTo, recordOf, recordFrom}
-use Rattle.fasta.specs.Records.{headersFrom, recordsFrom, allRecords, Reads, ended, given}
+use Rattle.fasta.specs.Records.{isLf, isHeader, firstFrom, headerAt, lineEnd, headerLength, recordTo, recordOf, recordFrom, headersFrom, recordsFrom, allRecords, Reads, ended, given}
 
 -- ---- the first of some places
 

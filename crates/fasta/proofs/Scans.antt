@@ -124,7 +124,7 @@ module _ (rank : ℕ → Option ℕ) (k : ℕ) where
   told (Letter b ∷ is) at t r e = lettered b is (told is) at t r e
 
   -- The machine's answer on a whole file: the first fault, or the five numbers.
-  pub scan-is : (is : List Item) → 1 ≤ k → scanFrom rank k 0 nothingYet is ≡ outcome (faultFrom false 0 is) (numbersIn rank k is)
+  scan-is : (is : List Item) → 1 ≤ k → scanFrom rank k 0 nothingYet is ≡ outcome (faultFrom false 0 is) (numbersIn rank k is)
   unfolding Told
   scan-is is h =
       told is 0 nothingYet [] refl

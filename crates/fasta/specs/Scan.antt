@@ -1,4 +1,4 @@
--- The answer of a scan: a file's five numbers, or the first ground for refusing it.
+-- Document 01, "Sequence file (FASTA)" and "Grounds for refusing": the answer of a scan, a file's five numbers or the first ground for refusing it.
 use Prim.Native.Nat.{ℕ}
 use mathlib.Core.Bool.{Bool}
 use mathlib.Core.Option.{Option}

@@ -1,6 +1,6 @@
 -- What the calls that return P rest on: the number of a refusal is small, and so is the P of each call, so that one number holds both; and the
 -- answer and buffer of such a call, from those of the call below it.
-use mathlib.Core.Path.{_≡_, refl, sym, ap, _∙_, subst⁻¹}
+use mathlib.Core.Path.{_≡_, refl, ap, _∙_, subst⁻¹}
 use mathlib.Core.Bool.{Bool}
 use mathlib.Core.Option.{Option, none, some}
 use mathlib.Core.List.{List, [], _∷_}

@@ -1,4 +1,5 @@
--- What adding a file through the C call returns and leaves: the file's five numbers go into a lent list of 64-bit numbers.
+-- Document 01, "Sequence file (FASTA)" and "Grounds for refusing": what adding a file through the C call returns and leaves. The file's five numbers
+-- go into a lent list of 64-bit numbers.
 use mathlib.Core.Path.{_≡_}
 use mathlib.Core.Option.{Option}
 use mathlib.Core.List.{List, [], _∷_}

@@ -85,10 +85,10 @@ prefix-ends s n a x b e hs hb h =
 pub prefix-lt : (s n x e : ℕ) → 1 < s → e ≤ n → x < s ^ n → x / s ^ e < s ^ (n - e)
 prefix-lt s n x e hs h hx = div-lt-iff-lt-mul (pow-pos s e hs) .1 (subst (λ (y : ℕ). x < y) (pow-split s n e h) hx)
 
--- Two numbers of a digit and a rest below q that are equal have equal digits and equal rests.
+-- Two equal numbers of a digit and a rest below q have equal digits.
 pub digits-first : (q a c x y : ℕ) → x < q → y < q → a * q + x ≡ c * q + y → a ≡ c
 digits-first q a c x y hx hy e = sym (digits-div a hx) ∙ ap (λ (z : ℕ). z / q) e ∙ digits-div c hy
 
--- Equal numbers have equal last digits.
+-- And equal rests.
 pub digits-rest : (q a c x y : ℕ) → x < q → y < q → a * q + x ≡ c * q + y → x ≡ y
 digits-rest q a c x y hx hy e = sym (digits-mod a hx) ∙ ap (λ (z : ℕ). z % q) e ∙ digits-mod c hy

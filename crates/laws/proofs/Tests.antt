@@ -1,6 +1,6 @@
--- Laws of tests: a value that a test decides, two tests that hold together or fail, and what is so of a number past the test for 0.
+-- Laws of tests: a value that a test decides, tests that are equal, the second of two that fail together, and what is so of a number past the test for 0.
 use mathlib.Core.Path.{_≡_, refl, sym}
-use mathlib.Core.Bool.{Bool, true, false, cond, _&&_, _||_, false≢true}
+use mathlib.Core.Bool.{Bool, true, false, cond, _&&_, false≢true}
 use Prim.Native.Nat.{ℕ, zero, suc}
 
 -- What both sides of a test have, its value has.
@@ -13,11 +13,6 @@ pub bool-ext : (x y : Bool) → (x ≡ true → y ≡ true) → (y ≡ true → 
 bool-ext true y h g = sym (h refl)
 bool-ext false true h g = g refl
 bool-ext false false h g = refl
-
--- Where it is false that one of two holds, both are false. (The library has `and-eq-true-iff`, for what is true.)
-pub both-fail : (a b : Bool) → (a || b) ≡ false → (a ≡ false) × (b ≡ false)
-both-fail true b e = absurd (false≢true (sym e))
-both-fail false b e = (refl, e)
 
 -- Where it is false that both hold and the first does, the second is false.
 pub second-fails : (a b : Bool) → (a && b) ≡ false → a ≡ true → b ≡ false

@@ -23,6 +23,7 @@ listed letters k mirror table = listing letters k mirror table
 abbrev worked-counts : List ℕ
 worked-counts = 0 ∷ 1 ∷ 1 ∷ 0 ∷ 2 ∷ 2 ∷ 0 ∷ 0 ∷ 0 ∷ 0 ∷ 7 ∷ 7 ∷ []
 
+-- Document 01's worked example: the survey line, a line for each of the four classes with a count, the total.
 worked-example : listed (bytes "ACGT") 2 1 worked-counts
     ≡ bytes "(survey (letters ACGT) (k 2) (mirror complement))\n(count CG 1)\n(count GC 1)\n(count AG 2)\n(count AC 2)\n(total 6)\n"
 unfolding listed

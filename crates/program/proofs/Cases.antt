@@ -38,7 +38,7 @@ outputOf input = programText (bytes input)
 abbrev Gives : String → String → Type 0
 Gives input output = outputOf input ≡ bytes output
 
--- The refusal of an input that is no survey line, of settings, of a file.
+-- The refusals of inputs that start with no survey line (13), and of settings (1 to 4).
 refusals :
     Gives "" "(refused 13 0)\n"
     × Gives "(survey (letters ACGT) (k 2))\n>a\nAC\n" "(refused 13 0)\n"

@@ -3,11 +3,12 @@ use mathlib.Core.Path.{_≡_, ap, refl, ap₂}
 use mathlib.Core.Bool.{Bool, cond, true, false, _&&_}
 use mathlib.Core.Option.{Option}
 use mathlib.Core.List.{List, map, [], _∷_}
-use Prim.Native.Nat.{ℕ, zero, _<_, suc}
+use Prim.Native.Nat.{ℕ, _<_, suc}
 use native.Mathlib.Omega.{arith}
 use lib.Dec.{leb}
 use lib.ListN.{length, length-map, getD, take, length-take}
 use lib.Seq.{getD-take}
+use Rattle.laws.proofs.Lists.{getD-map-in}
 use Rattle.encoding.specs.Calls.{rankOrZero, ranksOf}
 use Rattle.encoding.proofs.LetterLoops.{or-zero-below}
 use Rattle.encoding.specs.Words.{Ranks}
@@ -34,9 +35,7 @@ length-ranks-by rank bytes = length-map bytes (λ (b : ℕ). rankOrZero (rank b)
 
 pub ranks-by-at : (rank : ℕ → Option ℕ) (bytes : List ℕ) (i : ℕ) → i < length bytes → getD (ranksBy rank bytes) i 0 ≡ rankOrZero (rank (getD bytes i 0))
 unfolding ranksBy
-ranks-by-at rank [] i h = absurd (omega arith)
-ranks-by-at rank (b ∷ bs) zero h = refl
-ranks-by-at rank (b ∷ bs) (suc i) h = ranks-by-at rank bs i (omega arith)
+ranks-by-at rank bytes i h = getD-map-in (λ (b : ℕ). rankOrZero (rank b)) bytes i h
 
 -- ---- what is worked out by the table
 

@@ -9,8 +9,6 @@ use native.Mathlib.Omega.{arith}
 use lib.ListN.{drop, length}
 use lib.Dec.{ltb}
 use borrow.Author.Tests.{ltb-false}
--- Two tests of one ground both fail where it does not apply.
-pub use Rattle.laws.proofs.Tests.{both-fail}
 use Rattle.settings.specs.Grounds.{refused, Ground, outcome, _orElse_, given, ground, groundAt, tooShort, unlessRefused, Overwrites}
 
 -- A call refused by the grounds g is refused alike by g with more grounds after it, whatever value is at stake.

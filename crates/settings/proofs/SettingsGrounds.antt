@@ -8,8 +8,9 @@ use native.Mathlib.Omega.{arith}
 use borrow.Author.Tests.{lt-ltb, eq-eqb, ne-eqb, not-false, ltb-false, eqb-false}
 use lib.Dec.{ltb, eqb}
 use lib.ListN.{length}
+use mathlib.Mathlib.Data.Bool.Basic.{or-eq-false-eq-eq-false-and-eq-false}
 use Rattle.laws.proofs.Powers.{exponent-le}
-use Rattle.laws.proofs.Tests.{both-fail, second-fails}
+use Rattle.laws.proofs.Tests.{second-fails}
 use Rattle.settings.specs.Grounds.{ground, refused, outcome, given}
 use Rattle.settings.specs.Limits.{EvenUnder, Limits}
 use Rattle.settings.specs.Settings.{goodLetters, settingsGround, settingsOf, isOdd, badSize, settingsFor, mirrorOf, classes}
@@ -64,7 +65,7 @@ good-settings l k m e =
     let good : true ≡ goodLetters l = sym (not-false (goodLetters l) (test-fails 1 _ (first-none _ _ e))) in
     let not-odd : m ≡ 1 → eqb (length l % 2) 1 ≡ false =
     λ h. second-fails (eqb m 1) (eqb (length l % 2) 1) (test-fails 3 _ (first-none _ _ g3)) (eq-eqb m 1 h) in
-    let size = both-fail (eqb k 0) (ltb (2 ^ 62) (length l ^ k)) (test-fails 4 _ g4) in
+    let size = or-eq-false-eq-eq-false-and-eq-false (eqb k 0) (ltb (2 ^ 62) (length l ^ k)) .0 (test-fails 4 _ g4) in
     let two = good-at-least l good in
     let small = ltb-false (2 ^ 62) (length l ^ k) (size .1) in
     record {

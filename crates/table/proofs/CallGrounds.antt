@@ -1,5 +1,6 @@
 -- The grounds of the table calls one after the other, as the calls meet them: what is answered and left at each.
-use mathlib.Core.Path.{_≡_, refl, sym, ap, _∙_, subst}
+use mathlib.Core.Path.{_≡_, sym, ap, _∙_, subst}
+use mathlib.Mathlib.Data.Bool.Basic.{or-eq-false-eq-eq-false-and-eq-false}
 use Prim.Native.Nat.{ℕ, _<_, _≤_}
 use native.Mathlib.Omega.{arith}
 use mathlib.Core.Bool.{true, false, _||_}
@@ -12,7 +13,7 @@ use Rattle.settings.specs.declared.Checked.{Checked}
 use Rattle.settings.specs.declared.Checked.the-variants.{Good}
 use Rattle.settings.specs.Grounds.{Ground, Outcome, given, refused, ground, groundAt, tooShort, outcome, unlessRefused, _orElse_}
 use Rattle.settings.specs.Settings.{rankIn, mirrorOf, classes, settingsGround, settingsOf, ofChecked}
-use Rattle.settings.proofs.Outcomes.{refused-on, refused-leaves, Passed, passed, first-none, later-none, test-fails, both-fail, nowhere-met, room-enough, kept-by, set-by, kept-on}
+use Rattle.settings.proofs.Outcomes.{refused-on, refused-leaves, Passed, passed, first-none, later-none, test-fails, nowhere-met, room-enough, kept-by, set-by, kept-on}
 use Rattle.settings.proofs.SettingsGrounds.{Known, known, good-settings}
 use Rattle.encoding.specs.Codes.{code}
 use Rattle.fasta.specs.declared.Numbers.{Numbers}
@@ -75,9 +76,11 @@ module _ (n : Numbers) (ps counts : List ℕ) where
 -- Where ground 6 does not apply, the file is short enough and the classes are few enough.
 module _ (letters : List ℕ) (k m : ℕ) (file : List ℕ) (e : ground 6 (tooLong file || tooMany (classCount letters k m)) ≡ none) where
   neither : (tooLong file ≡ false) × (tooMany (classCount letters k m) ≡ false)
-  neither = both-fail (tooLong file) (tooMany (classCount letters k m)) (test-fails 6 (tooLong file || tooMany (classCount letters k m)) e)
+  neither =
+      or-eq-false-eq-eq-false-and-eq-false (tooLong file) (tooMany (classCount letters k m)) .0
+      (test-fails 6 (tooLong file || tooMany (classCount letters k m)) e)
 
-  pub file-short : length file ≤ 16777216
+  file-short : length file ≤ 16777216
   unfolding tooLong
   file-short = ltb-false 16777216 (length file) (neither .0)
 

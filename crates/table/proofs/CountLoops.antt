@@ -21,8 +21,8 @@ pub record CountingOn (counts₀ codes counts : List ℕ) (i : ℕ) : Type 0 whe
   pub room : Room (length codes - i) counts
   pub below : Each (Below (length counts₀)) codes
 
-pub counting-none : (counts codes : List ℕ) → Room (length codes) counts → Each (Below (length counts)) codes → CountingOn counts codes counts 0
-counting-none counts codes R B =
+pub counting-on-none : (counts codes : List ℕ) → Room (length codes) counts → Each (Below (length counts)) codes → CountingOn counts codes counts 0
+counting-on-none counts codes R B =
     let z : length codes - 0 ≡ length codes = omega arith in
     record { inside = omega arith; same-length = refl; left = refl; room = rw z R; below = B }
 

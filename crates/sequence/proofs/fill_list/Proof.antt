@@ -3,9 +3,8 @@ use mathlib.Core.Path.{sym, ap, _∙_}
 use borrow.Author.Needs.{needs}
 use denote.Ref.{now}
 use Rattle.sequence.proofs.SequenceGrounds.{settings-refused}
-use Rattle.settings.specs.Settings.{settingsGround, settingsOf}
+use Rattle.settings.specs.Settings.{settingsGround, settingsOf, ofChecked}
 use Rattle.settings.proofs.Outcomes.{passed}
-use Rattle.settings.specs.Settings.{ofChecked}
 use Rattle.sequence.proofs.fill_list.Statement.{statement}
 use Rattle.sequence.proofs.fill_list.Tie as tie
 

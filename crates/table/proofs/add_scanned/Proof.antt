@@ -50,7 +50,8 @@ coder-of-requires c κs =
     (p .0, p .1)
 
 -- The coder is that of the settings, with the k of the call.
-made : (c : tie.After-coder-of) → c .coder-of .result ≡ coderOf (c .before .before .kernel-for .result) (start (c .before .before) .args .k) (start (c .before .before) .args .st)
+made : (c : tie.After-coder-of)
+    → let kernel = c .before .before in c .coder-of .result ≡ coderOf (kernel .kernel-for .result) (start kernel .args .k) (start kernel .args .st)
 made c =
     let kernel = c .before .before in
     coder-is _ _ _ (start kernel .pre .0) (kernel .kernel-for .result) (takes kernel) _ (start kernel .pre .1 .0) (c .coder-of .ensures)

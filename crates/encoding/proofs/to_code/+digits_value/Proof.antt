@@ -5,7 +5,7 @@ use Prim.Native.Nat.{_-_, ℕ, _<_}
 use native.Mathlib.Omega.{arith}
 use denote.Ref.{now}
 use lib.ListN.{length, take, drop}
-use Rattle.encoding.proofs.DigitValues.{digits-none, last-lt, digits-one, LongCanonical, shorter, inner-canonical, value-equal, value-small, fit-differing, differing-answer}
+use Rattle.encoding.proofs.DigitValues.{digits-none, last-rank-lt, digits-one, LongCanonical, shorter, inner-canonical, value-equal, value-small, fit-differing, differing-answer}
 use borrow.Fn.Kinds.{In}
 use borrow.Fn.PlainCycle.{Measures, is, falls, and}
 use Rattle.encoding.proofs.to_code.digits_value.Reads as digits-value
@@ -69,7 +69,7 @@ digits-value-shared-slice-read-mirror-rank t c = omega arith
 digits-value-mirror-rank-requires : (t : ℕ) → digits-value-lts.Need-mirror-rank-requires (claims t) (digits-value-at t) digits-value.Post
 digits-value-mirror-rank-requires t c κs =
     let start = c .before .before .before in
-    last-lt (start .args .s) (start .args .w .now) (start .pre .1 .word .ranks) (c .before .if1 .left)
+    last-rank-lt (start .args .s) (start .args .w .now) (start .pre .1 .word .ranks) (c .before .if1 .left)
 
 digits-value-returns-2 : (t : ℕ) → digits-value-lts.Need-returns-2 (claims t) (digits-value-at t) digits-value.Post
 digits-value-returns-2 t c =

@@ -6,7 +6,7 @@ use borrow.Author.Needs.{needs}
 use denote.Ref.{now}
 use lib.ListN.{length}
 use Rattle.settings.proofs.Powers.{capped}
-use Rattle.encoding.proofs.ReadSteps.{p-pos, rank-below, right-lt, rest-lt, part-length, high-word}
+use Rattle.encoding.proofs.ReadSteps.{p-pos, rank-below, right-lt, remainder-lt, part-length, high-word}
 use Rattle.encoding.proofs.to_word.fill_differing.Statement.{statement}
 use Rattle.encoding.proofs.to_word.fill_differing.Tie as tie
 
@@ -63,7 +63,7 @@ fill-plain-requires c κs =
     let power = ends .before .before .before .before in
     let pre = start power .pre in
     let inner-length = part-length (now (start power .args .out)) _ (pre .long) _ _ (ends .set-ends .ensures) in
-    (pre .limits .two, rest-lt pre (p-is power) _ inner-length)
+    (pre .limits .two, remainder-lt pre (p-is power) _ inner-length)
 
 same-length : tie.Need-same-length
 same-length c = search needs

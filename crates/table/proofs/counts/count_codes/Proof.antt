@@ -2,7 +2,7 @@
 use Prim.Native.Nat.{_-_}
 use native.Mathlib.Omega.{arith}
 use lib.ListN.{length}
-use Rattle.table.proofs.CountLoops.{CountingOn, counting-none, can-count, counts-on, counted-all}
+use Rattle.table.proofs.CountLoops.{CountingOn, counting-on-none, can-count, counts-on, counted-all}
 use Rattle.table.proofs.counts.count_codes.Statement.{statement}
 use Rattle.table.proofs.counts.count_codes.Tie as tie
 
@@ -13,7 +13,7 @@ abbrev μ-loop : tie.MeasureT-loop
 μ-loop counts₀ codes i₀ counts i = length codes - i
 
 loop-holds : tie.Need-loop-holds Inv-loop μ-loop
-loop-holds c = let pre = c .before .before .pre in counting-none _ _ (pre .0) (pre .1)
+loop-holds c = let pre = c .before .before .pre in counting-on-none _ _ (pre .0) (pre .1)
 
 mul-t5 : tie.Need-mul-t5 Inv-loop μ-loop
 mul-t5 c = omega arith
