@@ -1,4 +1,4 @@
--- What the proofs of the C calls cite.
+-- What the proofs of the C calls cite; last, the theorem of demand 3 of these calls.
 pub mod Refusals
 pub mod Adding
 pub mod Listings

@@ -1,3 +1,3 @@
--- Laws of the program's output.
+-- Computed cases, and laws of the program's output.
 pub mod Cases
 pub mod Outputs
