@@ -11,7 +11,7 @@ use lib.ListN.{length}
 use borrow.Author.Tests.{eqb-true, not-false, ltb-false}
 use Rattle.laws.specs.Windows.{windows}
 use Rattle.laws.proofs.Windows.{length-windows}
-use Rattle.laws.proofs.Powers.{exponent-le}
+use Rattle.settings.proofs.Limits.{k-at-most}
 use Rattle.settings.specs.declared.Refusal.{Refusal}
 use Rattle.settings.specs.declared.Refusal.the-variants.{BadLetters, BadMirror, OddComplement, BadK, WrongLength, TooLarge, ShortBuffer, NoSuchCode, ForeignByte, StrayByte, EarlyLetter, CountsFull, NoSurveyLine, LongInput}
 use Rattle.settings.specs.Grounds.{Ground, Outcome, refused, groundOf, ground, groundAt, tooShort, outcome, _orElse_, Overwrites}
@@ -84,7 +84,7 @@ mirror-small letters k m word room =
     then-small 62 (settingsGround letters k m) (g5 orElse g7 orElse g9) (settings-small letters k m 62)
     (λ passed.
     let s = limits letters k m passed in
-    let k-small : k ≤ 62 = exponent-le (length letters) k (s .two) (s .small) in
+    let k-small : k ≤ 62 = k-at-most s in
     then-small 62 g5 (g7 orElse g9) (test-small 62 5 (wrongLength k word))
     (λ right.
     let l : length word ≡ k = eqb-true (length word) k (not-false _ (test-fails 5 (wrongLength k word) right)) in

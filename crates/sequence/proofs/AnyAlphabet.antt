@@ -4,13 +4,14 @@ use mathlib.Core.Path.{_≡_, refl, sym, ap, _∙_}
 use mathlib.Core.List.{List, [], _∷_}
 use mathlib.Core.Logic.{_≢_}
 use Prim.Native.Nat.{ℕ, suc, _+_, _-_, _*_, _/_, _^_, _<_, _≤_, min, max}
-use native.Mathlib.Nat.{pow-suc, pow-le-pow-right, mul-le-mul-left, mul-le-mul-right, lt-of-lt-of-le, le-trans}
+use native.Mathlib.Nat.{pow-suc, pow-le-pow-right, mul-le-mul-left, mul-le-mul-right, lt-of-lt-of-le}
 use native.Mathlib.Numerals.{add-one}
 use native.Mathlib.Omega.{arith}
 use lib.Arith.{digits-div}
 use lib.ListN.{length, getD}
 use Rattle.settings.specs.Limits.{EvenUnder}
-use Rattle.laws.proofs.Powers.{pow-one, exponent-le}
+use Rattle.laws.proofs.Powers.{pow-one, pow-fits}
+use Rattle.settings.proofs.Limits.{k-at-most}
 use Rattle.encoding.specs.Words.{Mirror, mirrorRank, mirror, plain}
 use Rattle.encoding.specs.Codes.{pairRank, code}
 use Rattle.encoding.specs.Needs.{palindromes}
@@ -24,10 +25,10 @@ use Rattle.sequence.proofs.WindowEnds.{code-lt, differ-is, same-is, for
 
 module _ {s : ℕ} {m : Mirror} {k : ℕ} {pw d : List ℕ} (I : Input s m k pw d) where
   pub k-lt : k < 64
-  k-lt = omega (arith, exponent-le s k (I .limits .two) (I .limits .small))
+  k-lt = omega (arith, k-at-most (I .limits))
 
   pub power-fits : (i : ℕ) → i ≤ k → s ^ i ≤ 2 ^ 62
-  power-fits i h = le-trans (pow-le-pow-right (omega (arith, I .limits .two)) h) (I .limits .small)
+  power-fits i h = pow-fits s i k (I .limits .two) h (I .limits .small)
 
 module _ {s : ℕ} {m : Mirror} {k : ℕ} {pw d : List ℕ} {j : ℕ} {t : Inner} (W : Window s m k pw d j t) where
   two : 1 < s

@@ -7,7 +7,7 @@ use mathlib.Core.List.{List, [], _++_, map-append}
 use lib.ListN.{length, take, drop, length-append, length-map, length-drop}
 use lib.Seq.{take-at, drop-at, take-add, length-take-le}
 use Rattle.settings.specs.Settings.{classes}
-use Rattle.laws.proofs.Powers.{exponent-le}
+use Rattle.settings.proofs.Limits.{k-at-most}
 use Rattle.encoding.specs.Words.{Ranks, IsWord}
 use Rattle.encoding.specs.Codes.{code}
 use Rattle.encoding.proofs.WordParts.{ranks-drop}
@@ -92,7 +92,7 @@ pub record Counting (c : Coder) (table file counts₀ counts array : List ℕ) (
 
 module _ {c : Coder} {powers : List ℕ} (C : ReadyCoder c powers) where
   pub short-words : c .k ≤ 62
-  short-words = exponent-le (c .s) (c .k) (C .limits .two) (C .limits .small)
+  short-words = k-at-most (C .limits)
 
   pub counting-none : (table file counts array : List ℕ) → length array ≡ 1024 → Room (length (fileWindows (rankByTable table) (c .k) file)) counts
       → Counting c table file counts counts array 0 Start 0

@@ -9,7 +9,7 @@ use Rattle.sequence.specs.Needs.{codeBy}
 use Rattle.sequence.specs.Windows.{windows}
 use Rattle.sequence.proofs.Pieces.{Batch, batch-of, batch-less, batch-next, batch-from, batch-room, batches-none, batches-all}
 use Rattle.laws.proofs.Buffers.{Written, written-length}
-use Rattle.laws.proofs.Powers.{exponent-le}
+use Rattle.settings.proofs.Limits.{k-at-most}
 use Rattle.sequence.proofs.batches.fill_sequence.Statement.{statement}
 use Rattle.sequence.proofs.batches.fill_sequence.Tie as tie
 
@@ -30,7 +30,7 @@ batch c =
     let a = start c .args in
     let l = start c .pre .0 .limits in
     let more : c .before .before .loop .at + a .c .k ≤ length (now (a .sequence)) = omega (arith, c .before .loop-test .taken) in
-    batch-of (exponent-le _ _ (l .two) (l .small)) more (c .batch-end .ensures)
+    batch-of (k-at-most l) more (c .batch-end .ensures)
 
 from : (c : tie.After-batch-end Inv-loop μ-loop) → c .before .before .loop .at ≤ length (c .before .before .loop .list)
 from c = batch-from _ (start c .pre .0 .some) (now (start c .args .sequence)) (c .before .before .loop .inv .0) (batch c)
@@ -42,7 +42,7 @@ add-loop : tie.Need-add-loop Inv-loop μ-loop
 add-loop c =
     let begin = c .before .before .before in
     let l = begin .pre .0 .limits in
-    omega (arith, exponent-le _ _ (l .two) (l .small), c .loop .inv .1, begin .good)
+    omega (arith, k-at-most l, c .loop .inv .1, begin .good)
 
 batch-end-requires : tie.Need-batch-end-requires Inv-loop μ-loop
 batch-end-requires c κs = c .before .loop .inv .1
