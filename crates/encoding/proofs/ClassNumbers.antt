@@ -50,7 +50,7 @@ unfolding isOdd
 odd-even-pow s zero h e = absurd (false≢true e)
 odd-even-pow s (suc n) h e = even-pow s n h
 
--- Twice the number of classes is s^n and the number of palindromes: the division by 2 in `classes` loses nothing.
+-- Twice the number of classes is s^n and the number of palindromes, for even s under complement: the division by 2 in `classes` loses nothing.
 pub twice-classes : (s : ℕ) (m : Mirror) (n : ℕ) → EvenUnder s m → 2 * classes s m n ≡ s ^ n + palindromes s m n
 unfolding classes palindromes
 twice-classes s Reversal n h = let (t, e) = same-parity s n in omega arith
@@ -70,7 +70,7 @@ palindromes-suc s Complement n = rw (halfUp-suc n, isOdd-suc n) (go (isOdd n))
     go true = omega arith
     go false = omega (arith, pow-suc s (halfUp n))
 
--- classes(n + 2) = s classes(n) + s(s - 1)/2 s^n: equal outer letters around each class, or a pair that differs around each word.
+-- classes(n + 2) = s classes(n) + s(s - 1)/2 s^n, for even s under complement: equal outer letters around each class, or a pair that differs around each word.
 pub classes-suc : (s : ℕ) (m : Mirror) (n : ℕ) → EvenUnder s m → classes s m (suc (suc n)) ≡ s * classes s m n + pairCount s * s ^ n
 classes-suc s m n h =
     omega (

@@ -31,7 +31,7 @@ module _ (s : ℕ) (m : Mirror) (hs : 1 < s) (he : EvenUnder s m) where
   one-low a h g = code-low 1 (a ∷ []) refl (h, tt) (one-canonical s m a g)
 
   module _ (n a b : ℕ) (u : List ℕ) (l : length u ≡ n) (h : Ranks s (a ∷ (u ++ (b ∷ [])))) where
-    -- Of a word read backwards.
+    -- Of the word's mirror, by its ends.
     turned-ranks : Ranks s (mirrorRank s m b ∷ (mirror s m u ++ (mirrorRank s m a ∷ [])))
     turned-ranks =
         let first = mirrorRank-lt s m a (first-lt s m n a b u l h) in

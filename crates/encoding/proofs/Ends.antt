@@ -1,13 +1,13 @@
 -- A word from both ends: a ∷ (u ++ (b ∷ [])), where u is two letters shorter. The induction by it, and what each definition is at such a word,
 -- so that the laws of codes do without take, drop and getD.
-use mathlib.Core.Path.{_≡_, sym, ap, _∙_, subst⁻¹}
+use mathlib.Core.Path.{_≡_, sym, ap, _∙_, subst, subst⁻¹}
 use mathlib.Core.Bool.{Bool, cond}
 use mathlib.Core.List.{List, [], _∷_, _++_, map, map-append, reverse, reverse-append, reverse-cons}
 use Prim.Native.Nat.{ℕ, zero, suc, _+_, _*_, _/_, _%_, _^_, _<_}
 use native.Mathlib.Nat.{pow-zero}
 use native.Mathlib.Omega.{arith}
 use lib.Dec.{eqb}
-use lib.ListN.{length, getD, take, length-append, length-map, length-reverse}
+use lib.ListN.{length, getD, take, drop, take-append-drop, length-append, length-map, length-reverse}
 use lib.Seq.{take-at, getD-at, take-suc, take-all, length-take-le}
 use Rattle.laws.proofs.Each.{each-append}
 use Rattle.laws.proofs.Powers.{pow-one}
@@ -56,6 +56,12 @@ Ranks-left s (a ∷ u) v h = (h .0, Ranks-left s u v (h .1))
 pub Ranks-right : (s : ℕ) (u v : List ℕ) → Ranks s (u ++ v) → Ranks s v
 Ranks-right s [] v h = h
 Ranks-right s (a ∷ u) v h = Ranks-right s u v (h .1)
+
+pub ranks-take : (s i : ℕ) (w : List ℕ) → Ranks s w → Ranks s (take i w)
+ranks-take s i w h = Ranks-left s (take i w) (drop i w) (subst (Ranks s) (sym (take-append-drop i w)) h)
+
+pub ranks-drop : (s i : ℕ) (w : List ℕ) → Ranks s w → Ranks s (drop i w)
+ranks-drop s i w h = Ranks-right s (take i w) (drop i w) (subst (Ranks s) (sym (take-append-drop i w)) h)
 
 pub Ranks-ends : (s a b : ℕ) (u : List ℕ) → a < s → b < s → Ranks s u → Ranks s (a ∷ (u ++ (b ∷ [])))
 Ranks-ends s a b u ha hb hu = (ha, each-append (λ (x : ℕ). x < s) u (b ∷ []) hu (hb, tt))

@@ -3,9 +3,9 @@
 use mathlib.Core.Path.{_≡_, refl, sym, ap, _∙_}
 use mathlib.Core.Logic.{⊎-elim, _↔_}
 use mathlib.Core.List.{List, [], _∷_, _++_}
-use Prim.Native.Nat.{ℕ, suc, _+_, _-_, _*_, _<_}
-use native.Mathlib.Nat.{pow-zero, mul-le-mul-left}
-use native.Mathlib.Decide.{ℕ-discrete, decLe}
+use Prim.Native.Nat.{ℕ, suc, _+_, _-_, _<_}
+use native.Mathlib.Nat.{pow-zero, mul-le-mul-left, lt-of-mul-lt-mul-left}
+use native.Mathlib.Decide.{ℕ-discrete}
 use native.Mathlib.Omega.{arith}
 use lib.Arith.{digits-lt}
 use lib.ListN.{length, take}
@@ -26,13 +26,6 @@ use Rattle.encoding.proofs.Codes.{is-canonical}
 -- Two equal lists of one length are equal without their last letters.
 tails-equal : (n b d : ℕ) (u v : List ℕ) → length u ≡ n → length v ≡ n → u ++ (b ∷ []) ≡ v ++ (d ∷ []) → u ≡ v
 tails-equal n b d u v lu lv e = sym (take-at u (b ∷ []) n lu) ∙ ap (take n) e ∙ take-at v (d ∷ []) n lv
-
-lt-scaled : (s c r p : ℕ) → s * c + r < s * p → c < p
-lt-scaled s c r p h =
-    elim (decLe p c) as (λ _. c < p) [
-      | yes le ↦ absurd (omega (arith, mul-le-mul-left s le))
-      | no gt ↦ omega arith
-    ]
 
 -- ---- canonical words
 
@@ -63,7 +56,7 @@ module _ (s : ℕ) (m : Mirror) (hs : 1 < s) (he : EvenUnder s m) where
         let last = mirrorRank-lt s m b (last-lt s m n a b u l h) in
         rw (codeRec-same s m n a b u l e, palindromes-suc s m n) (
           λ p. omega (arith, digits-lt (ih .0 (inner-palindrome p)) last),
-          λ q. outer-palindrome e (ih .1 (lt-scaled s (codeRec s m n u) (mirrorRank s m b) (palindromes s m n) q)),
+          λ q. outer-palindrome e (ih .1 (lt-of-mul-lt-mul-left s (omega (arith, q)))),
         )
 
     differ-lowest : (a ≡ mirrorRank s m b → ⊥)

@@ -2,7 +2,7 @@
 use mathlib.Core.Path.{_≡_, refl, sym, ap, _∙_, subst}
 use mathlib.Core.List.{List, [], _∷_}
 use Prim.Native.Nat.{ℕ, zero, suc, _%_, _^_, _<_}
-use native.Mathlib.Nat.{pow-zero, pow-suc, div-add-mod', mod-lt, div-lt-iff-lt-mul, mul-comm}
+use native.Mathlib.Nat.{pow-zero, pow-succ', div-add-mod', mod-lt, div-lt-iff-lt-mul}
 use native.Mathlib.Omega.{arith}
 use lib.Arith.{digits-div, digits-mod}
 use lib.ListN.{length}
@@ -21,7 +21,7 @@ unfolding wordOfPlain
 ranks-wordOfPlain s zero q h g = tt
 ranks-wordOfPlain s (suc n) q h g =
     let pos = pow-pos s n h in
-    let below = subst (λ (x : ℕ). q < x) (pow-suc s n ∙ mul-comm (s ^ n) s) g in
+    let below = subst (λ (x : ℕ). q < x) (pow-succ' s n) g in
     (div-lt-iff-lt-mul pos .1 below, ranks-wordOfPlain s n (q % s ^ n) h (mod-lt q pos))
 
 pub plain-wordOfPlain : (s n q : ℕ) → 1 < s → q < s ^ n → plain s (wordOfPlain s n q) ≡ q

@@ -4,17 +4,18 @@ use mathlib.Core.Path.{_≡_, sym, ap, _∙_}
 use mathlib.Core.Bool.{true, false}
 use mathlib.Core.List.{List}
 use mathlib.Core.Logic.{_↔_, _⊎_, ⊎-elim}
-use Prim.Native.Nat.{ℕ, _/_, _^_, _<_, _≤_}
+use Prim.Native.Nat.{ℕ, _+_, _/_, _^_, _<_, _≤_}
 use native.Mathlib.Omega.{arith}
 use Rattle.settings.specs.Settings.{halfUp, isOdd, classes}
 use Rattle.settings.specs.Limits.{Limits}
-use Rattle.encoding.specs.Words.{Mirror, Reversal, Complement, IsWord, mirror, canonical, Palindrome}
-use Rattle.encoding.specs.Codes.{code, WordOfCode}
+use Rattle.encoding.specs.Words.{Mirror, Reversal, Complement, IsWord, mirror, plain, canonical, Palindrome}
+use Rattle.encoding.specs.Codes.{digits, differingPair, shift, oddShift, code, WordOfCode}
 use Rattle.encoding.specs.WordsOfCodes.{wordOf}
 use Rattle.encoding.specs.Needs.{palindromes}
 use Rattle.encoding.proofs.Ends.{length-mirror}
 use Rattle.encoding.proofs.ClassNumbers.{classes-palindromes, even-palindromes, odd-palindromes-none}
 use Rattle.encoding.proofs.Canonical.{Ranks-mirror, mirror-mirror}
+use Rattle.encoding.proofs.Recursion.{value, code-is}
 use Rattle.encoding.proofs.Codes.{is-canonical, canonical-mirror, code-below, wordOf-code, code-wordOf, length-wordOf, ranks-wordOf, canonical-wordOf, code-mirror, code-injective}
 use Rattle.encoding.proofs.Palindromes.{palindromes-lowest}
 
@@ -34,6 +35,21 @@ module _ (s : ℕ) (m : Mirror) (k : ℕ) (within : Limits s m k) where
 
   pub canonical-of-mirror : (w : List ℕ) → IsWord s k w → canonical s m (mirror s m w) ≡ canonical s m w
   canonical-of-mirror w i = canonical-mirror s m k w (within .two) (i .letters) (i .ranks)
+
+  -- ---- the code from the digits of the canonical word
+
+  -- The value of the digits of a word's canonical word is the word's code with the shift and the odd-k subtraction added: neither subtraction in the code
+  -- is cut off.
+  pub value-of-digits : (w : List ℕ) → IsWord s k w
+      → plain s (digits s m k (canonical s m w)) ≡ code s m k w + shift s k (differingPair s m k (canonical s m w)) + oddShift s m k
+  unfolding code
+  value-of-digits w i =
+      let C = is-canonical s m k w (i .letters) (i .ranks) in
+      omega (
+        arith,
+        value s m (within .two) (within .even) k (canonical s m w) (C .len) (C .ranks) (C .least),
+        code-is s m (within .two) (within .even) k (canonical s m w) (C .len) (C .ranks) (C .least),
+      )
 
   -- ---- codes and classes are in bijection, and the codes fill [0, classes)
 

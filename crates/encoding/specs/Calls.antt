@@ -14,14 +14,15 @@ use Rattle.encoding.specs.WordsOfCodes.{wordOf}
 
 -- ---- from bytes to ranks and back
 
+-- A byte that is no letter stands as rank 0, which no answer shows: ground 9 refuses its word.
 abbrev pub rankOrZero : Option ℕ → ℕ
 rankOrZero none = 0
 rankOrZero (some rank) = rank
 
--- The ranks of a word's bytes. A byte that is no letter stands as rank 0, which no answer shows: ground 9 refuses its word.
 abbrev pub rankAt : List ℕ → ℕ → ℕ
 rankAt letters b = rankOrZero (rankIn letters b)
 
+-- The ranks of a word's bytes.
 unfoldable pub ranksOf : List ℕ → List ℕ → List ℕ
 ranksOf letters word = map (rankAt letters) word
 

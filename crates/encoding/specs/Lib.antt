@@ -1,8 +1,7 @@
 -- What a reader must believe of the encoding, in the order of document 01 (WordsOfCodes need not be believed: theorems tie it to Codes); and, last,
--- what only functions below the calls and laws speak of.
+-- what only laws speak of.
 pub mod Words
 pub mod Codes
 pub mod WordsOfCodes
 pub mod Calls
-pub mod Answers
 pub mod Needs

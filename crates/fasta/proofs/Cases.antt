@@ -8,11 +8,9 @@ use Rattle.settings.specs.Grounds.{Ground}
 use Rattle.settings.specs.Settings.{isCapital, isIn, differentCapitals, goodLetters, capitalOf, placeFrom, rankIn, isOdd, badSize, settingsGround}
 use Rattle.fasta.specs.declared.Item.the-variants.{Opens, Skip, Stray, Letter}
 use Rattle.fasta.specs.declared.Numbers.{Numbers}
-use Rattle.fasta.specs.declared.records.Found.the-variants.{Record, Nothing}
 use Rattle.fasta.specs.Items.{recordsIn, lettersIn, oneIfForeign, foreignIn, marks, onFirst, runs, edge, windows, edgesOf, windowsOf}
 use Rattle.fasta.specs.File.{isLetter, lfNext, lineItem, item, next, itemsFrom, items, faultFrom, fileFault, fileWindows, fileNumbers}
 use Rattle.fasta.specs.Scan.{tooLong, scanGround}
-use Rattle.fasta.specs.Records.{isHeader, firstFrom, recordTo, recordFrom, offsetAfter, headersFrom, allRecords}
 
 -- Files are read with the letters ACGT and k 2. A case that unfolds one of these computes with all that its `unfolding` line names.
 unfoldable windowsOfFile : List ℕ → List (List ℕ)
@@ -137,9 +135,9 @@ unfolding windowsOfFile
 foreign-letter = refl
 
 -- Document 01's own file: records 2, letters 9, foreign 1, edge 2, windows 6.
-paper : numbersOfFile (bytes ">a\nACGTN\n>b\nAG\nCT\n") ≡ five 2 9 1 2 6
+own-file : numbersOfFile (bytes ">a\nACGTN\n>b\nAG\nCT\n") ≡ five 2 9 1 2 6
 unfolding numbersOfFile
-paper = refl
+own-file = refl
 
 -- Records without letters; "the lesser of its length and k − 1" for a run of one letter.
 bare-records : numbersOfFile (bytes ">a\n>b\n\n>c\nA\n>") ≡ five 4 1 0 1 0
@@ -160,47 +158,3 @@ empty-file = refl
 empty-faultless : fileFault [] ≡ none
 unfolding isLetter lfNext lineItem item next itemsFrom faultFrom
 empty-faultless = refl
-
--- ---- records
-
--- "the header line without its end, and all bytes from the next line to the next header or the file's end"; what comes before is in no record.
-records : allRecords (bytes "A\n>a\nAC\n>b\r\nG*\r\n>c\n") ≡ Record 2 2 5 3 ∷ Record 8 2 12 4 ∷ Record 16 2 19 0 ∷ []
-unfolding isHeader firstFrom recordTo recordFrom headersFrom
-records = refl
-
--- "from any offset the next header is the first line starting with > at or after it": from the middle of a line, and not a > inside a line.
-from-middle : recordFrom (bytes ">a\nA\n>b\nC") 1 ≡ Record 5 2 8 1
-unfolding isHeader firstFrom recordTo recordFrom headersFrom
-from-middle = refl
-
-not-inside : recordFrom (bytes ">a>b\nC") 2 ≡ Nothing
-unfolding isHeader firstFrom recordTo recordFrom headersFrom
-not-inside = refl
-
--- "A header that the file's end cuts off has a second part of length 0 at the file's length": a CR with no LF is part of it.
-cut-off : recordFrom (bytes ">a\n>b\r") 1 ≡ Record 3 3 6 0
-unfolding isHeader firstFrom recordTo recordFrom headersFrom
-cut-off = refl
-
--- "past the file's end there is none"
-past-end : recordFrom (bytes ">a\nA\n") 7 ≡ Nothing
-unfolding isHeader firstFrom recordTo recordFrom headersFrom
-past-end = refl
-
--- "A record moves the offset to the record's end; none keeps it": here the end is the next header.
-moves-the-offset : offsetAfter 0 (recordFrom (bytes ">a\nA\n>b\nC") 0) ≡ 5
-unfolding isHeader firstFrom recordTo recordFrom headersFrom
-moves-the-offset = refl
-
-keeps-the-offset : offsetAfter 7 (recordFrom (bytes ">a\nA\n") 7) ≡ 7
-unfolding isHeader firstFrom recordTo recordFrom headersFrom
-keeps-the-offset = refl
-
--- No header at all, and an empty file.
-no-records : allRecords (bytes "AC\nA>\n") ≡ []
-unfolding isHeader firstFrom recordTo recordFrom headersFrom
-no-records = refl
-
-no-bytes : allRecords [] ≡ []
-unfolding isHeader firstFrom recordTo recordFrom headersFrom
-no-bytes = refl

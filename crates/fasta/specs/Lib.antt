@@ -1,7 +1,6 @@
 -- What a reader must believe of sequence files: what is cut from a file (Items), what each byte of a FASTA file is (File), the
--- answer of a scan (Scan), the records that the reader gives (Records). Needs has what functions below the calls ask of each other.
+-- answer of a scan (Scan). Needs has what functions below the calls ask of each other.
 pub mod Items
 pub mod File
 pub mod Scan
-pub mod Records
 pub mod Needs

@@ -20,7 +20,7 @@ tooLong file = ltb 16777216 (length file)
 unfoldable pub scanGround : List ℕ → ℕ → ℕ → List ℕ → Option Ground
 scanGround letters k mirror file = settingsGround letters k mirror orElse ground 6 (tooLong file) orElse fileFault file
 
--- The answer of a scan or of an add as this paper's values: the file's numbers, or the refusal's number and P.
+-- The answer of a scan or of an add as document 01's values: the file's numbers, or the refusal's number and P.
 abbrev pub ofAnswer : Answer → Outcome Numbers
 ofAnswer (Taken n) = given n
 ofAnswer (Refused f) = refused (groundOf f)

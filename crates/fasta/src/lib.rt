@@ -1,10 +1,4 @@
-// Sequence files (FASTA): what each byte is, and the five numbers of a file or its first fault. The module `records` has the record reader.
-mod records;
-
-pub use records::Found;
-pub use records::Reader;
-pub use records::offset_after;
-pub use records::record_at;
+// Sequence files (FASTA): what each byte is, and the five numbers of a file or its first fault.
 use settings::Checked;
 use settings::Refusal;
 ghost use mathlib.Core.Path.{_≡_};

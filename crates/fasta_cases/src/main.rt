@@ -5,7 +5,7 @@
 // A line under five bytes is skipped.
 // FILE is the rest of the line: \n is LF, \r is CR, \xHH is any byte, and every other byte stands for itself.
 use fasta::Answer;
-use fasta::Found;
+use records::Found;
 ghost use mathlib.Core.Path.{_≡_};
 ghost use Prim.Native.Nat.{_+_, _<_, _≤_};
 ghost use lib.ListN.{length};
@@ -199,8 +199,8 @@ fn read_case(s: &[u8], file: &mut [u8]) {
     let b = after_field(s, a);
     let at = decimal(&s[..a]);
     let n = unescape(&s[b..], file);
-    let f = fasta::record_at(&file[..n], at);
-    put_found(f, fasta::offset_after(&file[..n], at));
+    let f = records::record_at(&file[..n], at);
+    put_found(f, records::offset_after(&file[..n], at));
 }
 
 // One line: one under five bytes is skipped, one that begins with s or r is run as a case, every other is copied.

@@ -22,7 +22,7 @@ use Rattle.fasta.specs.declared.Mode.the-variants.{Start}
 use Rattle.fasta.specs.File.{items, faultFrom, fileFault, fileNumbers}
 use Rattle.fasta.specs.Scan.{tooLong}
 use Rattle.fasta.proofs.Runs.{items-length}
-use Rattle.table.specs.Table.{classCount, tooMany, readyGround, addGround, tableFull, tableGround, Added}
+use Rattle.tally.specs.Table.{classCount, tooMany, readyGround, addGround, tableFull, tableGround, Added}
 use Rattle.table.proofs.CallGrounds.{classes-few, ready-file}
 use Rattle.kmer.proofs.Refusals.{refused-fits, sizes-small}
 use Rattle.kmer.specs.Adding.{addIntoGround, fiveNumbers, AddsInto}

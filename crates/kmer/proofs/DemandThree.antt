@@ -8,10 +8,10 @@ use Rattle.settings.specs.Grounds.{Ground, Outcome, outcome, overwritten}
 use Rattle.settings.specs.Settings.{rankIn}
 use Rattle.fasta.specs.declared.Numbers.{Numbers}
 use Rattle.fasta.specs.File.{fileNumbers}
-use Rattle.table.specs.Table.{classCount, clearGround, tableGround, Added, Clears}
-use Rattle.table.specs.Demand.{Adds}
-use Rattle.table.specs.Demand.Calls.{done, then}
-use Rattle.table.proofs.DemandThree.{demand-three}
+use Rattle.tally.specs.Table.{classCount, clearGround, tableGround, Added, Clears}
+use Rattle.tally.specs.Demand.{Adds}
+use Rattle.tally.specs.Demand.Calls.{done, then}
+use Rattle.tally.proofs.DemandThree.{demand-three}
 use Rattle.kmer.specs.Returned.{returnedWithPlace, ReturnsPlaces}
 use Rattle.kmer.specs.Adding.{fiveNumbers, AddsInto}
 use Rattle.kmer.specs.Demand.{AddCalls, toldBy, DemandThreeFromC}

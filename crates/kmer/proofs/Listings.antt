@@ -5,7 +5,7 @@ use native.Mathlib.Omega.{arith}
 use lib.ListN.{length}
 use Rattle.settings.specs.Grounds.{groundAt, tooShort}
 use Rattle.settings.proofs.Places.{Small, place-small, then-small, room-small}
-use Rattle.table.specs.Table.{clearGround}
+use Rattle.tally.specs.Table.{clearGround}
 use Rattle.listing.specs.Listing.{listing, listingGround}
 use Rattle.listing.proofs.Lengths.{Small as SmallCounts}
 use Rattle.listing.proofs.ListingAnswers.{listing-fits}

@@ -21,7 +21,7 @@ use Rattle.settings.proofs.SettingsGrounds.{limits, good-settings}
 use Rattle.settings.proofs.Places.{Small, test-small, place-small, then-small, room-small, settings-small}
 use Rattle.encoding.specs.Calls.{hereOr, foreignFrom, wrongLength, mirrorGround}
 use Rattle.sequence.specs.Sequences.{sequenceGround}
-use Rattle.table.specs.Table.{classCount, tooMany, clearGround}
+use Rattle.tally.specs.Table.{classCount, tooMany, clearGround}
 use Rattle.kmer.specs.Returned.{ReturnsPlaces}
 use Rattle.kmer.specs.Needs.{PlaceFits}
 

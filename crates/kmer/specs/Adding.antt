@@ -9,7 +9,7 @@ use Rattle.settings.specs.Grounds.{Ground, ground, groundAt, tooShort, outcome,
 use Rattle.settings.specs.Settings.{rankIn}
 use Rattle.fasta.specs.declared.Numbers.{Numbers}
 use Rattle.fasta.specs.File.{fileFault, fileNumbers}
-use Rattle.table.specs.Table.{places, bumps, readyGround, tableFull}
+use Rattle.tally.specs.Table.{places, bumps, readyGround, tableFull}
 use Rattle.kmer.specs.Returned.{returnedWithPlace}
 
 -- "the table before others": the 7 of the list for the answer comes after that of the table, then 10 or 11, then 12.

@@ -5,7 +5,7 @@ use Prim.Native.Nat.{ℕ, _≤_}
 use lib.ListN.{length, drop}
 use Rattle.settings.specs.Grounds.{Outcome, given, refused}
 use Rattle.fasta.specs.declared.Numbers.{Numbers}
-use Rattle.table.specs.Demand.{Calls, Adds, DemandThree}
+use Rattle.tally.specs.Demand.{Calls, Adds, DemandThree}
 use Rattle.kmer.specs.Returned.{returnedWithPlace}
 use Rattle.kmer.specs.Adding.{fiveNumbers, AddsInto}
 

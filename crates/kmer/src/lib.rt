@@ -5,7 +5,7 @@ ghost use Prim.Native.Nat.{_+_, _*_, _^_, _<_, _≤_};
 ghost use mathlib.Core.List.{_++_};
 ghost use lib.ListN.{length, drop, replicate};
 ghost use Rattle.settings.specs.Grounds.{groundOf, ofFilling};
-ghost use Rattle.table.specs.Table.{classCount, clearGround};
+ghost use Rattle.tally.specs.Table.{classCount, clearGround};
 ghost use Rattle.kmer.specs.Adding.{fiveNumbers, AddsInto};
 ghost use Rattle.encoding.specs.Calls.{coding, readGround, wordBytes, mirrorGround, mirrorBytes};
 ghost use Rattle.kmer.specs.Returned.{returned, returnedWithPlace, ReturnsPlaces};
@@ -14,13 +14,13 @@ ghost use Rattle.listing.specs.Listing.{listing, listingGround};
 ghost use Rattle.laws.specs.Text.{bytes};
 ghost use Rattle.laws.specs.Windows.{windows};
 ghost use Rattle.sequence.specs.Sequences.{sequenceGround, sequenceCodes};
-use encoding::Code;
-use encoding::Coding;
 use fasta::Answer;
 use fasta::Numbers;
 use settings::Checked;
 use settings::Filling;
 use settings::Refusal;
+use words::Code;
+use words::Coding;
 
 // 2^63 plus the number.
 fn refused(f: Refusal) -> u64
@@ -53,7 +53,7 @@ fn with_place(answer: Filling) -> u64
 pub extern "C" fn kmer_code(letters: &[u8], k: usize, mirror: u64, word: &[u8]) -> u64
     ensures { λ r. ⌜ r ≡ returned (coding (now (letters .entry)) k mirror (now (word .entry))) ⌝ }
 {
-    match encoding::code_of(letters, k, mirror, word) {
+    match words::code_of(letters, k, mirror, word) {
         Coding::Coded(q) => q.0,
         Coding::Refused(f) => refused(f),
     }
@@ -66,7 +66,7 @@ pub extern "C" fn kmer_word(letters: &[u8], k: usize, mirror: u64, code: u64, ou
         ⌜ ReturnsPlaces returned (readGround (now (letters .entry)) k mirror code (length (now (out .entry)))) k
         (wordBytes (now (letters .entry)) k mirror code) (now (out .entry)) r (now (out .exit)) ⌝ }
 {
-    match encoding::word_of(letters, k, mirror, Code(code), out) {
+    match words::word_of(letters, k, mirror, Code(code), out) {
         Filling::Filled(n) => n as u64,
         Filling::Unfilled(f) => refused(f),
     }
@@ -85,7 +85,7 @@ pub extern "C" fn kmer_mirror(
         ⌜ ReturnsPlaces returnedWithPlace (mirrorGround (now (letters .entry)) k mirror (now (word .entry)) (length (now (out .entry)))) k
         (mirrorBytes (now (letters .entry)) mirror (now (word .entry))) (now (out .entry)) r (now (out .exit)) ⌝ }
 {
-    with_place(encoding::mirror_of(letters, k, mirror, word, out))
+    with_place(words::mirror_of(letters, k, mirror, word, out))
 }
 
 // The codes of all windows along a sequence.

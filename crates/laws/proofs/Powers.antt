@@ -17,7 +17,7 @@ pow-split s n e h =
     let g : n ≡ n - e + e = omega arith in
     ap (λ (x : ℕ). s ^ x) g ∙ pow-add s (n - e) e
 
--- A power that fits 62 bits has lower powers that do.
+-- A power that is at most 2^62 has lower powers that are.
 pub pow-fits : (s n k : ℕ) → 1 < s → n ≤ k → s ^ k ≤ 2 ^ 62 → s ^ n ≤ 2 ^ 62
 pow-fits s n k hs h g = le-trans (pow-le-pow-right (omega arith) h) g
 

@@ -16,10 +16,10 @@ use Rattle.settings.specs.Grounds.{Outcome, Overwrites}
 use Rattle.settings.specs.Settings.{settingsGround}
 use Rattle.settings.proofs.SettingsGrounds.{good-settings}
 use Rattle.encoding.specs.Calls.{readGround, wordBytes}
-use Rattle.encoding.proofs.CallGrounds.{reading-none}
-use Rattle.encoding.proofs.ReadAnswers.{word-bytes-length}
-use Rattle.table.specs.Table.{classCount}
-use Rattle.table.specs.Demand.{sum}
+use Rattle.words.proofs.CallGrounds.{reading-none}
+use Rattle.words.proofs.ReadAnswers.{word-bytes-length}
+use Rattle.tally.specs.Table.{classCount}
+use Rattle.tally.specs.Demand.{sum}
 use Rattle.survey.specs.Line.{mirrorName}
 use Rattle.listing.specs.Listing.{countLine, classLine, countLines}
 

@@ -13,7 +13,7 @@ use Rattle.settings.specs.Grounds.{Ground, Outcome, given, refused, ground, out
 use Rattle.settings.specs.Settings.{settingsGround, settingsOf}
 use Rattle.settings.proofs.Outcomes.{refused-is, kept-by, set-by, first-none, later-none, test-fails, nowhere-met, room-enough}
 use Rattle.settings.proofs.SettingsGrounds.{Known, known}
-use Rattle.table.specs.Table.{classCount, tooMany, clearGround}
+use Rattle.tally.specs.Table.{classCount, tooMany, clearGround}
 use Rattle.texts.specs.Needs.{Puts}
 use Rattle.texts.proofs.Writing.{from-start}
 use Rattle.listing.specs.Listing.{listingOf, listing, listingGround, Lists}

@@ -1,8 +1,8 @@
 // The listing of a table: the survey line, a line for each class with a count, the total; written whole into a lent buffer.
-use encoding::Code;
 use settings::Checked;
 use settings::Filling;
 use settings::Refusal;
+use words::Code;
 ghost use mathlib.Core.Path.{_≡_};
 ghost use mathlib.Core.Option.{none};
 ghost use mathlib.Core.List.{_++_};
@@ -12,8 +12,8 @@ ghost use Rattle.laws.specs.Text.{bytes};
 ghost use Rattle.settings.specs.Grounds.{ofFilling};
 ghost use Rattle.settings.specs.Settings.{settingsGround};
 ghost use Rattle.encoding.specs.Calls.{wordBytes};
-ghost use Rattle.table.specs.Table.{classCount};
-ghost use Rattle.table.specs.Demand.{sum};
+ghost use Rattle.tally.specs.Table.{classCount};
+ghost use Rattle.tally.specs.Demand.{sum};
 ghost use Rattle.texts.specs.Needs.{Puts};
 ghost use Rattle.survey.specs.Line.{mirrorName, surveyLine};
 ghost use Rattle.listing.specs.Listing.{countLine, classLine, countLines, totalLine, listingOf, Lists};
@@ -67,7 +67,7 @@ fn put_class(
         return at;
     }
     let mut word = [0u8; 64];
-    encoding::word_of(letters, k, mirror, Code(q), &mut word);
+    words::word_of(letters, k, mirror, Code(q), &mut word);
     put_count_line(out, at, &word[..k], n)
 }
 

@@ -1,7 +1,7 @@
 // Prints what the pick hands back, a line a case, for the comparison with the stored output: a word, or an empty line where the pick is refused.
 // A word in small letters beside the same one in capitals shows which of two equal words came back.
 fn show<'a>(letters: &[u8], k: usize, mirror: u64, first: &'a [u8], second: &'a [u8]) {
-    let part = encoding::pick(letters, k, mirror, first, second);
+    let part = words::pick(letters, k, mirror, first, second);
     io::write_all(1, part);
     io::write_all(1, b"\n");
 }

@@ -13,8 +13,8 @@ use Rattle.encoding.specs.Calls.{inCapitals, wordBytes}
 use Rattle.fasta.specs.Items.{recordsIn, lettersIn, oneIfForeign, foreignIn, marks, onFirst, runs, edge, edgesOf, windowsOf}
 use Rattle.fasta.specs.File.{isLetter, lfNext, lineItem, item, next, itemsFrom, faultFrom}
 use Rattle.fasta.specs.Scan.{tooLong}
-use Rattle.table.specs.Table.{windowsOfFile, bump, bumps, full, tooMany, readyGround, addGround}
-use Rattle.table.specs.Demand.{sum}
+use Rattle.tally.specs.Table.{windowsOfFile, bump, bumps, full, tooMany, readyGround, addGround}
+use Rattle.tally.specs.Demand.{sum}
 use Rattle.texts.specs.Decimals.{decimalFrom, decimal}
 use Rattle.survey.specs.Grammar.{spelt}
 use Rattle.survey.specs.Line.{surveyLine}

@@ -11,9 +11,9 @@ use Rattle.settings.specs.Settings.{rankIn, settingsGround, settingsOf}
 use Rattle.settings.proofs.Outcomes.{passed, refused-on, first-none}
 use Rattle.fasta.specs.declared.Numbers.{Numbers}
 use Rattle.fasta.specs.File.{fileNumbers}
-use Rattle.table.specs.Table.{classCount, places, bumps, tableFull, readyGround, tableGround, addGround, addAnswer, Added}
+use Rattle.tally.specs.Table.{classCount, places, bumps, tableFull, readyGround, tableGround, addGround, addAnswer, Added}
 use Rattle.table.proofs.CallGrounds.{ready-bad, ready-settings, ready-room}
-use Rattle.table.proofs.Bumps.{length-bumps}
+use Rattle.tally.proofs.Bumps.{length-bumps}
 use Rattle.texts.proofs.Decimals.{decimal-length}
 use Rattle.texts.specs.Needs.{Puts}
 use Rattle.texts.proofs.Writing.{measured, then}

@@ -9,7 +9,7 @@ use lib.Seq.{sets}
 use Rattle.laws.specs.Text.{bytes}
 use Rattle.settings.specs.Grounds.{Ground, Outcome, given, refused}
 use Rattle.fasta.specs.declared.Numbers.{Numbers}
-use Rattle.table.specs.Table.{places, bumps, tableFull, addAnswer}
+use Rattle.tally.specs.Table.{places, bumps, tableFull, addAnswer}
 use Rattle.texts.specs.Decimals.{decimal}
 use Rattle.survey.specs.declared.Head.{Head}
 use Rattle.survey.specs.declared.Head.the-variants.{Survey, NoSurvey}

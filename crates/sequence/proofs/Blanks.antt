@@ -12,12 +12,14 @@ use lib.Seq.{drop-cons, getD-take, getD-drop, getD-set-same, getD-set-other, get
 use Rattle.encoding.specs.Words.{Mirror}
 use Rattle.encoding.specs.Codes.{code}
 use Rattle.encoding.specs.Calls.{rankOrZero}
-use Rattle.sequence.specs.Windows.{windows, windowCodes}
+use Rattle.laws.specs.Windows.{windows}
+use Rattle.kernels.specs.Windows.{windowCodes}
 use Rattle.sequence.specs.Sequences.{noCode, isRank}
 use Rattle.settings.specs.RankTables.{rankByTable}
-use Rattle.sequence.specs.Needs.{part, Fills, ranksBy, allRanked, codeBy, Run, Blanked}
-use Rattle.sequence.proofs.Windows.{window-at, length-codes}
-use Rattle.sequence.proofs.Parts.{length-part}
+use Rattle.kernels.specs.Needs.{part, Fills}
+use Rattle.sequence.specs.Needs.{ranksBy, allRanked, codeBy, Run, Blanked}
+use Rattle.kernels.proofs.Windows.{window-at, length-codes}
+use Rattle.kernels.proofs.Parts.{length-part}
 use Rattle.sequence.proofs.RankTables.{as-none, as-itself, length-ranks-by}
 
 module _ (rank : ℕ → Option ℕ) where

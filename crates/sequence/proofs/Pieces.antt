@@ -1,20 +1,22 @@
 -- A sequence in batches: the ranks of a batch in the first places of an array, its numbers, and how the numbers of the batches follow each other.
 -- From the windows of the first letters and of the later ones (`windows-take`, `windows-drop`).
-use mathlib.Core.Path.{_≡_, sym, ap, _∙_}
+use mathlib.Core.Path.{_≡_, refl, sym, ap, _∙_}
 use mathlib.Core.List.{List, [], _++_, map, append-nil}
 use mathlib.Core.Bool.{Bool, true}
 use mathlib.Core.Option.{Option}
 use Prim.Native.Nat.{ℕ, _+_, _-_, _<_, _≤_, min}
 use native.Mathlib.Omega.{arith}
-use lib.ListN.{length, take, drop, length-append, length-drop, drop-of-length-le}
-use lib.Seq.{take-at, take-all}
-use Rattle.laws.proofs.Buffers.{Written, written-none, written-more, written-length, written-all}
+use lib.ListN.{length, take, drop, length-drop, drop-of-length-le}
+use lib.Seq.{take-all}
+use Rattle.laws.proofs.Buffers.{front-is, front-fits, Written, written-none, written-more, written-length, written-all}
 use Rattle.encoding.specs.Words.{Mirror}
-use Rattle.sequence.specs.Windows.{windows, windowCodes}
+use Rattle.laws.specs.Windows.{windows}
+use Rattle.kernels.specs.Windows.{windowCodes}
 use Rattle.settings.specs.RankTables.{rankByTable}
-use Rattle.sequence.specs.Needs.{part, Fills, ranksBy, allRanked, codeBy, Blanked}
-use Rattle.sequence.proofs.Windows.{windows-take, windows-drop, length-codes}
-use Rattle.sequence.proofs.Parts.{length-part}
+use Rattle.kernels.specs.Needs.{part, Fills}
+use Rattle.sequence.specs.Needs.{ranksBy, allRanked, codeBy, Blanked}
+use Rattle.kernels.proofs.Windows.{windows-take, windows-drop, length-codes}
+use Rattle.kernels.proofs.Parts.{length-part}
 use Rattle.sequence.proofs.RankTables.{length-ranks-by}
 use Rattle.sequence.proofs.Blanks.{map-take, map-drop, blanked-codes, blanked-nothing}
 
@@ -25,10 +27,10 @@ module _ (rank : ℕ → Option ℕ) (bytes array R : List ℕ) (is : R ≡ rank
   n-ranks = ap length is ∙ length-ranks-by rank bytes
 
   pub ranks-in-array : take (length bytes) (R ++ drop (length bytes) array) ≡ ranksBy rank bytes
-  ranks-in-array = take-at R (drop (length bytes) array) (length bytes) n-ranks ∙ is
+  ranks-in-array = front-is R (drop (length bytes) array) refl n-ranks ∙ is
 
   pub ranks-fit : length bytes ≤ length (R ++ drop (length bytes) array)
-  ranks-fit = omega (arith, length-append R (drop (length bytes) array), n-ranks)
+  ranks-fit = front-fits R (drop (length bytes) array) refl n-ranks
 
 -- ---- the numbers of a batch
 

@@ -10,7 +10,7 @@ use lib.ListN.{length, length-map, getD, take, length-take}
 use lib.Seq.{getD-take}
 use Rattle.laws.proofs.Lists.{getD-map-in}
 use Rattle.encoding.specs.Calls.{rankOrZero, ranksOf}
-use Rattle.encoding.proofs.LetterLoops.{or-zero-below}
+use Rattle.words.proofs.LetterLoops.{or-zero-below}
 use Rattle.encoding.specs.Words.{Ranks}
 pub use Rattle.settings.proofs.RankTables.{as-none, as-itself}
 use Rattle.settings.specs.RankTables.{asRank, RankTable, RanksBelow, rankByTable}

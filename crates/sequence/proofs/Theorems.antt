@@ -16,12 +16,13 @@ use Rattle.encoding.specs.Codes.{code}
 use Rattle.encoding.specs.Calls.{ranksOf}
 use Rattle.encoding.proofs.ClassNumbers.{classes-le}
 use Rattle.encoding.proofs.Codes.{code-below}
-use Rattle.encoding.proofs.LetterLoops.{ranks-below, length-ranksOf}
+use Rattle.words.proofs.LetterLoops.{ranks-below, length-ranksOf}
 use Rattle.settings.specs.declared.Filling.{Filling}
 use Rattle.settings.specs.Grounds.{ofFilling}
-use Rattle.sequence.specs.Windows.{windows, windowCodes}
+use Rattle.laws.specs.Windows.{windows}
+use Rattle.kernels.specs.Windows.{windowCodes}
 use Rattle.sequence.specs.Sequences.{noCode, allLetters, codeOrNone, sequenceCodes, FillsCodes}
-use Rattle.sequence.proofs.Windows.{length-codes, window-at, batch}
+use Rattle.kernels.proofs.Windows.{length-codes, window-at, batch}
 
 -- ---- which number stands at which place
 

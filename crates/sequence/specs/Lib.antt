@@ -1,4 +1,3 @@
--- What a reader must believe of the codes along a sequence, in the order of document 01; and, last, what functions ask of each other.
-pub mod Windows
+-- What a reader must believe of the codes along a sequence; and, last, what functions below the calls ask of each other.
 pub mod Sequences
 pub mod Needs

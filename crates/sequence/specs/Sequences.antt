@@ -10,7 +10,7 @@ use Rattle.settings.specs.Grounds.{Ground, ground, groundAt, tooShort, _orElse_
 use Rattle.settings.specs.Settings.{rankIn, mirrorOf, settingsGround}
 use Rattle.encoding.specs.Codes.{code}
 use Rattle.encoding.specs.Calls.{ranksOf}
-use Rattle.sequence.specs.Windows.{windows}
+use Rattle.laws.specs.Windows.{windows}
 
 -- "18,446,744,073,709,551,615 if one of them is not a letter of the settings": 2^64 - 1, which is no code, since codes are below 2^62.
 abbrev pub noCode : ℕ

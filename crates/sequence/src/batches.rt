@@ -2,15 +2,16 @@
 // that have a byte which is no letter.
 use super::bytes::blank;
 use super::bytes::read_ranks;
-use super::kernels::Coder;
-use super::kernels::fill_codes;
+use kernels::Coder;
+use kernels::fill_codes;
 ghost use mathlib.Core.Path.{_≡_};
 ghost use mathlib.Core.List.{map};
 ghost use Prim.Native.Nat.{_+_, _-_, _≤_, min};
 ghost use lib.ListN.{length};
-ghost use Rattle.sequence.specs.Windows.{windows};
+ghost use Rattle.laws.specs.Windows.{windows};
 ghost use Rattle.settings.specs.RankTables.{rankByTable, RanksBelow};
-ghost use Rattle.sequence.specs.Needs.{Fills, ReadyCoder, codeBy};
+ghost use Rattle.kernels.specs.Needs.{Fills, ReadyCoder};
+ghost use Rattle.sequence.specs.Needs.{codeBy};
 
 // Room for the ranks of a batch.
 fn no_ranks() -> [u8; 4096]

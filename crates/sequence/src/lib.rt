@@ -2,10 +2,6 @@
 // numbers. Both calls have one definition in their contracts.
 mod batches;
 mod bytes;
-mod general;
-pub mod kernels;
-mod pairs;
-mod two_bit;
 
 use kernels::Kernel;
 use settings::Checked;
@@ -14,20 +10,11 @@ use settings::Refusal;
 use settings::Settings;
 ghost use mathlib.Core.Path.{_≡_};
 ghost use mathlib.Core.Option.{none};
-ghost use Prim.Native.Nat.{_+_, _-_, _≤_};
 ghost use lib.ListN.{length};
 ghost use Rattle.laws.specs.Text.{bytes};
 ghost use Rattle.settings.specs.Settings.{mirrorOf, settingsGround, settingsOf};
 ghost use Rattle.sequence.specs.Sequences.{FillsCodes};
-ghost use Rattle.sequence.specs.Needs.{Takes};
-
-// How many windows of k bytes a sequence of n bytes has.
-pub fn window_count(n: usize, k: usize) -> usize
-    requires { ⌜ n ≤ 16777216 ⌝ }
-    ensures { λ r. ⌜ r ≡ n + 1 - k ⌝ }
-{
-    if n < k { 0 } else { n - k + 1 }
-}
+ghost use Rattle.kernels.specs.Needs.{Takes};
 
 // Both paths, under good settings.
 fn fill_checked(
@@ -47,7 +34,7 @@ fn fill_checked(
     if sequence.len() > 16777216 {
         return Filling::Unfilled(Refusal::TooLarge);
     }
-    let needed = window_count(sequence.len(), k);
+    let needed = kernels::window_count(sequence.len(), k);
     if list.len() < needed {
         return Filling::Unfilled(Refusal::ShortBuffer(needed));
     }

@@ -71,7 +71,7 @@ unlessRefused (some g) new old = old
 abbrev pub overwritten : Option Ground → (places old : List ℕ) → List ℕ
 overwritten g places old = unlessRefused g (places ++ drop (length places) old) old
 
--- Its answer as this paper's value: how many places it set, or the refusal's number and P.
+-- Its answer as document 01's value: how many places it set, or the refusal's number and P.
 abbrev pub ofFilling : Filling → Outcome ℕ
 ofFilling (Filled n) = given n
 ofFilling (Unfilled f) = refused (groundOf f)

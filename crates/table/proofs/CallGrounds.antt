@@ -22,13 +22,14 @@ use Rattle.fasta.specs.Scan.{tooLong}
 use Rattle.settings.specs.RankTables.{rankByTable, RankTable}
 use Rattle.fasta.proofs.Ranks.{windows-by-table, numbers-by-table}
 use Rattle.fasta.proofs.Runs.{windows-fit}
-use Rattle.sequence.specs.declared.kernels.Kernel.{Kernel}
-use Rattle.sequence.specs.Needs.{Takes}
-use Rattle.table.specs.Table.{classCount, windowsOfFile, places, bumps, full, tooMany, readyGround, addGround, clearGround, tableFull, tableGround, Added, Clears}
-use Rattle.table.specs.Needs.{Room, CountedUnlessFull, AddedUnlessFull, CleanFile, ClearsPlaces}
-use Rattle.table.proofs.Bumps.{bumps-front}
-use Rattle.table.proofs.Full.{not-full}
-use Rattle.table.proofs.Classes.{places-below}
+use Rattle.kernels.specs.declared.Kernel.{Kernel}
+use Rattle.kernels.specs.Needs.{Takes}
+use Rattle.tally.specs.Table.{classCount, windowsOfFile, places, bumps, full, tooMany, readyGround, addGround, clearGround, tableFull, tableGround, Added, Clears}
+use Rattle.counting.specs.Needs.{Room}
+use Rattle.table.specs.Needs.{CountedUnlessFull, AddedUnlessFull, CleanFile, ClearsPlaces}
+use Rattle.tally.proofs.Bumps.{bumps-front}
+use Rattle.tally.proofs.Full.{not-full}
+use Rattle.tally.proofs.Classes.{places-below}
 
 -- ---- clearing
 

@@ -8,8 +8,8 @@ use Rattle.settings.specs.Grounds.{Outcome, ofFilling}
 use Rattle.fasta.specs.declared.Numbers.{Numbers}
 use Rattle.fasta.specs.Scan.{ofAnswer}
 use Rattle.table.specs.declared.Survey.{Survey}
-use Rattle.table.specs.Table.{clearGround, Clears}
-use Rattle.table.specs.Demand.{Adds, DemandThree}
+use Rattle.tally.specs.Table.{clearGround, Clears}
+use Rattle.tally.specs.Demand.{Adds, DemandThree}
 
 -- The answers of two adds.
 abbrev pub twoAnswers : Survey → List (Outcome Numbers)

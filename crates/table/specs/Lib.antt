@@ -1,7 +1,4 @@
--- What a reader must believe of the table: what the calls answer and leave (Table), the tally book (Book), demand 3 (Demand), and a
--- clearing with two adds (Calls). Needs has what functions below the calls ask of each other.
-pub mod Table
-pub mod Book
-pub mod Demand
+-- What a clearing with two adds after it promises (Calls), which a reader must believe. Needs has what functions below the calls ask of each other. What the
+-- calls answer and leave is defined in the crate tally.
 pub mod Calls
 pub mod Needs

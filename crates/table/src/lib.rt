@@ -1,12 +1,11 @@
 // The table of counts, one place a class: clearing it, and adding files to it. What holds of a list of adds, demand 3, is stated in
-// specs/Demand.antt; `survey_two` has it in its contract.
-mod batches;
-mod counts;
-
+// the crate tally (specs/Demand.antt); `survey_two` has it in its contract.
+use counting::batches;
+use counting::counts;
 use fasta::Answer;
 use fasta::Numbers;
-use sequence::kernels::Coder;
-use sequence::kernels::Kernel;
+use kernels::Coder;
+use kernels::Kernel;
 use settings::Checked;
 use settings::Filling;
 use settings::Mirror;
@@ -21,10 +20,11 @@ ghost use Rattle.settings.specs.Settings.{classes, settingsGround, settingsOf, 
 ghost use Rattle.fasta.specs.File.{fileWindows};
 ghost use Rattle.fasta.specs.Scan.{ofAnswer};
 ghost use Rattle.settings.specs.RankTables.{rankByTable, RankTable, RanksBelow};
-ghost use Rattle.sequence.specs.Needs.{Takes, ReadyCoder};
-ghost use Rattle.table.specs.Table.{classCount, readyGround, Added, Clears};
+ghost use Rattle.kernels.specs.Needs.{Takes, ReadyCoder};
+ghost use Rattle.tally.specs.Table.{classCount, readyGround, Added, Clears};
 ghost use Rattle.table.specs.Calls.{Surveyed};
-ghost use Rattle.table.specs.Needs.{codesBy, CountedUnlessFull, AddedUnlessFull, CleanFile, ClearsPlaces};
+ghost use Rattle.counting.specs.Needs.{codesBy};
+ghost use Rattle.table.specs.Needs.{CountedUnlessFull, AddedUnlessFull, CleanFile, ClearsPlaces};
 
 // The answers of a clearing and of two adds after it.
 pub struct Survey {
@@ -117,9 +117,9 @@ fn add_scanned(
 {
     let m = st.mirror;
     let kernel = kernel_for(st.s, m);
-    let powers = sequence::kernels::power_table(st.s, k);
+    let powers = kernels::power_table(st.s, k);
     let classes = st.classes as usize;
-    let c = sequence::kernels::coder_of(st, kernel);
+    let c = kernels::coder_of(st, kernel);
     count_unless_full(&mut table[..classes], file, ranks, c, &powers, n)
 }
 

@@ -4,7 +4,7 @@ use mathlib.Core.Option.{none}
 use lib.ListN.{length}
 use borrow.Author.Needs.{needs}
 use Rattle.fasta.specs.Scan.{ofAnswer}
-use Rattle.table.specs.Table.{readyGround}
+use Rattle.tally.specs.Table.{readyGround}
 use Rattle.table.proofs.CallGrounds.{ready-passed}
 use Rattle.kmer.proofs.Adding.{add-fits, ready-refuses, ready-fits, into-bad, into-short, into-refused, into-taken}
 use Rattle.kmer.proofs.kmer_add.Statement.{statement}

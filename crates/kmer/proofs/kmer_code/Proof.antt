@@ -1,6 +1,6 @@
--- `kmer::kmer_code` meets its contract: what `encoding::code_of` answered, as one number.
+-- `kmer::kmer_code` meets its contract: what `words::code_of` answered, as one number.
 use mathlib.Core.Path.{sym, ap, _∙_}
-use Rattle.encoding.specs.Answers.{ofCoding}
+use Rattle.words.specs.Answers.{ofCoding}
 use Rattle.kmer.specs.Returned.{returned}
 use borrow.Author.Needs.{needs}
 use Rattle.kmer.proofs.kmer_code.Statement.{statement}

@@ -1,4 +1,4 @@
--- `kmer::kmer_word` meets its contract: what `encoding::word_of` answered, as one number without P, and the buffer as that call left it.
+-- `kmer::kmer_word` meets its contract: what `words::word_of` answered, as one number without P, and the buffer as that call left it.
 use mathlib.Core.Path.{sym, ap, _∙_}
 use Rattle.settings.specs.declared.Filling.{Filling}
 use Rattle.kmer.specs.Returned.{returned}

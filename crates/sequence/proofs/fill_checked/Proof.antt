@@ -1,8 +1,9 @@
--- `sequence::fill_checked` meets its contract. A ground at each test; what the kernels ask holds under good settings (SequenceGrounds).
+-- `sequence::fill_checked` meets its contract. A ground at each test; what the kernels ask holds under good settings (kernels' GoodSettings).
 use native.Mathlib.Omega.{arith}
 use borrow.Author.Needs.{needs}
 use denote.Ref.{now}
-use Rattle.sequence.proofs.SequenceGrounds.{too-large, too-short, all-filled, coder-is, coder-codes, coder-ready, ranks-ready, palindromes-fit, power-ready}
+use Rattle.kernels.proofs.GoodSettings.{coder-is, coder-ready, ranks-ready, palindromes-fit, power-ready}
+use Rattle.sequence.proofs.SequenceGrounds.{too-large, too-short, all-filled, coder-codes}
 use Rattle.sequence.proofs.RankTables.{Bytes}
 use Rattle.settings.proofs.SettingsGrounds.{good-settings}
 use Rattle.sequence.proofs.fill_checked.Statement.{statement}
@@ -65,9 +66,9 @@ returns-3 c =
     let a = start room .args in
     let good = start room .pre .0 in
     let is = start room .pre .1 .0 in
-    let takes = start room .pre .1 .1 in
     let coded = c .before .before .fill-sequence .ensures in
-    let numbers = coder-codes _ _ _ good (a .kernel) takes _ is (ranks .rank-table .result) (now (a .sequence)) (coder .coder-of .ensures) coded in
+    let table = ranks .rank-table .result in
+    let numbers = coder-codes (now (a .letters)) (a .k) (a .mirror) (a .kernel) _ is table (now (a .sequence)) (coder .coder-of .ensures) coded in
     let B : Bytes (now (a .sequence)) = record { below = λ i h. omega (arith, few .before .before .shared-slice-known2 .given i) } in
     all-filled _ _ _ (now (a .sequence)) _ good (few .if1 .left) _ (room .before .window-count .ensures) (room .if2 .left) (ranks .rank-table .ensures) B
     numbers

@@ -10,11 +10,11 @@ use Rattle.settings.specs.declared.Settings.{Settings}
 use Rattle.settings.specs.Settings.{mirrorOf}
 use Rattle.settings.specs.RankTables.{rankByTable}
 use Rattle.fasta.specs.File.{fileWindows}
-use Rattle.sequence.specs.declared.kernels.Coder.{Coder}
-use Rattle.sequence.specs.Needs.{Takes, coderOf}
-use Rattle.table.specs.Table.{classCount}
-use Rattle.table.specs.Needs.{codesBy}
-use Rattle.sequence.proofs.SequenceGrounds.{coder-is, coder-ready, ranks-ready, palindromes-fit, power-ready}
+use Rattle.kernels.specs.declared.Coder.{Coder}
+use Rattle.kernels.specs.Needs.{Takes, coderOf}
+use Rattle.tally.specs.Table.{classCount}
+use Rattle.counting.specs.Needs.{codesBy}
+use Rattle.kernels.proofs.GoodSettings.{coder-is, coder-ready, ranks-ready, palindromes-fit, power-ready}
 use borrow.Author.Needs.{needs}
 use Rattle.table.proofs.add_scanned.Statement.{statement}
 use Rattle.table.proofs.add_scanned.Tie as tie

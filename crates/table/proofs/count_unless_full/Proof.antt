@@ -4,7 +4,7 @@ use Rattle.settings.specs.RankTables.{rankByTable}
 use mathlib.Core.Path.{sym, _∙_, subst}
 use Prim.Native.Nat.{ℕ}
 use denote.Ref.{now}
-use Rattle.table.specs.Needs.{Room, codesBy}
+use Rattle.counting.specs.Needs.{Room, codesBy}
 use Rattle.table.proofs.CallGrounds.{counts-full, counts-free, counts-grown}
 use borrow.Author.Needs.{needs}
 use Rattle.table.proofs.count_unless_full.Statement.{statement}

@@ -1,7 +1,7 @@
 -- `table::survey_two` meets its contract: the contracts of its calls make a list of adds after a clearing, of which demand 3 is proved.
 use denote.Ref.{now}
-use Rattle.table.specs.Demand.Calls.{done, then}
-use Rattle.table.proofs.DemandThree.{demand-three}
+use Rattle.tally.specs.Demand.Calls.{done, then}
+use Rattle.tally.proofs.DemandThree.{demand-three}
 use borrow.Author.Needs.{needs}
 use Rattle.table.proofs.survey_two.Statement.{statement}
 use Rattle.table.proofs.survey_two.Tie as tie

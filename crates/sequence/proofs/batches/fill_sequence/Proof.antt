@@ -6,7 +6,7 @@ use denote.Ref.{now}
 use lib.ListN.{length}
 use Rattle.settings.specs.RankTables.{rankByTable}
 use Rattle.sequence.specs.Needs.{codeBy}
-use Rattle.sequence.specs.Windows.{windows}
+use Rattle.laws.specs.Windows.{windows}
 use Rattle.sequence.proofs.Pieces.{Batch, batch-of, batch-less, batch-next, batch-from, batch-room, batches-none, batches-all}
 use Rattle.laws.proofs.Buffers.{Written, written-length}
 use Rattle.settings.proofs.Limits.{k-at-most}

@@ -1,0 +1,202 @@
+// The windows of a file, counted in batches: the ranks of a run's letters go into a local array, their codes into another, and then each code is
+// counted. Between the batches of one run its last k - 1 letters stay in the array.
+use super::counts::count_codes;
+use fasta::Item;
+use fasta::Mode;
+use kernels::Coder;
+use kernels::fill_codes;
+ghost use mathlib.Core.Path.{_≡_};
+ghost use mathlib.Core.Bool.{false};
+ghost use mathlib.Core.List.{_++_};
+ghost use Prim.Native.Nat.{_+_, _-_, _<_, _≤_};
+ghost use lib.ListN.{length, take, drop};
+ghost use Rattle.settings.specs.Settings.{classes};
+ghost use Rattle.encoding.specs.Words.{Ranks};
+ghost use Rattle.fasta.specs.File.{fileWindows};
+ghost use Rattle.settings.specs.RankTables.{asRank, rankByTable, RanksBelow};
+ghost use Rattle.kernels.specs.Windows.{windowCodes};
+ghost use Rattle.kernels.specs.Needs.{ReadyCoder};
+ghost use Rattle.tally.specs.Table.{bumps};
+ghost use Rattle.counting.specs.Needs.{Room, markOfRank, markOf, codesBy, Gathers, Carries};
+
+// What a byte does to the present run: how many letters it adds, 0 or 1, with the letter's rank; or that it ends the run.
+struct Mark {
+    rank: u8,
+    letters: usize,
+    ends: bool,
+}
+
+// How far the file was read and in which mode, how many letters of the present run stand in the array, and whether the run ended there.
+struct Gathered {
+    at: usize,
+    mode: Mode,
+    letters: usize,
+    ended: bool,
+}
+
+// What a letter does to the present run, by its rank in the rank table, where 255 stands for no letter.
+fn rank_mark(rank: u8) -> Mark
+    ensures { λ r. ⌜ r ≡ markOfRank (asRank rank) ⌝ }
+{
+    if rank == 255 {
+        Mark {
+            rank: 0,
+            letters: 0,
+            ends: true,
+        }
+    } else {
+        Mark {
+            rank,
+            letters: 1,
+            ends: false,
+        }
+    }
+}
+
+// What an item of the file does to the present run.
+fn mark_of(it: Item, table: &[u8; 256]) -> Mark
+    ensures { λ r. ⌜ r ≡ markOf (rankByTable (now (table .entry))) it ⌝ }
+{
+    match it {
+        Item::Opens => Mark {
+            rank: 0,
+            letters: 0,
+            ends: true, // no window spans two records
+        },
+        Item::Skip => Mark {
+            rank: 0,
+            letters: 0,
+            ends: false,
+        },
+        Item::Stray => Mark {
+            rank: 0,
+            letters: 0,
+            ends: false,
+        },
+        Item::Letter(b) => rank_mark(table[b as usize]),
+    }
+}
+
+// An answer of `gather`. As a call, so that the contract equates the whole struct at each of the three places where `gather` ends.
+fn gathered_to(at: usize, mode: Mode, letters: usize, ended: bool) -> Gathered
+    ensures { λ r. ⌜ r ≡ record { at = at; mode = mode; letters = letters; ended = ended } ⌝ }
+{
+    Gathered {
+        at,
+        mode,
+        letters,
+        ended,
+    }
+}
+
+// Gathers letters of one run behind the first `letters` of the array, from the place `from` of the file on. A byte that neither is a letter nor
+// ends the run is written too, as rank 0, and overwritten by the next: that saves a branch that could not be foreseen. A full array ends no run.
+fn gather(
+    file: &[u8],
+    table: &[u8; 256],
+    from: usize,
+    start: Mode,
+    letters: usize,
+    array: &mut [u8],
+) -> Gathered
+    requires { ⌜ (from < length (now file)) × (letters < length (now array)) ⌝ }
+    ensures { λ r.
+        ⌜ Gathers (now (table .entry)) (take letters (now (array .entry))) (now (file .entry)) start from r (now (array .exit)) ⌝ }
+{
+    let mut at = from;
+    let mut mode = start;
+    let mut n = letters;
+    while at < file.len() {
+        if n == array.len() {
+            return gathered_to(at, mode, n, false);
+        }
+        let m = mark_of(fasta::item_at(file, at, mode), table);
+        mode = fasta::next_mode(mode, file[at]);
+        at += 1;
+        if m.ends {
+            return gathered_to(at, mode, n, true);
+        }
+        array[n] = m.rank;
+        n += m.letters;
+    }
+    gathered_to(at, mode, n, true)
+}
+
+// Moves count letters from the place `from` of the array to its start.
+fn move_front(array: &mut [u8], from: usize, count: usize)
+    requires { ⌜ from + count ≤ length (now array) ⌝ }
+    ensures { λ _. ⌜ now (array .exit) ≡ take count (drop from (now (array .entry))) ++ drop count (now (array .entry)) ⌝ }
+{
+    let mut j: usize = 0;
+    while j < count {
+        array[j] = array[from + j];
+        j += 1;
+    }
+}
+
+// Keeps at the array's start what the next batch needs of n letters: the last k - 1, and none where their run ended. Answers how many.
+fn carry(array: &mut [u8], n: usize, k: usize, ended: bool) -> usize
+    requires { ⌜ (1 ≤ k) × (n ≤ length (now array)) ⌝ }
+    requires { ⌜ (ended ≡ false → k ≤ n + 1) ⌝ }
+    ensures { λ r. ⌜ Carries (now (array .entry)) n k ended r (now (array .exit)) ⌝ }
+{
+    if ended {
+        return 0;
+    }
+    move_front(array, n + 1 - k, k - 1);
+    k - 1
+}
+
+// Room for the codes of a batch.
+fn no_codes() -> [u64; 1024]
+    ensures { λ r. ⌜ length r ≡ 1024 ⌝ }
+{
+    [0u64; 1024]
+}
+
+// Counts the windows of some letters of a run.
+fn count_batch(counts: &mut [u32], ranks: &[u8], c: Coder, powers: &[u64; 64])
+    requires { ⌜ ReadyCoder c (now powers) ⌝ }
+    requires { ⌜ Ranks (c .s) (now ranks) ⌝ }
+    requires { ⌜ length (now ranks) ≤ 1024 ⌝ }
+    requires { ⌜ length (now counts) ≡ classes (c .s) (c .mirror) (c .k) ⌝ }
+    requires { ⌜ Room (length (windowCodes (c .s) (c .mirror) (c .k) (now ranks))) (now counts) ⌝ }
+    ensures { λ _.
+        ⌜ now (counts .exit) ≡ bumps (now (counts .entry)) (windowCodes (c .s) (c .mirror) (c .k) (now (ranks .entry))) ⌝ }
+{
+    let mut codes = no_codes();
+    fill_codes(ranks, c, powers, &mut codes);
+    let n = kernels::window_count(ranks.len(), c.k);
+    count_codes(counts, &codes[..n]);
+}
+
+// Room for the letters of a batch.
+fn no_ranks() -> [u8; 1024]
+    ensures { λ r. ⌜ length r ≡ 1024 ⌝ }
+{
+    [0u8; 1024]
+}
+
+// Counts every window of a file.
+pub fn count_file(counts: &mut [u32], file: &[u8], table: &[u8; 256], c: Coder, powers: &[u64; 64])
+    requires { ⌜ ReadyCoder c (now powers) ⌝ }
+    requires { ⌜ RanksBelow (c .s) (now table) ⌝ }
+    requires { ⌜ length (now counts) ≡ classes (c .s) (c .mirror) (c .k) ⌝ }
+    requires { ⌜ Room (length (fileWindows (rankByTable (now table)) (c .k) (now file))) (now counts) ⌝ }
+    ensures { λ _.
+        ⌜ now (counts .exit)
+        ≡ bumps (now (counts .entry)) (codesBy c (fileWindows (rankByTable (now (table .entry))) (c .k) (now (file .entry)))) ⌝ }
+{
+    let mut array = no_ranks();
+    let mut at: usize = 0;
+    let mut mode = Mode::Start;
+    let mut n: usize = 0;
+    while at < file.len() {
+        let g = gather(file, table, at, mode, n, &mut array);
+        let letters = g.letters;
+        count_batch(counts, &array[..letters], c, powers);
+        n = carry(&mut array, letters, c.k, g.ended);
+        at = g.at;
+        mode = g.mode;
+    }
+}

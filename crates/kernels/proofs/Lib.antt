@@ -1,0 +1,14 @@
+-- The laws of the kernels, from the plainest up. Windows, Parts: the windows of a list, and parts of it. Filling: the list that is written. OneLetter, WindowEnds,
+-- FirstWindows: codes by a window's ends. AnyAlphabet, TwoBit, TwoBitRolls: each kernel. Coders, PowerTables, GoodSettings: what they ask.
+pub mod Windows
+pub mod Parts
+pub mod Filling
+pub mod OneLetter
+pub mod WindowEnds
+pub mod FirstWindows
+pub mod AnyAlphabet
+pub mod TwoBit
+pub mod TwoBitRolls
+pub mod Coders
+pub mod PowerTables
+pub mod GoodSettings

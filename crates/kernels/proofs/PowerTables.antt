@@ -1,0 +1,56 @@
+-- The table of powers, filled from the front.
+use mathlib.Core.Path.{_≡_, sym, _∙_}
+use mathlib.Core.List.{List}
+use Prim.Native.Nat.{ℕ, _+_, _*_, _^_, _<_, _≤_}
+use native.Mathlib.Nat.{pow-zero}
+use native.Mathlib.Decide.{ℕ-discrete}
+use native.Mathlib.Omega.{arith}
+use lib.ListN.{length, getD, set, length-set}
+use lib.Seq.{getD-set-same, getD-set-other}
+use Rattle.laws.proofs.Powers.{exponent-le, pow-fits}
+use Rattle.settings.proofs.Powers.{power-next}
+use Rattle.kernels.specs.Needs.{Powers}
+
+-- The powers up to s^i are written, and p is the last of them.
+pub record PowersTo (s k i p : ℕ) (table : List ℕ) : Type 0 where
+  pub room : length table ≡ 64
+  pub upto : i ≤ k
+  pub last : p ≡ s ^ i
+  pub written : Powers s i table
+
+module _ (s k : ℕ) where
+  pub powers-first : (table : List ℕ) → length table ≡ 64 → PowersTo s k 0 1 (set table 0 1)
+  powers-first table h =
+      record {
+        room = length-set table 0 1 ∙ h;
+        upto = omega arith;
+        last = sym (pow-zero s);
+        written = record { at = λ i g. let z : i ≡ 0 = omega arith in rw (z, pow-zero s) (getD-set-same table 0 1 0 (omega arith)) };
+      }
+
+  module _ (two : 1 < s) (small : s ^ k ≤ 2 ^ 62) {i p : ℕ} {table : List ℕ} (P : PowersTo s k i p table) (more : i < k) where
+    next-is : p * s ≡ s ^ (i + 1)
+    next-is = power-next s p i (P .last)
+
+    pub power-fits : p * s ≤ 2 ^ 62
+    power-fits = rw next-is (pow-fits s (i + 1) k two (omega arith) small)
+
+    pub power-room : i + 1 < length table
+    power-room = omega (arith, P .room, exponent-le s k two small)
+
+    pub powers-next : PowersTo s k (i + 1) (p * s) (set table (i + 1) (p * s))
+    powers-next =
+        record {
+          room = length-set table (i + 1) (p * s) ∙ P .room;
+          upto = omega arith;
+          last = next-is;
+          written = record {
+            at = λ j g. elim (ℕ-discrete j (i + 1)) as (λ _. getD (set table (i + 1) (p * s)) j 0 ≡ s ^ j) [
+              | yes q ↦ rw q (getD-set-same table (i + 1) (p * s) 0 power-room ∙ next-is)
+              | no q ↦ getD-set-other table (i + 1) j (p * s) 0 q ∙ P .written .at j (omega arith)
+            ];
+          };
+        }
+
+  pub powers-all : {i p : ℕ} {table : List ℕ} → PowersTo s k i p table → k ≤ i → Powers s k table
+  powers-all {i} P h = let e : i ≡ k = omega (arith, P .upto) in rw e at (P .written)

@@ -1,0 +1,267 @@
+-- Two-bit numbers: powers of 4 by shifts and masks, the letters in which two numbers differ, and the code of a window from its plain rank and its
+-- mirror's. From encoding's laws by ranks (ByRanks, EqualPairs).
+use mathlib.Core.Path.{_≡_, refl, sym, ap, _∙_}
+use mathlib.Core.List.{List}
+use mathlib.Core.Logic.{_≢_}
+use Prim.Native.Nat.{ℕ, zero, suc, _+_, _-_, _*_, _/_, _%_, _^_, _<_, _≤_, min, max}
+use native.Mathlib.Nat.{mod-lt, one-le-pow, pow-zero, pow-suc, pow-succ', pow-le-pow-right, lt-of-lt-of-le, div-div-eq-div-mul, div-eq-of-lt, le-div-iff-mul-le}
+use native.Mathlib.Decide.{decLe}
+use native.Mathlib.Omega.{arith}
+use lib.Arith.{lt-of-le-ne}
+use lib.Bits.{bitAnd, bitXor, and-le-l, and-le-r, xor-add-and, xor-shr, xor-self, and-mask, and-high}
+use lib.Count.{leadingZeros, leading-length}
+use lib.Pow.{pow-add}
+use lib.ListN.{length}
+use Rattle.settings.specs.Settings.{classes}
+use Rattle.settings.specs.Limits.{EvenUnder}
+use Rattle.laws.proofs.DigitWindows.{window}
+use Rattle.encoding.specs.Words.{Mirror, Complement, Ranks, mirror, plain}
+use Rattle.encoding.specs.Codes.{pairRank, code}
+use Rattle.encoding.specs.WordsOfCodes.{middleOfCode}
+use Rattle.encoding.specs.Needs.{palindromes}
+use Rattle.encoding.proofs.ClassNumbers.{palindromes-suc, twice-classes}
+use Rattle.encoding.proofs.Ends.{length-mirror}
+use Rattle.encoding.proofs.Canonical.{IsCanonical, Ranks-mirror, mirror-mirror}
+use Rattle.encoding.proofs.ByRanks.{closing, within, byRanks, code-by-ranks}
+use Rattle.encoding.proofs.EqualPairs.{Agree, agree-at}
+use Rattle.encoding.proofs.Codes.{canonical-low, code-mirror}
+use Rattle.kernels.specs.Needs.{part, Differ, Ordered, TwoBitWindow}
+use Rattle.kernels.proofs.Parts.{ranks-part, length-part, part-lt, back-lt}
+use Rattle.kernels.proofs.WindowEnds.{pair-total, code-lt}
+
+-- ---- powers of 4
+
+pub four-pow : (i : ℕ) → 4 ^ i ≡ 2 ^ (2 * i)
+four-pow zero = rw (pow-zero 4) refl
+four-pow (suc i) =
+    let e : 2 * suc i ≡ suc (suc (2 * i)) = omega arith in
+    rw e (omega (arith, pow-suc 4 i, four-pow i, pow-suc 2 (2 * i), pow-suc 2 (suc (2 * i))))
+
+pub four-fits : (k : ℕ) → k ≤ 31 → 4 ^ k ≤ 2 ^ 62
+four-fits k h =
+    let small : 2 * k ≤ 62 = omega arith in
+    rw (four-pow k) (pow-le-pow-right (omega arith) small)
+
+pub four-shifted : (i : ℕ) → i < 32 → 1 * 2 ^ (2 * i) % 18446744073709551616 ≡ 4 ^ i
+four-shifted i h =
+    let e : 1 * 2 ^ (2 * i) ≡ 2 ^ (2 * i) = omega arith in
+    lib.Pow.shl-exact {a = 1} 1 (2 * i) 64 (omega arith) (omega arith) ∙ e ∙ sym (four-pow i)
+
+pub four-div : (a i : ℕ) → a / 2 ^ (2 * i) ≡ a / 4 ^ i
+four-div a i = rw (four-pow i)
+
+pub low-is : (a i q : ℕ) → q ≡ 4 ^ i → bitAnd a (q - 1) ≡ a % 4 ^ i
+low-is a i q e = rw (e, four-pow i) (and-mask a (2 * i))
+
+pub between-is : (a lo hi p q : ℕ) → lo ≤ hi → p ≡ 4 ^ lo → q ≡ 4 ^ hi → bitAnd a (q - p) ≡ a / 4 ^ lo % 4 ^ (hi - lo) * 4 ^ lo
+between-is a lo hi p q h ep eq =
+    let e : 2 * hi ≡ 2 * (hi - lo) + 2 * lo = omega arith in
+    rw (ep, eq, four-pow lo, four-pow hi, four-pow (hi - lo), e) (and-high a (2 * (hi - lo)) (2 * lo))
+
+pub rest-lt : (a i one rest : ℕ) → one ≡ 4 ^ i → rest ≡ a % 4 ^ i → (1 ≤ one) × (rest ≤ one - 1)
+rest-lt a i one rest eo er =
+    let pos : 1 ≤ 4 ^ i = one-le-pow i 4 (omega arith) in
+    rw (eo, er) (pos, omega (arith, mod-lt a pos))
+
+-- ---- the letters in which two numbers differ
+
+xor-zero : (a b : ℕ) → bitXor a b ≡ 0 → a ≡ b
+xor-zero a b e = omega (arith, xor-add-and a b, and-le-l a b, and-le-r a b)
+
+xor-same : (a b i : ℕ) → bitXor a b < 2 ^ i → a / 2 ^ i ≡ b / 2 ^ i
+xor-same a b i h = xor-zero (a / 2 ^ i) (b / 2 ^ i) (sym (xor-shr a b i) ∙ div-eq-of-lt h)
+
+xor-other : (a b i : ℕ) → 2 ^ i ≤ bitXor a b → a / 2 ^ i ≢ b / 2 ^ i
+xor-other a b i h e =
+    let z : bitXor a b / 2 ^ i ≡ 0 = xor-shr a b i ∙ rw e (xor-self (b / 2 ^ i)) in
+    let o : 1 ≤ bitXor a b / 2 ^ i = le-div-iff-mul-le (lib.Pow.pow-pos i) .1 (omega arith) in
+    omega arith
+
+pub differ-at : (a b z : ℕ) → bitXor a b < 2 ^ 64 → z ≡ leadingZeros 64 (bitXor a b) → Differ a b ((65 - z) / 2)
+differ-at a b z h e =
+    let t = leading-length 64 (bitXor a b) h in
+    go (t .0) (omega (arith, t .1)) (t .2) (t .3)
+  where
+    go : (n : ℕ) → z + n ≡ 64 → bitXor a b < 2 ^ n → 2 ^ n ≤ 2 * bitXor a b + 1 → Differ a b ((65 - z) / 2)
+    go n f lt ge =
+        record {
+          few = omega arith;
+          same = rw (four-pow ((65 - z) / 2)) (xor-same a b (2 * ((65 - z) / 2)) (lt-of-lt-of-le lt (pow-le-pow-right (omega arith) (omega arith))));
+          other = λ p.
+              rw (four-pow ((65 - z) / 2 - 1))
+              (xor-other a b (2 * ((65 - z) / 2 - 1)) (below n (2 * ((65 - z) / 2 - 1)) (bitXor a b) (omega arith) ge));
+        }
+      where
+        below : (n i x : ℕ) → i < n → 2 ^ n ≤ 2 * x + 1 → 2 ^ i ≤ x
+        below n i x h g =
+            let k : 2 ^ suc i ≤ 2 ^ n = pow-le-pow-right (omega arith) h in
+            omega (arith, pow-suc 2 i)
+
+-- ---- the code by the two ranks, of any word
+
+four-two : 1 < 4
+four-two = omega arith
+
+four-even : EvenUnder 4 Complement
+four-even = refl
+
+by-two : (k : ℕ) (w : List ℕ) → length w ≡ k → Ranks 4 w → (p : ℕ)
+    → Agree 4 k (min (plain 4 w) (plain 4 (mirror 4 Complement w))) (max (plain 4 w) (plain 4 (mirror 4 Complement w))) p
+    → code 4 Complement k w ≡ byRanks 4 Complement k p (min (plain 4 w) (plain 4 (mirror 4 Complement w))) (max (plain 4 w) (plain 4 (mirror 4 Complement w)))
+unfolding code
+by-two k w l h p g =
+    elim (decLe (plain 4 w) (plain 4 (mirror 4 Complement w))) as (λ _.
+    code 4 Complement k w ≡ byRanks 4 Complement k p (min (plain 4 w) (plain 4 (mirror 4 Complement w))) (max (plain 4 w) (plain 4 (mirror 4 Complement w)))) [
+      | yes le ↦
+          let a : min (plain 4 w) (plain 4 (mirror 4 Complement w)) ≡ plain 4 w = omega arith in
+          let b : max (plain 4 w) (plain 4 (mirror 4 Complement w)) ≡ plain 4 (mirror 4 Complement w) = omega arith in
+          rw (a, b) (low w l h le (rw (a, b) at g))
+      | no nle ↦
+          let a : min (plain 4 w) (plain 4 (mirror 4 Complement w)) ≡ plain 4 (mirror 4 Complement w) = omega arith in
+          let b : max (plain 4 w) (plain 4 (mirror 4 Complement w)) ≡ plain 4 w = omega arith in
+          let mm : mirror 4 Complement (mirror 4 Complement w) ≡ w = mirror-mirror 4 Complement k w l h in
+          rw (a, b)
+          (sym (code-mirror 4 Complement four-two four-even k w l h)
+          ∙ low (mirror 4 Complement w) (length-mirror 4 Complement w ∙ l) (Ranks-mirror 4 Complement k w l h) (rw mm (omega arith)) (rw mm (rw (a, b) at g))
+          ∙ rw mm)
+    ]
+  where
+    low : (v : List ℕ) → length v ≡ k → Ranks 4 v → IsCanonical 4 Complement v → Agree 4 k (plain 4 v) (plain 4 (mirror 4 Complement v)) p
+        → code 4 Complement k v ≡ byRanks 4 Complement k p (plain 4 v) (plain 4 (mirror 4 Complement v))
+    low v lv hv gv A =
+        rw (canonical-low 4 Complement v gv)
+        (code-by-ranks 4 Complement four-two four-even k v lv hv gv
+        ∙ rw (agree-at 4 Complement four-two k v lv hv p A))
+
+-- ---- the formulas
+
+palindromes-up : (s : ℕ) (m : Mirror) (n p : ℕ) → palindromes s m (n + 2 * p) ≡ s ^ p * palindromes s m n
+palindromes-up s m n zero = let e : n + 2 * 0 ≡ n = omega arith in rw e (omega (arith, ap (λ (x : ℕ). x * palindromes s m n) (pow-zero s)))
+palindromes-up s m n (suc p) =
+    let e : n + 2 * suc p ≡ suc (suc (n + 2 * p)) = omega arith in
+    rw e (palindromes-suc s m (n + 2 * p) ∙ omega (arith, ap (λ (x : ℕ). s * x) (palindromes-up s m n p), ap (λ (x : ℕ). x * palindromes s m n) (pow-suc s p)))
+
+-- p equal pairs, a pair that differs, and n letters within.
+differing-value : (n p k e a b : ℕ) → k ≡ n + 2 * suc p → e ≡ palindromes 4 Complement k
+    → byRanks 4 Complement k p a b
+    ≡ (4 ^ suc (p + n) + e) / 2 + pairRank 4 (a / 4 ^ suc (p + n) % 4) (b / 4 ^ suc (p + n) % 4) * 4 ^ (p + n)
+    + a / 4 / 4 ^ p % 4 ^ n * 4 ^ p
+    + (4 ^ p - 1 - a % 4 ^ p)
+unfolding byRanks within closing window
+differing-value n p k e a b ek ee =
+    let i₁ : k - 2 * p ≡ suc (suc n) = omega arith in
+    let i₂ : k - p - 1 ≡ suc (p + n) = omega arith in
+    let i₃ : p + 1 ≡ suc p = omega arith in
+    let one : 4 ^ 1 ≡ 4 = refl in
+    let E : e ≡ 4 ^ p * 4 * palindromes 4 Complement n
+    = ee
+    ∙ ap (palindromes 4 Complement) ek
+    ∙ palindromes-up 4 Complement n (suc p)
+    ∙ ap (λ (x : ℕ). x * palindromes 4 Complement n) (pow-suc 4 p) in
+    let top : 4 ^ suc (p + n) ≡ 4 ^ p * 4 ^ n * 4 = pow-suc 4 (p + n) ∙ ap (λ (x : ℕ). x * 4) (pow-add 4 p n) in
+    let low : a / 4 ^ suc p ≡ a / 4 / 4 ^ p = rw (pow-succ' 4 p) (sym (div-div-eq-div-mul a 4 (4 ^ p))) in
+    rw (i₁, i₂, i₃, one)
+    (ap (λ (x : ℕ). x + (4 ^ p - 1 - a % 4 ^ p))
+    (pair-total 4 (4 ^ p) (4 ^ n) (classes 4 Complement n) (palindromes 4 Complement n)
+    (pairRank 4 (a / 4 ^ suc (p + n) % 4) (b / 4 ^ suc (p + n) % 4)) (a / 4 ^ suc p % 4 ^ n) (4 ^ suc (p + n)) e
+    (twice-classes 4 Complement n four-even) top E
+    ∙ rw (pow-add 4 p n, low) (omega arith)))
+
+middle-value : (p k a b : ℕ) → k ≡ 2 * p + 1 → byRanks 4 Complement k p a b ≡ (1 - a / 4 ^ p % 4) * 4 ^ p + (4 ^ p - 1 - a % 4 ^ p)
+unfolding byRanks within closing window middleOfCode
+middle-value p k a b e =
+    let i : k - 2 * p ≡ 1 = omega arith in
+    rw i (omega arith)
+
+even-value : (p k a b : ℕ) → k ≡ 2 * p → byRanks 4 Complement k p a b ≡ 4 ^ p - 1 - a % 4 ^ p
+unfolding byRanks within closing
+even-value p k a b e =
+    let i : k - 2 * p ≡ 0 = omega arith in
+    rw i (omega arith)
+
+-- ---- the code of a window
+
+digit-lt : (A B : ℕ) → A / 4 ≡ B / 4 → A < B → A % 4 < B % 4
+digit-lt A B e h = omega arith
+
+module _ {k e : ℕ} {d : List ℕ} {j x y : ℕ} (W : TwoBitWindow k e d j x y) where
+  pub two-fits : code 4 Complement k (part j k d) < 2 ^ 62
+  two-fits = lt-of-lt-of-le (code-lt 4 Complement four-two four-even d (W .input .ranks) j k (W .inside)) (four-fits k (W .input .small))
+
+  x-lt : x < 4 ^ k
+  x-lt = rw (W .ahead) (part-lt 4 j k d (W .input .ranks) (W .inside))
+
+  y-lt : y < 4 ^ k
+  y-lt = rw (W .behind) (back-lt 4 Complement j k d (W .input .ranks) (W .inside))
+
+  module _ {a b q : ℕ} (O : Ordered x y a b q) where
+    by-code : (p : ℕ) → Agree 4 k a b p → byRanks 4 Complement k p a b ≡ code 4 Complement k (part j k d)
+    by-code p A =
+        let fa : a ≡ min (plain 4 (part j k d)) (plain 4 (mirror 4 Complement (part j k d))) = O .lower ∙ rw (W .ahead, W .behind) in
+        let fb : b ≡ max (plain 4 (part j k d)) (plain 4 (mirror 4 Complement (part j k d))) = O .higher ∙ rw (W .ahead, W .behind) in
+        rw (fa, fb) (sym (by-two k (part j k d) (length-part j k d (W .inside)) (ranks-part 4 j k d (W .input .ranks)) p (rw (fa, fb) at A)))
+
+    q-le : 1 ≤ q → q ≤ k
+    q-le h =
+        elim (decLe q k) as (λ _. q ≤ k) [
+          | yes g ↦ g
+          | no ng ↦
+              let m : 4 ^ k ≤ 4 ^ (q - 1) = pow-le-pow-right (omega arith) (omega arith) in
+              let za : a / 4 ^ (q - 1) ≡ 0 = div-eq-of-lt (omega (arith, O .lower, x-lt, y-lt)) in
+              let zb : b / 4 ^ (q - 1) ≡ 0 = div-eq-of-lt (omega (arith, O .higher, x-lt, y-lt)) in
+              absurd (O .differ .other h (za ∙ sym zb))
+        ]
+
+    module _ (big : k + 2 ≤ 2 * q) where
+      pub pair-in : q ≤ k
+      pair-in = q-le (omega arith)
+
+      pub pair-lt : a / 4 ^ (q - 1) % 4 < b / 4 ^ (q - 1) % 4
+      pair-lt =
+          let s : q ≡ suc (q - 1) = omega arith in
+          let power : 4 ^ (q - 1) * 4 ≡ 4 ^ q = sym (pow-suc 4 (q - 1)) ∙ ap (λ (z : ℕ). 4 ^ z) (sym s) in
+          let f : (n : ℕ) → n / 4 ^ (q - 1) / 4 ≡ n / 4 ^ q
+          = λ n. div-div-eq-div-mul n (4 ^ (q - 1)) 4 ∙ ap (λ (z : ℕ). n / z) power in
+          let le : a / 4 ^ (q - 1) ≤ b / 4 ^ (q - 1) = rw (four-pow (q - 1)) (lib.Pow.shr-mono (2 * (q - 1)) (omega (arith, O .lower, O .higher))) in
+          let ne : a / 4 ^ (q - 1) ≢ b / 4 ^ (q - 1) = O .differ .other (omega arith) in
+          digit-lt (a / 4 ^ (q - 1)) (b / 4 ^ (q - 1)) (f a ∙ O .differ .same ∙ sym (f b)) (lt-of-le-ne le ne)
+
+      pair-agree : Agree 4 k a b (k - q)
+      pair-agree =
+          let i : k - (k - q) ≡ q = omega (arith, pair-in) in
+          let i′ : k - suc (k - q) ≡ q - 1 = omega (arith, pair-in) in
+          record { fits = omega arith; equal = rw i (O .differ .same); differs = λ h. rw i′ (O .differ .other (omega arith)) }
+
+      pub pair-is : (L R h top low inner one rest : ℕ) → L ≡ a / 4 ^ (q - 1) → R ≡ b / 4 ^ (q - 1) → h ≡ pairRank 4 (L % 4) (R % 4) → top ≡ 4 ^ (q - 1)
+          → low ≡ 4 ^ (q - 2)
+          → inner ≡ a / 4 / 4 ^ (k - q) % 4 ^ (q - 2 - (k - q)) * 4 ^ (k - q)
+          → one ≡ 4 ^ (k - q)
+          → rest ≡ a % 4 ^ (k - q)
+          → (top + e) / 2 + h * low + inner + (one - 1 - rest) ≡ code 4 Complement k (part j k d)
+      pair-is L R h top low inner one rest eL eR eh et el ei eo er =
+          let i₁ : q - 1 ≡ suc (k - q + (q - 2 - (k - q))) = omega (arith, pair-in) in
+          let i₂ : q - 2 ≡ k - q + (q - 2 - (k - q)) = omega (arith, pair-in) in
+          let i₃ : k ≡ q - 2 - (k - q) + 2 * suc (k - q) = omega (arith, pair-in) in
+          rw (eh, eL, eR, et, el, ei, eo, er)
+          (sym (sym (by-code (k - q) pair-agree)
+          ∙ differing-value (q - 2 - (k - q)) (k - q) k e a b i₃ (W .input .count)
+          ∙ rw (← i₁, ← i₂)))
+
+    module _ (short : 2 * q < k + 2) where
+      same-above : (i : ℕ) → q ≤ i → a / 4 ^ i ≡ b / 4 ^ i
+      same-above i h =
+          let s : i ≡ q + (i - q) = omega arith in
+          let power : 4 ^ q * 4 ^ (i - q) ≡ 4 ^ i = sym (ap (λ (z : ℕ). 4 ^ z) s ∙ pow-add 4 q (i - q)) in
+          let f : (n : ℕ) → n / 4 ^ q / 4 ^ (i - q) ≡ n / 4 ^ i
+          = λ n. div-div-eq-div-mul n (4 ^ q) (4 ^ (i - q)) ∙ ap (λ (z : ℕ). n / z) power in
+          sym (f a) ∙ ap (λ (z : ℕ). z / 4 ^ (i - q)) (O .differ .same) ∙ f b
+
+      short-agree : Agree 4 k a b (k / 2)
+      short-agree = record { fits = omega arith; equal = same-above (k - k / 2) (omega arith); differs = λ h. absurd (omega arith) }
+
+      pub palindrome-is : (one rest : ℕ) → k % 2 ≡ 0 → one ≡ 4 ^ (k / 2) → rest ≡ a % 4 ^ (k / 2) → one - 1 - rest ≡ code 4 Complement k (part j k d)
+      palindrome-is one rest h eo er = rw (eo, er) (sym (even-value (k / 2) k a b (omega arith)) ∙ by-code (k / 2) short-agree)
+
+      pub middle-is : (one rest l m : ℕ) → k % 2 ≢ 0 → one ≡ 4 ^ (k / 2) → rest ≡ a % 4 ^ (k / 2) → l ≡ a / 4 ^ (k / 2) → m ≡ 1 - l % 4
+          → m * one + (one - 1 - rest) ≡ code 4 Complement k (part j k d)
+      middle-is one rest l m h eo er el em = rw (em, el, eo, er) (sym (middle-value (k / 2) k a b (omega arith)) ∙ by-code (k / 2) short-agree)

@@ -1,0 +1,68 @@
+-- One step of a search that the record reader makes, for a header or for LF, and what each of its functions answers, from the definitions.
+use mathlib.Core.Path.{_≡_}
+use Prim.Native.Nat.{ℕ, suc, _+_, _-_, _<_, _≤_}
+use native.Mathlib.Numerals.{add-one}
+use native.Mathlib.Omega.{arith}
+use mathlib.Core.Bool.{Bool, true, false}
+use mathlib.Core.List.{List}
+use lib.ListN.{length, getD}
+use borrow.Author.Tests.{eq-eqb, ne-eqb, lt-ltb, le-ltb}
+use Rattle.records.specs.declared.Found.the-variants.{Record, Nothing}
+use Rattle.records.specs.Records.{isLf, isHeader, firstFrom, headerAt, lineEnd, recordTo, recordFrom}
+
+-- A search of the places below an end, from i on: the first is at i, or it is that from i + 1 on, or no place is left.
+module _ (test : ℕ → Bool) (end i : ℕ) where
+  one-more : i < end → end - i ≡ suc (end - suc i)
+  one-more h = omega arith
+
+  none-left : end ≤ i → end - i ≡ 0
+  none-left h = omega arith
+
+  pub first-here : i < end → test i ≡ true → firstFrom test i (end - i) ≡ i
+  unfolding firstFrom
+  first-here h e = rw (one-more h, e)
+
+  pub first-next : i < end → test i ≡ false → firstFrom test i (end - i) ≡ firstFrom test (i + 1) (end - (i + 1))
+  unfolding firstFrom
+  first-next h e = rw (one-more h, e, add-one i)
+
+  pub first-none : end ≤ i → firstFrom test i (end - i) ≡ i
+  unfolding firstFrom
+  first-none h = rw (none-left h)
+
+module _ (file : List ℕ) (i : ℕ) where
+  pub no-mark : (getD file i 0 ≡ 62 → ⊥) → false ≡ isHeader file i
+  unfolding isHeader
+  no-mark e = rw (ne-eqb (getD file i 0) 62 e)
+
+  pub at-start : getD file i 0 ≡ 62 → i ≡ 0 → true ≡ isHeader file i
+  unfolding isHeader
+  at-start e f = rw (eq-eqb (getD file i 0) 62 e, eq-eqb i 0 f)
+
+  pub after-lf : getD file i 0 ≡ 62 → (i ≡ 0 → ⊥) → isLf file (i - 1) ≡ isHeader file i
+  unfolding isHeader
+  after-lf e f = rw (eq-eqb (getD file i 0) 62 e, ne-eqb i 0 f)
+
+module _ (file : List ℕ) (h e : ℕ) where
+  pub with-cr : e < length file → (end : ℕ) → end ≡ headerAt file (e + 1) → getD file (e - 1) 0 ≡ 13
+      → Record h (e - 1 - h) (e + 1) (end - (e + 1)) ≡ recordTo file h e
+  unfolding recordTo
+  with-cr g end f c = rw (lt-ltb e (length file) g, eq-eqb (getD file (e - 1) 0) 13 c, f)
+
+  pub with-lf : e < length file → (end : ℕ) → end ≡ headerAt file (e + 1) → (getD file (e - 1) 0 ≡ 13 → ⊥)
+      → Record h (e - h) (e + 1) (end - (e + 1)) ≡ recordTo file h e
+  unfolding recordTo
+  with-lf g end f c = rw (lt-ltb e (length file) g, ne-eqb (getD file (e - 1) 0) 13 c, f)
+
+  pub cut-off : e ≡ length file → Record h (e - h) e 0 ≡ recordTo file h e
+  unfolding recordTo
+  cut-off g = rw (le-ltb e (length file) (omega arith), g)
+
+module _ (file : List ℕ) (at h : ℕ) (f : h ≡ headerAt file at) where
+  pub some-record : h < length file → (e : ℕ) → e ≡ lineEnd file h → recordTo file h e ≡ recordFrom file at
+  unfolding recordFrom
+  some-record g e k = rw (← f, lt-ltb h (length file) g, k)
+
+  pub no-record : length file ≤ h → Nothing ≡ recordFrom file at
+  unfolding recordFrom
+  no-record g = rw (← f, le-ltb h (length file) g)

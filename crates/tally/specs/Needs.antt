@@ -1,0 +1,5 @@
+-- What the laws of the table speak of on the way; no sentence of document 01 rests on it.
+use Prim.Native.Nat.{ℕ, _<_}
+
+abbrev pub Below : ℕ → ℕ → Type 0
+Below n q = q < n

@@ -1,0 +1,129 @@
+// Words and their codes: the code of a word, the word of a code, a word's mirror, and the pick of the lower of two words.
+// The calls take the settings as they are and refuse what no rule allows; the modules below them work on good settings.
+mod to_code; // from a word to its code
+mod letters; // from bytes to ranks and back
+pub mod pair_ranks; // the rank of a pair of ranks
+pub mod ranks; // words of ranks: mirror and plain rank
+mod to_word; // from a code to its word
+
+ghost use mathlib.Core.Path.{_≡_};
+ghost use lib.ListN.{length};
+ghost use Rattle.settings.specs.Grounds.{ofFilling, Overwrites};
+ghost use Rattle.encoding.specs.Calls.{codeGround, coding, readGround, wordBytes, mirrorGround, mirrorBytes};
+ghost use Rattle.words.specs.Answers.{ofCoding, Picked};
+ghost use Rattle.words.specs.Needs.{noneApplies};
+use letters::Place;
+use settings::Checked;
+use settings::Filling;
+use settings::Refusal;
+
+// A plain rank counts all words, a code counts classes, and neither may pass for the other.
+pub struct PlainRank(pub u64);
+
+pub struct Code(pub u64);
+
+// What coding a word answers: its code, or why it is refused.
+pub enum Coding {
+    Coded(Code),
+    Refused(Refusal),
+}
+
+// The code of a word. Refused by the first of the grounds 1 to 5 and 9.
+pub fn code_of(letters: &[u8], k: usize, mirror: u64, word: &[u8]) -> Coding
+    ensures { λ r. ⌜ ofCoding r ≡ coding (now (letters .entry)) k mirror (now (word .entry)) ⌝ }
+{
+    match settings::check(letters, k, mirror) {
+        Checked::Bad(f) => Coding::Refused(f),
+        Checked::Good(st) => {
+            if word.len() != k {
+                return Coding::Refused(Refusal::WrongLength);
+            }
+            let m = st.mirror;
+            match letters::foreign_at(letters, word) {
+                Place::At(i) => Coding::Refused(Refusal::ForeignByte(i)),
+                Place::Nowhere => Coding::Coded(to_code::word_code(letters, word, m)),
+            }
+        }
+    }
+}
+
+// Writes the canonical word with a code, in capitals, to the first k bytes of out. Refused by the first of the grounds 1 to 4, 7 and 8.
+pub fn word_of(letters: &[u8], k: usize, mirror: u64, q: Code, out: &mut [u8]) -> Filling
+    ensures { λ r.
+        ⌜ Overwrites (readGround (now (letters .entry)) k mirror (q .0) (length (now (out .entry)))) k
+        (wordBytes (now (letters .entry)) k mirror (q .0)) (now (out .entry)) (ofFilling r) (now (out .exit)) ⌝ }
+{
+    match settings::check(letters, k, mirror) {
+        Checked::Bad(f) => Filling::Unfilled(f),
+        Checked::Good(st) => {
+            if out.len() < k {
+                return Filling::Unfilled(Refusal::ShortBuffer(k));
+            }
+            if q.0 >= st.classes {
+                return Filling::Unfilled(Refusal::NoSuchCode);
+            }
+            let m = st.mirror;
+            to_word::write_word(letters, k, m, q.0, out);
+            Filling::Filled(k)
+        }
+    }
+}
+
+// Writes a word's mirror, in capitals, to the first k bytes of out. Refused by the first of the grounds 1 to 5, 7 and 9.
+pub fn mirror_of(letters: &[u8], k: usize, mirror: u64, word: &[u8], out: &mut [u8]) -> Filling
+    ensures { λ r.
+        ⌜ Overwrites (mirrorGround (now (letters .entry)) k mirror (now (word .entry)) (length (now (out .entry)))) k
+        (mirrorBytes (now (letters .entry)) mirror (now (word .entry))) (now (out .entry)) (ofFilling r) (now (out .exit)) ⌝ }
+{
+    match settings::check(letters, k, mirror) {
+        Checked::Bad(f) => Filling::Unfilled(f),
+        Checked::Good(st) => {
+            if word.len() != k {
+                return Filling::Unfilled(Refusal::WrongLength);
+            }
+            if out.len() < k {
+                return Filling::Unfilled(Refusal::ShortBuffer(k));
+            }
+            let m = st.mirror;
+            match letters::foreign_at(letters, word) {
+                Place::At(i) => Filling::Unfilled(Refusal::ForeignByte(i)),
+                Place::Nowhere => {
+                    letters::write_mirror(letters, word, m, out);
+                    Filling::Filled(k)
+                }
+            }
+        }
+    }
+}
+
+// Whether no ground applies to coding a word.
+fn can_code(letters: &[u8], k: usize, mirror: u64, word: &[u8]) -> bool
+    ensures { λ r. ⌜ r ≡ noneApplies (codeGround (now (letters .entry)) k mirror (now (word .entry))) ⌝ }
+{
+    match code_of(letters, k, mirror, word) {
+        Coding::Coded(_) => true,
+        Coding::Refused(_) => false,
+    }
+}
+
+// The one of two words with the lower plain rank, the first if they are equal; an empty part of the first where coding either is refused.
+pub fn pick<'a>(
+    letters: &[u8],
+    k: usize,
+    mirror: u64,
+    first: &'a [u8],
+    second: &'a [u8],
+) -> &'a [u8]
+    ensures { λ r. ⌜ Picked (now (letters .entry)) k mirror (first .entry) (second .entry) r ⌝ }
+{
+    if !can_code(letters, k, mirror, first) {
+        return &first[..0];
+    }
+    if !can_code(letters, k, mirror, second) {
+        return &first[..0];
+    }
+    if letters::plain_of(letters, first).0 <= letters::plain_of(letters, second).0 {
+        return first;
+    }
+    second
+}
