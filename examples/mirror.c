@@ -1,6 +1,7 @@
 /*
  * mirror.c: how a C program takes the reverse complement of k-mers with kmer.h, shows that a word and its
- * mirror have one code, and finds the place that a refusal tells. mirror.expected has what it must print.
+ * mirror have one code, finds the place that a refusal tells, and codes all k-mers along a sequence.
+ * mirror.expected has what it must print.
  *
  *   rt staticlib kmer
  *   cc -std=c11 -Iinclude examples/mirror.c target/staticlib/libkmer.a -o target/mirror && target/mirror
@@ -37,6 +38,41 @@ static void print_mirror(const char *word, size_t room)
         printf("%s is refused: ground %u\n", word, kmer_refusal(answer));
 }
 
+/* Prints the codes that a call along a sequence has filled, or why it was refused. */
+static void print_codes(const char *call, uint64_t answer, const uint64_t *codes)
+{
+    if (kmer_is_refused(answer)) {
+        printf("%s is refused: ground %u, P %" PRIu64 "\n", call, kmer_refusal(answer), kmer_refusal_p(answer));
+        return;
+    }
+    printf("%s:", call);
+    for (uint64_t j = 0; j < answer; j++) {
+        if (codes[j] == KMER_NO_CODE)
+            printf(" none");
+        else
+            printf(" %" PRIu64, codes[j]);
+    }
+    printf("\n");
+}
+
+/* A sequence of 8 windows; those with the N have no code. */
+static const uint8_t sequence[12] = {'A', 'A', 'C', 'T', 'T', 'g', 'N', 'C', 'C', 'C', 'C', 'C'};
+#define WINDOWS (sizeof sequence - K + 1)
+
+/* Codes along it, into lists of which the calls may use so many places, at most WINDOWS. The second call is
+   the faster one for ACGT under reverse complement; its list is its own, so that what the first one wrote
+   cannot pass for its work. */
+static void print_along(size_t room)
+{
+    uint64_t codes[WINDOWS] = {0}, two_bit[WINDOWS] = {0};
+    printf("codes along %.*s, %zu places\n", (int)sizeof sequence, (const char *)sequence, room);
+    uint64_t answer = kmer_codes(letters, sizeof letters, K, KMER_COMPLEMENT, sequence, sizeof sequence,
+                                 codes, room);
+    print_codes("kmer_codes", answer, codes);
+    answer = kmer_codes_two_bit(K, sequence, sizeof sequence, two_bit, room);
+    print_codes("kmer_codes_two_bit", answer, two_bit);
+}
+
 int main(void)
 {
     print_mirror("AACTT", K);
@@ -45,5 +81,7 @@ int main(void)
     print_mirror("ACNNT", K);
     print_mirror("ACGTA", K - 1);
     print_mirror("ACGT", K);
+    print_along(WINDOWS);
+    print_along(WINDOWS - 1);
     return 0;
 }
