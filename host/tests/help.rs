@@ -19,6 +19,7 @@ fn each_command_has_help_with_an_example() {
     assert!(all.text().lines().all(|line| line.chars().count() <= 110));
     assert_eq!(run(&["-h"]).out, all.out);
     assert_eq!(run(&["help"]).out, all.out);
+    assert!(all.text().contains("\n  wontirje --version "));
     assert!(run(&["--version"]).text().starts_with("wontirje "));
     for command in COMMANDS {
         assert!(all.text().contains(&format!("\n  wontirje {command} ")), "{command}");
@@ -89,7 +90,7 @@ fn errors_in_the_command_line() {
 /// Settings that the library refuses: the number of the ground, the settings and what to do, in one line.
 #[test]
 fn refused_settings() {
-    let cases: [(&[&str], &str); 5] = [
+    let cases: [(&[&str], &str); 7] = [
         (
             &["count", "--mirror", "both", "-"],
             "refused 2: the mirror is neither reversal nor complement: --mirror both",
@@ -108,6 +109,16 @@ fn refused_settings() {
             &["classes", "--letters", "ACG"],
             "refused 3: complement needs an even number of letters (letters ACG, k 11, mirror complement); \
              give --mirror reversal, or one letter more or less",
+        ),
+        (
+            &["classes", "--letters", "ACG", "5", "6"],
+            "refused 3: complement needs an even number of letters (letters ACG, k 11, mirror complement); \
+             give --mirror reversal, or one letter more or less",
+        ),
+        (
+            &["classes", "--letters", "AA", "-"],
+            "refused 1: the letters are not 2 to 16 different capitals (letters AA, k 11, mirror complement); \
+             give --letters in capitals, each once, as in --letters ACGT",
         ),
         (
             &["word", "--k", "32", "0"],

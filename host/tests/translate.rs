@@ -5,8 +5,9 @@ mod run;
 use kmer_tests::draw::*;
 use kmer_tests::expected::{coding, reading};
 use kmer_tests::settings::*;
-use run::{options, run, run_with};
+use run::{options, run, run_as, run_with, WONTIRJE};
 use std::ffi::OsString;
+use std::process::Command;
 
 /// The cases of document 01.
 #[test]
@@ -67,6 +68,28 @@ fn lines_of_standard_input() {
     assert_eq!(run.complaints(), refused);
     let run = run_with(&["code"], b"");
     assert_eq!((run.status, run.text(), &run.err[..]), (0, "", ""));
+}
+
+/// A line of more than 65,536 bytes, its end included, is refused by its number and does not stop the others.
+#[test]
+fn lines_too_long() {
+    let longest = ["0".repeat(65_534), String::from("2\n")].concat();
+    let lines =
+        [&longest, "0", &longest, "3\n", &"1".repeat(200_000), "\r\n4\n", &"5".repeat(65_537)].concat();
+    let run = run_with(&["word", "--k", "2"], lines.as_bytes());
+    assert_eq!((run.status, run.text()), (1, "GC\nTA\nAG\n"));
+    let refused = [2, 4, 6].map(|line| format!("line {line}: more than 65,536 bytes"));
+    assert_eq!(run.complaints(), refused);
+}
+
+/// Such a line takes no memory: the command has 32 MiB, the line twice as many.
+#[test]
+fn a_line_above_the_memory() {
+    let script = "ulimit -v 32768 && exec \"$0\" code --k 4";
+    let lines = [&b"ACGT\n"[..], &vec![b'A'; 64 << 20], b"\nTTTT\n"].concat();
+    let run = run_as(Command::new("sh").args(["-c", script, WONTIRJE]), &lines);
+    assert_eq!((run.status, run.text()), (1, "4\n72\n"), "{}", run.err);
+    assert_eq!(run.complaints(), ["line 2: more than 65,536 bytes"]);
 }
 
 /// Arguments are refused one by one too, an empty one among them.

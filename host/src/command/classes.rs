@@ -20,10 +20,13 @@ fn sizes(settings: &Settings) -> Result<String, Refusal> {
 /// Without operands the k of the settings is told, else each k that is given.
 pub fn run(arguments: &Arguments) -> Outcome {
     let settings = survey::settings(arguments)?;
+    let refused = |refusal| survey::refused(&settings, refusal);
     if arguments.operands.is_empty() {
-        let line = sizes(&settings).map_err(|refusal| survey::refused(&settings, refusal))?;
+        let line = sizes(&settings).map_err(refused)?;
         return print(&format!("{line}\n"));
     }
+    // Letters and mirror are no K's fault: they are judged once, with k = 1, which ground 4 never refuses.
+    sizes(&Settings { k: 1, ..settings }).map_err(refused)?;
     translate(arguments, |item| {
         let k = number(item).ok_or("not a k: a number below 2^64 in decimal digits")?;
         sizes(&Settings { k, ..settings }).map_err(|refusal| refusal.to_string())

@@ -8,6 +8,7 @@ wontirje counts canonical k-mers: a word of k letters and its reverse complement
   wontirje word CODE...        print the canonical word of each code
   wontirje classes [K...]      print the number of classes and the size of their table
   wontirje histogram LISTING   print how many classes have each count, and draw a chart
+  wontirje --version           print the version
 
 Settings of all but histogram, and what they are when not given:
   --letters ACGT        2 to 16 different capitals, in the order of their ranks

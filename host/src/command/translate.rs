@@ -6,27 +6,42 @@ use crate::input::bare;
 use crate::report::{line, shown};
 use crate::survey;
 use std::ffi::OsStr;
-use std::io::{self, BufRead, Write};
+use std::io::{self, BufRead, Read, Write};
 use std::os::unix::ffi::OsStrExt;
 use wontirje::{Code, Refusal, Settings};
 
-/// Hands each operand, or each line of standard input where there is none or it is -, to some work, with what
-/// an empty one is called.
+/// The most bytes of a line of standard input, its end included. No word, code or K needs nearly as many;
+/// without a bound, input that has no lines would fill the memory.
+const LONGEST_LINE: usize = 65_536;
+
+/// Hands each operand, or each line of standard input where there is none or it is -, to some work; a line that
+/// is too long comes as none. With it goes what an item is called that is empty or too long.
 fn each_item(
     arguments: &Arguments,
-    mut work: impl FnMut(&OsStr, &str) -> Result<(), Failure>,
+    mut work: impl FnMut(Option<&OsStr>, &str) -> Result<(), Failure>,
 ) -> Result<(), Failure> {
     match &arguments.operands[..] {
         [] => (),
         [only] if only == "-" => (),
-        operands => return operands.iter().try_for_each(|operand| work(operand, "an empty argument")),
+        operands => return operands.iter().try_for_each(|operand| work(Some(operand), "an empty argument")),
     }
     let unread = |error: io::Error| Failure::said(format!("standard input: not read: {}", reason(&error)));
     let mut input = io::stdin().lock();
     let mut line = Vec::new();
-    while input.read_until(b'\n', &mut line).map_err(unread)? > 0 {
-        work(OsStr::from_bytes(bare(&line)), "an empty line")?;
+    let most = LONGEST_LINE as u64 + 1;
+    for number in 1u64.. {
         line.clear();
+        match input.by_ref().take(most).read_until(b'\n', &mut line).map_err(unread)? {
+            0 => break,
+            1..=LONGEST_LINE => work(Some(OsStr::from_bytes(bare(&line))), "an empty line")?,
+            _ => {
+                // Told before its rest is skipped, which may have no end.
+                work(None, &format!("line {number}"))?;
+                if !line.ends_with(b"\n") {
+                    input.skip_until(b'\n').map_err(unread)?;
+                }
+            }
+        }
     }
     Ok(())
 }
@@ -35,11 +50,12 @@ fn each_item(
 pub fn translate(arguments: &Arguments, translated: impl Fn(&OsStr) -> Result<String, String>) -> Outcome {
     let mut refused = false;
     let mut to = io::stdout().lock();
-    each_item(arguments, |item, empty| match translated(item) {
+    let too_long = || String::from("more than 65,536 bytes");
+    each_item(arguments, |item, unnamed| match item.ok_or_else(too_long).and_then(&translated) {
         Ok(text) => writeln!(to, "{text}").map_err(|error| Failure::of_printing(error, status(refused))),
         Err(reason) => {
             refused = true;
-            let name = if item.is_empty() { String::from(empty) } else { shown(item) };
+            let name = item.filter(|item| !item.is_empty()).map_or(String::from(unnamed), shown);
             line(format_args!("{name}: {reason}"));
             Ok(())
         }
