@@ -137,7 +137,7 @@ uint64_t kmer_clear(const uint8_t *letters, size_t letters_len, size_t k, uint64
  *                       and windows; later places keep what they held.
  * Returns 5, or 2^63 + P * 256 + the number of the first ground that applies of 1, 2, 3, 4, 6, 7 (of the
  * table, then of answer), 10 or 11 (the earlier byte), 12, where P is the length needed for 7, the offset of
- * the byte for 10 and 11, else 0. A refused call writes nothing to table or answer: no part of a damaged
+ * the byte for 10 and 11, else 0. A refused call writes nothing to table or answer: no part of a refused
  * file is counted.
  */
 uint64_t kmer_add(const uint8_t *letters, size_t letters_len, size_t k, uint64_t mirror,

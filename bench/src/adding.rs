@@ -166,6 +166,7 @@ fn print_adding(what: &str, settings: Settings, file: &[u8]) {
 }
 
 pub fn print() {
+    println!("ns a letter, median of {RUNS} runs, files of {LETTERS} random letters");
     let dna = drawn_file(b"ACGT", b'N');
     for k in [12, 8] {
         print_adding(&format!("adding, ACGT complement k {k}:"), Settings::dna(k), &dna);

@@ -120,8 +120,8 @@ fn drawn_codes_of_all_settings_read_back() {
     });
 }
 
-/// The last code before and the first code at each change of the specifying place: below the codes
-/// with p equal outer pairs or more there are s^p times the classes of k - 2p letters.
+/// The last code before and the first code at each change of the specifying place: the codes with p equal
+/// outer pairs or more are the lowest, s^p times the classes of k - 2p letters of them.
 #[test]
 fn codes_around_each_specifying_place_read_back() {
     each_settings(5, |settings, coder, random| {

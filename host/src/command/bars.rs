@@ -52,8 +52,9 @@ fn round_width(least: u64) -> u64 {
 }
 
 /// At most so many bars (2 or more), from count 1 on. Where the highest count is above that, a bar may stand
-/// for several counts, so that 99 of 100 classes are in the bars before the last; the last one then takes all
-/// higher counts, since a few repeats may have counts a thousand times those of the rest.
+/// for several counts, so that `most - 1` bars are enough for 99 of 100 classes; where higher counts are left
+/// after `most` bars, the last one takes them, since a few repeats may have counts a thousand times those of
+/// the rest.
 pub fn grouped(spectrum: &BTreeMap<u32, u64>, most: usize) -> Vec<Bar> {
     let most = most as u64;
     let highest = spectrum.keys().next_back().map_or(0, |&count| u64::from(count));
