@@ -53,8 +53,8 @@ const WORDS: [&str; 2] = ["requires", "returns"];
 fn is_there(text: &str) -> bool {
     if let Some((first, rest)) = text.split_once("::") {
         let name = rest.rsplit("::").next().expect("a last part");
-        // What is no crate is a type that has functions, as in `Reader::next`; those are in fasta.
-        let folder = if root().join("crates").join(first).is_dir() { first } else { "fasta" };
+        // What is no crate is a type that has functions, as in `Reader::next`; those are in records.
+        let folder = if root().join("crates").join(first).is_dir() { first } else { "records" };
         return source(folder).lines().any(|line| declares(line.trim(), name));
     }
     if is_name(text) && tests().contains(&format!("fn {text}(")) {
