@@ -1,6 +1,7 @@
 //! docs/CLAIMS.md cites files, must-fail edits, functions, definitions and theorems. Each of them is there: a
 //! path is a file, an edit is in its crate's must-fail folder, a function is in its crate's source, and every
-//! other name is declared in the file that the page's index says.
+//! other name is declared in the file that the page's index says. And what must be believed has as many lines
+//! as the page says.
 
 use std::collections::BTreeSet;
 use std::fs;
@@ -95,5 +96,51 @@ fn what_the_page_cites_is_there() {
             || (!is_name(text) && text.contains([' ', '&', '(']))
             || is_there(text);
         assert!(known, "`{text}` is neither in the index nor a file, an edit or a function");
+    }
+}
+
+/// How many lines of a specs file are neither blank, nor a comment, nor an import.
+fn lines_of_definitions(text: &str) -> usize {
+    let skipped = ["--", "use ", "pub use ", "unfoldable pub use ", "pub mod "];
+    let line_counts = |line: &&str| !line.is_empty() && !skipped.iter().any(|start| line.starts_with(start));
+    text.lines().map(str::trim).filter(line_counts).count()
+}
+
+/// The files of a passage of the page, each `path` with a number behind it, and the sum of the numbers.
+fn counted_files(passage: &str) -> (BTreeSet<&str>, usize) {
+    let mut files = BTreeSet::new();
+    let mut sum = 0;
+    let parts: Vec<&str> = passage.split('`').collect();
+    for pair in parts[1..].chunks(2).filter(|pair| pair[0].contains("/specs/")) {
+        let digits: String = pair[1].trim_start().chars().take_while(char::is_ascii_digit).collect();
+        let Ok(said) = digits.parse::<usize>() else { continue };
+        let path = root().join("crates").join(pair[0]);
+        assert_eq!(lines_of_definitions(&read(&path)), said, "{} has another number of lines", pair[0]);
+        files.insert(pair[0]);
+        sum += said;
+    }
+    (files, sum)
+}
+
+#[test]
+fn what_must_be_believed_is_counted() {
+    let page = read(&root().join("docs/CLAIMS.md"));
+    let (_, rest) = page.split_once("\n## What must be believed\n").expect("the page has a list");
+    let (list, tied) = rest.split_once("\nTwo more files, ").expect("and two files that theorems tie to it");
+    let (believed, sum) = counted_files(list);
+    assert!(list.contains(&format!(": {sum} in all.")), "the list adds up to {sum}");
+    assert!(sum <= 700, "{sum} lines must be believed");
+    let (tied, _) = counted_files(tied.split_once("\n## ").expect("a next section").0);
+    let apart = |name: &str| ["Lib.antt", "Needs.antt", "RankTables.antt"].contains(&name);
+    for folder in fs::read_dir(root().join("crates")).expect("the folder of the crates") {
+        let folder = folder.expect("an entry of the folder").path();
+        for file in fs::read_dir(folder.join("specs")).into_iter().flatten() {
+            let path = file.expect("an entry of the folder").path();
+            let name = path.file_name().expect("a name").to_string_lossy().into_owned();
+            let crate_name = folder.file_name().expect("a name").to_string_lossy().into_owned();
+            let listed = format!("{crate_name}/specs/{name}");
+            let known = believed.contains(listed.as_str()) || tied.contains(listed.as_str());
+            assert!(known || apart(&name), "{listed} is in neither list");
+        }
     }
 }
