@@ -24,6 +24,7 @@ use Rattle.counting.specs.declared.batches.Gathered.{Gathered}
 pub record Room (n : ℕ) (counts : List ℕ) : Type 0 where
   pub free : (q : ℕ) → q < length counts → getD counts q 0 + n ≤ 4294967295
 
+-- The highest of some counts, and 0 where there are none.
 unfoldable pub highestOf : List ℕ → ℕ
 highestOf [] = 0
 highestOf (c ∷ cs) = max c (highestOf cs)

@@ -24,6 +24,7 @@ abbrev pub lineLength : (k n : ℕ) → ℕ
 lineLength k zero = 0
 lineLength k (suc n) = 10 + k + length (decimal (suc n))
 
+-- The length of the lines of classes with these counts, each word having k letters.
 unfoldable pub linesLength : (k : ℕ) (counts : List ℕ) → ℕ
 linesLength k [] = 0
 linesLength k (n ∷ counts) = lineLength k n + linesLength k counts

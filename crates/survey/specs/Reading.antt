@@ -78,6 +78,7 @@ endAfter t at =
     (cond (startsWith (bytes "))\r\n") (drop at t)) (At (at + 4))
     (cond (startsWith (bytes "))") (drop at t) && eqb (at + 2) (length t)) (At (at + 2)) Nowhere))
 
+-- The place after the line whose last form this is; nowhere where it is no form.
 unfoldable pub lineEnd : List ℕ → Form → End
 lineEnd t NoForm = Nowhere
 lineEnd t (Of name from len number) = endAfter t (from + len)
@@ -89,6 +90,7 @@ took p (Of Letters from len number) = record { letters = Of Letters from len num
 took p (Of K from len number) = record { letters = p .letters; k = Of K from len number; mirror = p .mirror }
 took p (Of Mirror from len number) = record { letters = p .letters; k = p .k; mirror = Of Mirror from len number }
 
+-- No form is met yet.
 abbrev pub noneMet : Forms
 noneMet = record { letters = NoForm; k = NoForm; mirror = NoForm }
 

@@ -1,4 +1,5 @@
--- Counts that grow: a place grows by how often it is named, the sum of the counts by how many places are named, and later places stay.
+-- Counts that grow: a place grows by how often it is named, the sum of the counts by how many places are named, and later places stay. From the
+-- definitions `bump`, `bumps` (specs/Table.antt) and `sum` (specs/Demand.antt), and the library's laws of `set`.
 use mathlib.Core.Path.{_≡_, refl, sym, ap, _∙_}
 use Prim.Native.Nat.{ℕ, zero, suc, _+_, _≤_, _<_}
 use native.Mathlib.Omega.{arith}

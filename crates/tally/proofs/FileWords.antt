@@ -1,4 +1,4 @@
--- A file's windows are words of k letters.
+-- A file's windows are words of k letters. From the definitions of marks, runs and windows, and that a letter's rank is below the number of letters.
 use mathlib.Core.Path.{_≡_, refl, sym}
 use Prim.Native.Nat.{ℕ, suc, _<_}
 use mathlib.Core.Bool.{Bool, true, false, cond}

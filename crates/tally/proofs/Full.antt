@@ -1,4 +1,4 @@
--- Ground 12: it applies exactly where some count of a table, or some tally of a book, is too high.
+-- Ground 12: it applies exactly where some count of a table, or some tally of a book, is too high. From the definition `full` (specs/Table.antt).
 use mathlib.Core.Path.{_≡_, refl, sym, _∙_}
 use mathlib.Core.Logic.{⊎-elim}
 use Prim.Native.Nat.{ℕ, zero, suc, _-_, _≤_, _<_}

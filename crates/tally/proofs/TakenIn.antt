@@ -1,4 +1,5 @@
--- The files that a list of adds takes in: their windows, their letters, and the tallies that they leave in a book.
+-- The files that a list of adds takes in: their windows, their letters, and the tallies that they leave in a book. From the definitions in
+-- specs/Book.antt and specs/Demand.antt, and from what is known of the windows (FileWords) and the letters (`letters-are`) of one file.
 use mathlib.Core.Path.{_≡_, refl, _∙_}
 use Prim.Native.Nat.{ℕ, _+_, _≤_}
 use native.Mathlib.Omega.{arith}

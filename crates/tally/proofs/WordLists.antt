@@ -1,4 +1,5 @@
 -- Words told apart by a test, and the list of all canonical words: it has those words that are canonical words of a class, and no others.
+-- From the definitions in specs/Book.antt.
 use mathlib.Core.Path.{_≡_, refl, sym, ap, ap₂, _∙_}
 use mathlib.Core.Logic.{_⊎_, inl, inr, ⊎-elim}
 use Prim.Native.Nat.{ℕ, zero, suc, _<_}

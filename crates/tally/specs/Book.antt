@@ -66,11 +66,12 @@ clearedBook w = 0
 abbrev pub tallies : ℕ → Mirror → ℕ → Book → List ℕ
 tallies s m k book = map book (canonicalOnes s m (allWords s k))
 
--- "Where any ground for refusing applies to an add (12 read with the tallies instead of the table's places)": the book has room for each
--- class, so that ground 7 never applies to it; neither did it to the clearing.
+-- "12 read with the tallies instead of the table's places"
 abbrev pub bookFull : (letters : List ℕ) (k mirror : ℕ) → Book → (file : List ℕ) → Bool
 bookFull letters k m book file = full (length (windowsOfFile letters k file)) (tallies (length letters) (mirrorOf m) k book)
 
+-- "Where any ground for refusing applies to an add": the book has room for each class, so that ground 7 never applies to it; neither did it to
+-- the clearing.
 abbrev pub bookGround : (letters : List ℕ) (k mirror : ℕ) → Book → (file : List ℕ) → Option Ground
 bookGround letters k m book file = addGround letters k m (classCount letters k m) (bookFull letters k m book file) file
 

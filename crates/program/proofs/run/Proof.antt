@@ -36,7 +36,7 @@ put-refused-requires-2 c κs = search needs
 enum-known-from : tie.Need-enum-known-from
 enum-known-from c = search needs
 
--- The line that is read from the input, and that it is the survey line that the match tells.
+-- The input, and that what is read from it is the survey line that the match tells.
 abbrev input : tie.After-from → List ℕ
 input c = now (c .before .before .before .before .before .before .args .input)
 
