@@ -4,14 +4,13 @@ use Prim.Native.Nat.{ℕ, _+_, _-_, _<_, _≤_}
 use native.Mathlib.Omega.{arith}
 use mathlib.Core.Bool.{Bool, true, false, cond}
 use mathlib.Core.List.{List, [], _++_, map-append}
-use lib.ListN.{length, take, drop, length-append, length-map, length-drop}
-use lib.Seq.{take-at, drop-at, take-add, length-take-le}
+use lib.ListN.{length, take, drop, length-append, length-map}
+use lib.Seq.{drop-at, take-add, length-take-le}
 use Rattle.settings.specs.Settings.{classes}
 use Rattle.settings.proofs.Limits.{k-at-most}
-use Rattle.encoding.specs.Words.{Ranks, IsWord}
+use Rattle.encoding.specs.Words.{Ranks}
 use Rattle.encoding.specs.Codes.{code}
 use Rattle.encoding.proofs.Ends.{ranks-drop}
-use Rattle.encoding.proofs.Theorems.{code-below-classes}
 use Rattle.fasta.specs.declared.Mode.{Mode}
 use Rattle.fasta.specs.declared.Mode.the-variants.{Start}
 use Rattle.fasta.specs.Items.{marks}
@@ -21,17 +20,19 @@ use Rattle.fasta.proofs.Scans.{items-end}
 use Rattle.kernels.specs.declared.Coder.{Coder}
 use Rattle.laws.specs.Windows.{windows}
 use Rattle.kernels.specs.Needs.{Fills, ReadyCoder}
+use Rattle.laws.proofs.Buffers.{front-is, front-fits}
 use Rattle.laws.proofs.Windows.{windows-none}
 use Rattle.kernels.proofs.Windows.{length-codes}
+use Rattle.kernels.proofs.Parts.{length-part}
 use Rattle.counting.specs.declared.batches.Gathered.{Gathered}
 use Rattle.tally.specs.Table.{bumps}
 use Rattle.laws.specs.Each.{Each}
 use Rattle.tally.specs.Needs.{Below}
 use Rattle.counting.specs.Needs.{Room, codesBy, cut, cutFrom, cutAfter, Gathers, Carries}
-use Rattle.laws.proofs.Each.{each-map}
 use Rattle.tally.proofs.Bumps.{length-bumps, bumps-append}
 use Rattle.counting.proofs.CountLoops.{room-after, less-room}
 use Rattle.tally.proofs.FileWords.{word-windows}
+use Rattle.tally.proofs.Classes.{codes-below}
 use Rattle.counting.proofs.Cuts.{cut-all, cut-batch}
 
 -- ---- one batch
@@ -43,16 +44,7 @@ module _ {c : Coder} {powers : List ℕ} (C : ReadyCoder c powers) (ranks : List
   -- The codes stand at the start of the list that was filled.
   pub codes-front : {old new : List ℕ} → Fills (codesBy c (windows (c .k) ranks)) old new → (n : ℕ) → n ≡ length ranks + 1 - c .k
       → take n new ≡ codesBy c (windows (c .k) ranks)
-  codes-front {old} F n e =
-      let codes = codesBy c (windows (c .k) ranks) in
-      rw (F .is) (take-at codes (drop (length codes) old) n (codes-length ∙ sym e))
-
-  codes-below : Ranks (c .s) ranks → Each (Below (classes (c .s) (c .mirror) (c .k))) (codesBy c (windows (c .k) ranks))
-  codes-below R =
-      each-map (IsWord (c .s) (c .k)) (Below (classes (c .s) (c .mirror) (c .k))) (code (c .s) (c .mirror) (c .k))
-      (windows (c .k) ranks)
-      (λ w i. code-below-classes (c .s) (c .mirror) (c .k) (C .limits) w i)
-      (word-windows (c .s) (c .k) ranks R)
+  codes-front F n e = front-is (codesBy c (windows (c .k) ranks)) _ (F .is) (codes-length ∙ sym e)
 
   -- What counting the codes asks.
   pub can-count-batch : {counts old new : List ℕ} → Ranks (c .s) ranks → length counts ≡ classes (c .s) (c .mirror) (c .k)
@@ -60,7 +52,8 @@ module _ {c : Coder} {powers : List ℕ} (C : ReadyCoder c powers) (ranks : List
       → Fills (codesBy c (windows (c .k) ranks)) old new
       → (n : ℕ) → n ≡ length ranks + 1 - c .k
       → Room (length (take n new)) counts × Each (Below (length counts)) (take n new)
-  can-count-batch R l room F n e = rw (codes-front F n e, l) (room, codes-below R)
+  can-count-batch R l room F n e =
+      rw (codes-front F n e, l) (room, codes-below (C .limits) (windows (c .k) ranks) (word-windows (c .s) (c .k) ranks R))
 
 drop-of-take : (l : List ℕ) (d m n : ℕ) → d + m ≡ n → d ≤ length l → drop d (take n l) ≡ take m (drop d l)
 drop-of-take l d m n e h =
@@ -72,12 +65,12 @@ pub carried : (array : List ℕ) (n k : ℕ) (new : List ℕ) → 1 ≤ k → k 
     → Carries array n k false (k - 1) new
 carried array n k new some-k long fits e =
     let last : List ℕ = take (k - 1) (drop (n + 1 - k) array) in
-    let l : length last ≡ k - 1 = length-take-le (k - 1) (drop (n + 1 - k) array) (omega (arith, length-drop (n + 1 - k) array)) in
+    let l : length last ≡ k - 1 = length-part (n + 1 - k) (k - 1) array (omega arith) in
     let m : n + 1 - k + (k - 1) ≡ n = omega arith in
     record {
       few = omega arith;
-      fits = rw e (omega (arith, length-append last (drop (k - 1) array)));
-      letters = rw (e, take-at last (drop (k - 1) array) (k - 1) l) (sym (drop-of-take array (n + 1 - k) (k - 1) n m (omega arith)));
+      fits = front-fits last _ e l;
+      letters = front-is last _ e l ∙ sym (drop-of-take array (n + 1 - k) (k - 1) n m (omega arith));
     }
 
 -- ---- batch after batch

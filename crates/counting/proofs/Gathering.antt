@@ -4,7 +4,7 @@ use Prim.Native.Nat.{ℕ, zero, suc, _+_, _<_, _≤_}
 use native.Mathlib.Decide.{ℕ-discrete}
 use native.Mathlib.Numerals.{add-one}
 use native.Mathlib.Omega.{arith}
-use mathlib.Core.Bool.{Bool, true, false, cond}
+use mathlib.Core.Bool.{Bool, true, false, cond, true≢false}
 use mathlib.Core.Option.{Option, none, some}
 use mathlib.Core.List.{List, [], _∷_, _++_, append-nil}
 use lib.ListN.{length, getD, take, drop, set, length-set}
@@ -109,7 +109,7 @@ module _ {table r file : List ℕ} {start : Mode} {from letters : ℕ} {array : 
         fits = G .fits;
         ranks = G .ranks;
         windows-are = λ k. G .left k ∙ rw (items-end file at mode end, append-nil (windows k (take n array)));
-        whole = λ e. absurd (let z : _≡_ {A = ℕ} 0 1 = cc in omega arith);
+        whole = λ e. absurd (true≢false e);
       }
 
   module _ {mark : Mark} {mode′ : Mode} (R : ByteRead table file at mode mark mode′) where
@@ -136,7 +136,7 @@ module _ {table r file : List ℕ} {start : Mode} {from letters : ℕ} {array : 
           fits = G .fits;
           ranks = G .ranks;
           windows-are = λ k. after k ∙ rw e;
-          whole = λ f. absurd (let z : _≡_ {A = ℕ} 0 1 = cc in omega arith);
+          whole = λ f. absurd (true≢false f);
         }
 
     new-rank : getD file at 0 < 256 → (s : ℕ) → RanksBelow s table → Ranks s (take (mark .letters) (mark .rank ∷ []))

@@ -7,7 +7,7 @@ use Rattle.settings.specs.Grounds.{groundAt, tooShort}
 use Rattle.settings.proofs.Places.{Small, place-small, then-small, room-small}
 use Rattle.tally.specs.Table.{clearGround}
 use Rattle.listing.specs.Listing.{listing, listingGround}
-use Rattle.listing.proofs.Lengths.{Small as SmallCounts}
+use Rattle.listing.proofs.Lengths.{SmallCounts}
 use Rattle.listing.proofs.ListingAnswers.{listing-fits}
 use Rattle.kmer.proofs.Refusals.{clear-small}
 

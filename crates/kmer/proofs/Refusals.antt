@@ -1,5 +1,5 @@
 -- What the calls that return P rest on: the number of a refusal is small, and so is the P of each call, so that one number holds both; and the
--- answer and buffer of such a call, from those of the call below it.
+-- answer and buffer of such a call, from those of the call below it. How large each P is follows from the definitions of the calls' grounds.
 use mathlib.Core.Path.{_≡_, refl, ap, _∙_, subst⁻¹}
 use mathlib.Core.Bool.{Bool}
 use mathlib.Core.Option.{Option, none, some}
@@ -8,20 +8,20 @@ use Prim.Native.Nat.{ℕ, suc, _+_, _^_, _<_, _≤_}
 use native.Mathlib.Omega.{arith}
 use lib.Dec.{ltb}
 use lib.ListN.{length}
-use borrow.Author.Tests.{eqb-true, not-false, ltb-false}
+use borrow.Author.Tests.{eqb-true, not-false}
 use Rattle.laws.specs.Windows.{windows}
 use Rattle.laws.proofs.Windows.{length-windows}
-use Rattle.settings.proofs.Limits.{k-at-most}
 use Rattle.settings.specs.declared.Refusal.{Refusal}
 use Rattle.settings.specs.declared.Refusal.the-variants.{BadLetters, BadMirror, OddComplement, BadK, WrongLength, TooLarge, ShortBuffer, NoSuchCode, ForeignByte, StrayByte, EarlyLetter, CountsFull, NoSurveyLine, LongInput}
 use Rattle.settings.specs.Grounds.{Ground, Outcome, refused, groundOf, ground, groundAt, tooShort, outcome, _orElse_, Overwrites}
 use Rattle.settings.specs.Settings.{rankIn, settingsGround}
 use Rattle.settings.proofs.Outcomes.{refused-is, test-fails}
-use Rattle.settings.proofs.SettingsGrounds.{limits, good-settings}
+use Rattle.settings.proofs.SettingsGrounds.{good-settings}
 use Rattle.settings.proofs.Places.{Small, test-small, place-small, then-small, room-small, settings-small}
 use Rattle.encoding.specs.Calls.{hereOr, foreignFrom, wrongLength, mirrorGround}
 use Rattle.sequence.specs.Sequences.{sequenceGround}
 use Rattle.tally.specs.Table.{classCount, tooMany, clearGround}
+use Rattle.tally.proofs.Clearing.{not-too-large}
 use Rattle.kmer.specs.Returned.{ReturnsPlaces}
 use Rattle.kmer.specs.Needs.{PlaceFits}
 
@@ -83,8 +83,7 @@ mirror-small letters k m word room =
     let g9 = groundAt 9 (foreignFrom letters 0 word) in
     then-small 62 (settingsGround letters k m) (g5 orElse g7 orElse g9) (settings-small letters k m 62)
     (λ passed.
-    let s = limits letters k m passed in
-    let k-small : k ≤ 62 = k-at-most s in
+    let k-small = good-settings letters k m passed .short-k in
     then-small 62 g5 (g7 orElse g9) (test-small 62 5 (wrongLength k word))
     (λ right.
     let l : length word ≡ k = eqb-true (length word) k (not-false _ (test-fails 5 (wrongLength k word) right)) in
@@ -109,11 +108,9 @@ sequence-small letters k m sequence room =
     sizes-small letters k m (ltb 16777216 (length sequence)) room (length (windows k sequence))
     (λ passed short.
     let some-k = good-settings letters k m passed .some-k in
-    let within = ltb-false 16777216 (length sequence) (test-fails 6 (ltb 16777216 (length sequence)) short) in
-    omega (arith, length-windows k some-k sequence, within))
+    omega (arith, length-windows k some-k sequence, not-too-large (length sequence) short))
 
 pub clear-small : (letters : List ℕ) (k m room : ℕ) → Small 16777216 (clearGround letters k m room)
 unfolding clearGround tooMany
 clear-small letters k m room =
-    sizes-small letters k m (ltb 16777216 (classCount letters k m)) room (classCount letters k m)
-    (λ _ few. ltb-false 16777216 (classCount letters k m) (test-fails 6 (ltb 16777216 (classCount letters k m)) few))
+    sizes-small letters k m (tooMany (classCount letters k m)) room (classCount letters k m) (λ _ few. not-too-large (classCount letters k m) few)

@@ -1,5 +1,5 @@
 -- How long a listing is: as long as its lines, at most 82 bytes for each class and 92 more. So the length that ground 7 asks for stands beside
--- the number of a ground in 64 bits.
+-- the number of a ground in 64 bits. From the definitions of the lines, the lengths of words and decimals, and the limits of the settings.
 use mathlib.Core.Path.{_≡_, refl}
 use Prim.Native.Nat.{ℕ, zero, suc, _+_, _*_, _<_, _≤_}
 use native.Mathlib.Omega.{arith}
@@ -22,8 +22,8 @@ use Rattle.listing.specs.Needs.{AllCounts, lineLength, linesLength}
 use Rattle.listing.proofs.Lines.{counts-add-up}
 
 -- Each of some numbers fits 32 bits.
-abbrev pub Small : List ℕ → Type 0
-Small xs = (i : ℕ) → getD xs i 0 < 4294967296
+abbrev pub SmallCounts : List ℕ → Type 0
+SmallCounts xs = (i : ℕ) → getD xs i 0 < 4294967296
 
 line-is : (k : ℕ) (w : List ℕ) (n : ℕ) → length w ≡ k → length (classLine w n) ≡ lineLength k n
 unfolding countLine
@@ -80,7 +80,7 @@ module _ (letters : List ℕ) (k m : ℕ) (counts : List ℕ) (A : AllCounts let
   survey-short : length (surveyLine letters k m) ≤ 64
   survey-short = let g = good-settings letters k m (A .good) in survey-length letters k m (g .few) (g .short-k)
 
-  module _ (small : Small counts) where
+  module _ (small : SmallCounts counts) where
     total-short : length (totalLine (sum counts)) ≤ 28
     total-short = total-length (sum counts) (omega (arith, sum-le counts-add-up 4294967296 counts (λ i. omega (arith, small i)), A .few))
 

@@ -1,17 +1,18 @@
 -- The lines of a listing one by one: a mirror's name, the line of a class and its word, the lines by rising code, the sum of the counts. From
 -- the definitions in specs/Listing.antt and what `word_of` promises.
-use mathlib.Core.Path.{_≡_, refl, ap, _∙_}
+use mathlib.Core.Path.{_≡_, refl, _∙_}
 use Prim.Native.Nat.{ℕ, suc, _+_, _<_, _≤_}
 use native.Mathlib.Nat.{add-zero, add-suc, suc-add, zero-add}
 use native.Mathlib.Numerals.{add-one}
 use native.Mathlib.Omega.{arith}
 use mathlib.Core.Option.{none}
 use mathlib.Core.List.{List, [], _∷_, _++_, append-assoc, append-nil}
-use lib.ListN.{length, take, drop, getD, length-take}
-use lib.Seq.{take-suc, take-at, length-take-le}
+use lib.ListN.{length, take, drop, getD}
+use lib.Seq.{take-suc, length-take-le}
 use Rattle.laws.specs.Text.{bytes}
 use Rattle.laws.proofs.Tests.{past-zero}
 use Rattle.laws.proofs.Sums.{AddsUp}
+use Rattle.laws.proofs.Buffers.{front-is, front-fits}
 use Rattle.settings.specs.Grounds.{Outcome, Overwrites}
 use Rattle.settings.specs.Settings.{settingsGround}
 use Rattle.settings.proofs.SettingsGrounds.{good-settings}
@@ -45,10 +46,9 @@ pub word-read : {letters : List ℕ} {k m q : ℕ} {answer : Outcome ℕ} {old n
 word-read {letters} {k} {m} {q} {answer} {old} {new} good below room O =
     let fits : k ≤ length old = omega (arith, good-settings letters k m good .short-k) in
     let word = word-bytes-length letters k m q good below in
-    let e : take k new ≡ wordBytes letters k m q =
-    ap (take k) (O .leaves ∙ (rw (reading-none letters k m good q (length old) fits below)))
-    ∙ take-at (wordBytes letters k m q) (drop (length (wordBytes letters k m q)) old) k word in
-    record { start = e; long = omega (arith, length-take k new, ap length e, word) }
+    let holds : new ≡ wordBytes letters k m q ++ drop (length (wordBytes letters k m q)) old =
+    O .leaves ∙ rw (reading-none letters k m good q (length old) fits below) in
+    record { start = front-is (wordBytes letters k m q) _ holds word; long = front-fits (wordBytes letters k m q) _ holds word }
 
 -- ---- the lines by rising code
 

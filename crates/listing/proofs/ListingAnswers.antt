@@ -1,24 +1,24 @@
 -- What the listing answers and leaves at each of its tests; and how long the listing of a table is, where it is not refused (`listing-fits`).
-use mathlib.Core.Path.{_≡_, sym, _∙_}
+use mathlib.Core.Path.{_≡_, refl, sym, _∙_}
 use Prim.Native.Nat.{ℕ, zero, suc, _<_, _≤_}
 use native.Mathlib.Omega.{arith}
 use mathlib.Core.Option.{none, some}
 use mathlib.Core.List.{List, [], _∷_}
 use lib.ListN.{length, take}
 use lib.Seq.{length-take-le}
-use lib.Dec.{ltb}
-use borrow.Author.Tests.{lt-ltb, le-ltb, ltb-false}
+use borrow.Author.Tests.{lt-ltb, le-ltb}
 use Rattle.settings.specs.declared.Settings.{Settings}
-use Rattle.settings.specs.Grounds.{Ground, Outcome, given, refused, ground, outcome}
+use Rattle.settings.specs.Grounds.{Ground, Outcome, given, refused, outcome}
 use Rattle.settings.specs.Settings.{settingsGround, settingsOf}
-use Rattle.settings.proofs.Outcomes.{refused-is, kept-by, set-by, first-none, later-none, test-fails, nowhere-met, room-enough}
+use Rattle.settings.proofs.Outcomes.{refused-is, kept-by, set-by}
 use Rattle.settings.proofs.SettingsGrounds.{Known, known}
 use Rattle.tally.specs.Table.{classCount, tooMany, clearGround}
+use Rattle.tally.proofs.Clearing.{settings-good, classes-bounded, places-enough}
 use Rattle.texts.specs.Needs.{Puts}
 use Rattle.texts.proofs.Writing.{from-start}
 use Rattle.listing.specs.Listing.{listingOf, listing, listingGround, Lists}
 use Rattle.listing.specs.Needs.{AllCounts, ListsCounts}
-use Rattle.listing.proofs.Lengths.{Small, listing-length}
+use Rattle.listing.proofs.Lengths.{SmallCounts, listing-length}
 
 -- ---- a text that is written whole or not at all
 
@@ -33,15 +33,21 @@ module _ {text old : List ℕ} {needed : ℕ} (needed-is : needed ≡ length tex
 
 -- ---- the call
 
--- The first places of a long enough table are the counts of all classes.
+-- The first q places of a table, one a class, are the counts of all classes.
+pub all-counts : (letters : List ℕ) (k m q : ℕ) (t : List ℕ) → settingsGround letters k m ≡ none → q ≡ classCount letters k m → q ≤ 16777216 → q ≤ length t
+    → AllCounts letters k m (take q t)
+all-counts letters k m q t good q-is few long =
+    let n = length-take-le q t long in
+    record { good = good; one-a-class = n ∙ q-is; few = omega (arith, n) }
+
+-- The same with settings that the check gave.
 pub table-counts : (letters : List ℕ) (k m : ℕ) (table : List ℕ) (st : Settings) → given st ≡ outcome (settingsGround letters k m) (settingsOf letters k m)
     → st .classes ≤ 16777216
     → st .classes ≤ length table
     → AllCounts letters k m (take (st .classes) table)
 table-counts letters k m table st e few long =
     let good = known letters k m st e in
-    let n = length-take-le (st .classes) table long in
-    record { good = good .none-applies; one-a-class = n ∙ good .classes-are; few = omega (arith, n) }
+    all-counts letters k m (st .classes) table (good .none-applies) (good .classes-are) few long
 
 module _ (letters : List ℕ) (k m : ℕ) (table old : List ℕ) where
   refused-by : (f : Ground) → listingGround letters k m table (length old) ≡ some f → Lists letters k m table old (refused f) old
@@ -81,22 +87,17 @@ module _ (letters : List ℕ) (k m : ℕ) (table old : List ℕ) where
 
 -- ---- how long the listing of a table is
 
-small-take : (n : ℕ) (xs : List ℕ) → Small xs → Small (take n xs)
+small-take : (n : ℕ) (xs : List ℕ) → SmallCounts xs → SmallCounts (take n xs)
 small-take zero xs h i = omega arith
 small-take (suc n) [] h i = omega arith
 small-take (suc n) (x ∷ xs) h zero = h 0
 small-take (suc n) (x ∷ xs) h (suc i) = small-take n xs (λ j. h (suc j)) i
 
 -- Where the grounds before the text's do not apply, a listing has at most 92 + 82 * 16,777,216 bytes.
-pub listing-fits : (letters : List ℕ) (k m : ℕ) (table : List ℕ) → clearGround letters k m (length table) ≡ none → Small table
+pub listing-fits : (letters : List ℕ) (k m : ℕ) (table : List ℕ) → clearGround letters k m (length table) ≡ none → SmallCounts table
     → length (listing letters k m table) ≤ 1375731804
-unfolding clearGround tooMany
 listing-fits letters k m table passed small =
-    let good = first-none (settingsGround letters k m) _ passed in
-    let sizes = later-none (settingsGround letters k m) _ passed in
     let n = classCount letters k m in
-    let few = ltb-false 16777216 n (test-fails 6 (ltb 16777216 n) (first-none (ground 6 (ltb 16777216 n)) _ sizes)) in
-    let long = room-enough (length table) n (nowhere-met 7 _ (later-none (ground 6 (ltb 16777216 n)) _ sizes)) in
-    let counted = length-take-le n table long in
-    let all : AllCounts letters k m (take n table) = record { good = good; one-a-class = counted; few = omega (arith, counted, few) } in
-    omega (arith, listing-length letters k m (take n table) all (small-take n table small), counted, few)
+    let good = settings-good letters k m _ passed in
+    let all = all-counts letters k m n table good refl (classes-bounded letters k m _ passed) (places-enough letters k m _ passed) in
+    omega (arith, listing-length letters k m (take n table) all (small-take n table small), all .few)

@@ -21,6 +21,7 @@ use Rattle.survey.specs.declared.Head.the-variants.{Survey, NoSurvey}
 use Rattle.survey.specs.Reading.{readLine}
 use Rattle.listing.specs.Listing.{listingOf}
 use Rattle.listing.specs.Needs.{AllCounts}
+use Rattle.listing.proofs.ListingAnswers.{all-counts}
 use Rattle.program.specs.Program.{fileLine, refusedLine, clearedTable, answerText, surveyText, lineText, programText, Prints}
 
 -- ---- lengths
@@ -101,8 +102,7 @@ module _ (letters : List ℕ) (k m : ℕ) (file : List ℕ) where
         let same : length t′ ≡ 16384 = ap length grown ∙ length-bumps (places letters k m file) clearedTable ∙ length-cleared in
         let few : q ≤ 16384 = omega (arith, room, q-is, ap length cleared, length-cleared) in
         let long : q ≤ length t′ = omega arith in
-        let counted = length-take-le q t′ long in
-        record { grown = grown; long = long; all = record { good = good; one-a-class = counted ∙ q-is; few = omega (arith, counted) }; few = few }
+        record { grown = grown; long = long; all = all-counts letters k m q t′ good q-is (omega arith) long; few = few }
 
     -- The listing of its counts and then the file line are the output.
     pub taken-prints : {out out′ out″ : List ℕ} {a r : ℕ} → SmallNumbers n

@@ -1,17 +1,17 @@
 -- The survey line that we print is one of the grammar's: k up to 999 in decimal is a k, the two mirrors' names are mirrors, and the letters of
 -- settings that pass the check are letters. From the laws of decimal digits of the texts and what is known of such settings.
-use mathlib.Core.Path.{_≡_, refl}
+use mathlib.Core.Path.{_≡_, refl, sym, _∙_}
 use mathlib.Core.Bool.{Bool, true, false, not, _&&_, and-eq-true-iff}
 use mathlib.Core.Option.{none}
 use mathlib.Core.List.{List, [], _∷_, _++_, append-assoc}
 use Prim.Native.Nat.{ℕ, zero, suc, _+_, _/_, _%_, _≤_}
 use native.Mathlib.Omega.{arith}
-use lib.ListN.{length}
 use lib.Dec.{leb, ltb}
 use borrow.Author.Tests.{leb-true, ltb-true, ltb-false}
 use Rattle.laws.specs.Text.{bytes}
 use Rattle.laws.specs.Each.{Each}
-use Rattle.settings.specs.Settings.{isCapital, isIn, differentCapitals, goodLetters, settingsGround}
+use Rattle.settings.specs.Settings.{isCapital, isIn, differentCapitals, settingsGround}
+use Rattle.settings.proofs.Letters.{some-letters}
 use Rattle.settings.proofs.SettingsGrounds.{good-settings}
 use Rattle.texts.specs.Decimals.{decimal}
 use Rattle.texts.proofs.Decimals.{one-digit, more-digits}
@@ -32,11 +32,9 @@ capital-letters (b ∷ letters) e =
     (letter-above b (omega arith), capital-letters letters others)
 
 pub good-letters : (letters : List ℕ) (k mirror : ℕ) → settingsGround letters k mirror ≡ none → LettersText letters
-unfolding goodLetters
 good-letters letters k mirror passed =
     let good = good-settings letters k mirror passed in
-    let sizes = and-eq-true-iff (leb 2 (length letters)) (leb (length letters) 16 && differentCapitals letters) .0 (good .capitals) in
-    let capitals = and-eq-true-iff (leb (length letters) 16) (differentCapitals letters) .0 (sizes .1) .1 in
+    let capitals = sym (some-letters letters (good .two) (good .few)) ∙ good .capitals in
     record { some = omega (arith, good .two); each = capital-letters letters capitals }
 
 -- ---- k in decimal, by its number of digits

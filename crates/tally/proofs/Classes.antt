@@ -1,4 +1,4 @@
--- Places and classes under settings that pass the check, from the theorems of the encoding.
+-- The codes of words within the limits, and places and classes under settings that pass the check. From the theorems of the encoding.
 use mathlib.Core.Path.{_≡_, refl, sym, ap, _∙_}
 use Prim.Native.Nat.{ℕ, _<_}
 use mathlib.Core.Option.{none}
@@ -6,13 +6,14 @@ use mathlib.Core.List.{List, [], _∷_, map}
 use lib.ListN.{length}
 use lib.Dec.{eqb}
 use borrow.Author.Tests.{eqb-true, eq-eqb}
-use Rattle.settings.specs.Settings.{mirrorOf, settingsGround}
+use Rattle.settings.specs.Settings.{mirrorOf, classes, settingsGround}
 use Rattle.settings.specs.Limits.{Limits}
 use Rattle.settings.proofs.SettingsGrounds.{limits}
-use Rattle.encoding.specs.Words.{IsWord, canonical}
+use Rattle.encoding.specs.Words.{Mirror, IsWord, canonical}
+use Rattle.encoding.specs.Codes.{code}
 use Rattle.encoding.specs.WordsOfCodes.{wordOf}
 use Rattle.encoding.proofs.Codes.{is-canonical, canonical-low}
-use Rattle.encoding.proofs.Theorems.{code-below-classes, same-code, word-of-code, word-of-own-code, canonical-is-one}
+use Rattle.encoding.proofs.Theorems.{code-below-classes, same-code, word-of-code, word-of-code-unique, canonical-is-one}
 use Rattle.tally.specs.Table.{classCount, placeOf, windowsOfFile, places}
 use Rattle.tally.specs.Book.{sameClass, hits, CanonicalWord}
 use Rattle.tally.specs.Demand.{OnePlaceAClass}
@@ -23,6 +24,10 @@ use Rattle.laws.proofs.Each.{each-map}
 use Rattle.tally.proofs.Bumps.{occurrences}
 use Rattle.tally.proofs.WordLists.{class-same, same-class}
 use Rattle.tally.proofs.FileWords.{windows-are-words}
+
+-- The codes of some words are below the number of classes.
+pub codes-below : {s : ℕ} {m : Mirror} {k : ℕ} → Limits s m k → (ws : List (List ℕ)) → Each (IsWord s k) ws → Each (Below (classes s m k)) (map (code s m k) ws)
+codes-below {s} {m} {k} within ws words = each-map (IsWord s k) (Below (classes s m k)) (code s m k) ws (code-below-classes s m k within) words
 
 module _ (letters : List ℕ) (k m : ℕ) (good : settingsGround letters k m ≡ none) where
   within : Limits (length letters) (mirrorOf m) k
@@ -42,11 +47,9 @@ module _ (letters : List ℕ) (k m : ℕ) (good : settingsGround letters k m ≡
             let c = word-of-code (length letters) (mirrorOf m) k within q h in
             (wordOf (length letters) (mirrorOf m) k q, record { word = c .word; own = c .own-canonical }, c .own-code);
         and-for-just-one = λ v w c d e.
-            sym (c .own)
-            ∙ sym (word-of-own-code (length letters) (mirrorOf m) k within v (c .word))
-            ∙ ap (wordOf (length letters) (mirrorOf m) k) e
-            ∙ word-of-own-code (length letters) (mirrorOf m) k within w (d .word)
-            ∙ d .own;
+            let is-that-of = word-of-code-unique (length letters) (mirrorOf m) k within (placeOf letters k m w) in
+            is-that-of v (record { word = c .word; own-canonical = c .own; own-code = e })
+            ∙ sym (is-that-of w (record { word = d .word; own-canonical = d .own; own-code = refl }));
         words-share-a-place-exactly-when-equal-or-mirrors = same-code (length letters) (mirrorOf m) k within;
       }
 
@@ -68,9 +71,7 @@ module _ (letters : List ℕ) (k m : ℕ) (good : settingsGround letters k m ≡
 
   -- The places of a file's windows are below the number of classes.
   pub places-below : (file : List ℕ) → Each (Below (classCount letters k m)) (places letters k m file)
-  places-below file =
-      each-map (IsWord (length letters) k) (Below (classCount letters k m)) (placeOf letters k m) (windowsOfFile letters k file) place-below
-      (windows-are-words letters k file)
+  places-below file = codes-below within (windowsOfFile letters k file) (windows-are-words letters k file)
 
   -- The canonical word of a word, and its place.
   pub canonical-word : (w : List ℕ) → IsWord (length letters) k w → CanonicalWord (length letters) (mirrorOf m) k (canonical (length letters) (mirrorOf m) w)

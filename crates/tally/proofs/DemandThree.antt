@@ -96,7 +96,7 @@ pub demand-three : (letters : List ℕ) (k m : ℕ) {t₀ t t′ : List ℕ} {cl
     → Adds letters k m t files answers t′
     → DemandThree letters k m t₀ files answers t′
 demand-three letters k m {files = files} {answers = answers} no-ground clearing adds =
-    let good = settings-good letters k m no-ground clearing in
+    let good = settings-good letters k m _ no-ground in
     let K = kept letters k m good clearedBook (cleared-agrees letters k m no-ground clearing) adds in
     let some-k = good-settings letters k m good .some-k in
     let letters-are = added-up letters k (takenIn files answers) some-k in
@@ -125,5 +125,5 @@ pub demand-three-same-counts : (letters : List ℕ) (k m : ℕ) {t₀ t t′ u�
     → Adds letters k m u files′ answers′ u′
     → SameCountsExactlyWhen letters k m files answers t′ files′ answers′ u′
 demand-three-same-counts letters k m no-ground clearing adds no-ground′ clearing′ adds′ =
-    same-counts letters k m (settings-good letters k m no-ground clearing) (cleared-agrees letters k m no-ground clearing)
+    same-counts letters k m (settings-good letters k m _ no-ground) (cleared-agrees letters k m no-ground clearing)
     (cleared-agrees letters k m no-ground′ clearing′) adds adds′

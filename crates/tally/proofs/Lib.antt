@@ -1,6 +1,6 @@
 -- The laws of the table, up to the theorems of demand 3. Bumps, Full: counts that grow, ground 12. WordLists, FileWords, Classes: all
 -- canonical words, the windows of a file, places and classes. Steps: one add beside the book. TakenIn: the files taken in by a list of adds.
--- Clearing: the table after it. DemandThree: the theorems. Cases: the definitions computed on small files.
+-- Clearing: what is known where it is not refused, and the table after it. DemandThree: the theorems. Cases: the definitions computed on small files.
 pub mod Bumps
 pub mod Full
 pub mod WordLists
