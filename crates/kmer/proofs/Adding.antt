@@ -4,7 +4,7 @@ use mathlib.Core.Path.{_≡_, sym, ap, _∙_}
 use mathlib.Core.Bool.{Bool, true, false, _||_}
 use mathlib.Core.Option.{none, some}
 use mathlib.Core.List.{List, [], _∷_, _++_}
-use Prim.Native.Nat.{ℕ, suc, _+_, _*_, _^_, _<_, _≤_}
+use Prim.Native.Nat.{ℕ, suc, _+_, _^_, _<_, _≤_}
 use native.Mathlib.Omega.{arith}
 use borrow.Author.Tests.{lt-ltb, le-ltb}
 use lib.ListN.{length, drop}
@@ -25,6 +25,7 @@ use Rattle.fasta.proofs.Runs.{items-length}
 use Rattle.tally.specs.Table.{classCount, tooMany, readyGround, addGround, tableFull, tableGround, Added}
 use Rattle.table.proofs.CallGrounds.{classes-few, ready-file}
 use Rattle.kmer.proofs.Refusals.{refused-fits, sizes-small}
+use Rattle.kmer.specs.Returned.{returnedWithPlace}
 use Rattle.kmer.specs.Adding.{addIntoGround, fiveNumbers, AddsInto}
 
 -- ---- how large P can be
@@ -75,22 +76,22 @@ module _ (letters : List ℕ) (k m : ℕ) (t file old : List ℕ) where
   unfolding addIntoGround addGround
   same-ground h = rw (le-ltb (length old) 5 h)
 
-  kept : (f : Ground) → addIntoGround letters k m t file (length old) ≡ some f → (x : ℕ) → x ≡ 2 ^ 63 + f .1 * 256 + f .0
+  kept : (f : Ground) → addIntoGround letters k m t file (length old) ≡ some f → (x : ℕ) → x ≡ returnedWithPlace (refused f)
       → AddsInto letters k m t file old x t old
   kept f e x h = record { returns = rw e h; table-left = rw e; answer-left = rw e }
 
   pub into-bad : (f : Refusal) → readyGround letters k m (length t) file ≡ some (groundOf f) → (x : ℕ)
-      → x ≡ 2 ^ 63 + groundOf f .1 * 256 + groundOf f .0 → AddsInto letters k m t file old x t old
+      → x ≡ returnedWithPlace (refused (groundOf f)) → AddsInto letters k m t file old x t old
   unfolding addIntoGround
   into-bad f e x h = kept (groundOf f) (rw e) x h
 
-  pub into-short : readyGround letters k m (length t) file ≡ none → length old < 5 → (x : ℕ) → x ≡ 2 ^ 63 + 5 * 256 + 7
+  pub into-short : readyGround letters k m (length t) file ≡ none → length old < 5 → (x : ℕ) → x ≡ returnedWithPlace (refused (7, 5))
       → AddsInto letters k m t file old x t old
   unfolding addIntoGround
   into-short ready h x e = kept (7, 5) (rw (ready, lt-ltb (length old) 5 h)) x e
 
   module _ (room : 5 ≤ length old) (answer : Outcome Numbers) (t′ : List ℕ) (A : Added letters k m t file answer t′) where
-    pub into-refused : (f : Refusal) → answer ≡ refused (groundOf f) → (x : ℕ) → x ≡ 2 ^ 63 + groundOf f .1 * 256 + groundOf f .0
+    pub into-refused : (f : Refusal) → answer ≡ refused (groundOf f) → (x : ℕ) → x ≡ returnedWithPlace (refused (groundOf f))
         → AddsInto letters k m t file old x t′ old
     into-refused f e x h =
         let is = refused-is (groundOf f) _ (tableGround letters k m t file) (sym e ∙ A .answers) in

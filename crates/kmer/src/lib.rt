@@ -1,10 +1,10 @@
 // The calls for C programs (include/kmer.h): word coding, code reading, mirroring, codes along a sequence, the table and its listing, on
 // numbers and slices.
 ghost use mathlib.Core.Path.{_≡_};
-ghost use Prim.Native.Nat.{_+_, _*_, _^_, _<_, _≤_};
+ghost use Prim.Native.Nat.{_^_, _<_, _≤_};
 ghost use mathlib.Core.List.{_++_};
 ghost use lib.ListN.{length, drop, replicate};
-ghost use Rattle.settings.specs.Grounds.{groundOf, ofFilling};
+ghost use Rattle.settings.specs.Grounds.{refused as Refused, groundOf, ofFilling};
 ghost use Rattle.tally.specs.Table.{classCount, clearGround};
 ghost use Rattle.kmer.specs.Adding.{fiveNumbers, AddsInto};
 ghost use Rattle.encoding.specs.Calls.{coding, readGround, wordBytes, mirrorGround, mirrorBytes};
@@ -24,7 +24,7 @@ use words::Coding;
 
 // 2^63 plus the number.
 fn refused(f: Refusal) -> u64
-    ensures { λ r. ⌜ r ≡ 2 ^ 63 + groundOf f .0 ⌝ }
+    ensures { λ r. ⌜ r ≡ returned (Refused (groundOf f)) ⌝ }
 {
     9223372036854775808 + settings::number_of(f)
 }
@@ -32,7 +32,7 @@ fn refused(f: Refusal) -> u64
 // 2^63 plus P * 256 plus the number; every P is below 2^32.
 fn refused_at(f: Refusal) -> u64
     requires { ⌜ groundOf f .1 < 2 ^ 32 ⌝ }
-    ensures { λ r. ⌜ r ≡ 2 ^ 63 + groundOf f .1 * 256 + groundOf f .0 ⌝ }
+    ensures { λ r. ⌜ r ≡ returnedWithPlace (Refused (groundOf f)) ⌝ }
 {
     9223372036854775808 + settings::place_of(f) * 256 + settings::number_of(f)
 }
