@@ -20,7 +20,7 @@ use Rattle.fasta.proofs.Scans.{items-end}
 use Rattle.kernels.specs.declared.Coder.{Coder}
 use Rattle.laws.specs.Windows.{windows}
 use Rattle.kernels.specs.Needs.{Fills, ReadyCoder}
-use Rattle.laws.proofs.Buffers.{front-is, front-fits}
+use Rattle.laws.proofs.Buffers.{front-is}
 use Rattle.laws.proofs.Windows.{windows-none}
 use Rattle.kernels.proofs.Windows.{length-codes}
 use Rattle.kernels.proofs.Parts.{length-part}
@@ -69,14 +69,12 @@ carried array n k new some-k long fits e =
     let m : n + 1 - k + (k - 1) ≡ n = omega arith in
     record {
       few = omega arith;
-      fits = front-fits last _ e l;
       letters = front-is last _ e l ∙ sym (drop-of-take array (n + 1 - k) (k - 1) n m (omega arith));
     }
 
 -- ---- batch after batch
 
 pub record Counting (c : Coder) (table file counts₀ counts array : List ℕ) (at : ℕ) (mode : Mode) (n : ℕ) : Type 0 where
-  pub inside : at ≤ length file
   pub size : length array ≡ 1024
   pub few : n < c .k
   pub ranks : Ranks (c .s) (take n array)
@@ -94,7 +92,6 @@ module _ {c : Coder} {powers : List ℕ} (C : ReadyCoder c powers) where
   counting-none table file counts array size room =
       let all = cut-all (c .k) (marks (rankByTable table) (items file)) (C .some) in
       record {
-        inside = omega arith;
         size = size;
         few = omega (arith, C .some);
         ranks = tt;
@@ -168,7 +165,6 @@ module _ {c : Coder} {powers : List ℕ} (C : ReadyCoder c powers) where
           let sum : length (cutFrom (rankByTable table) (c .k) (take n array) file mode at) ≡ length (codesBy c (windows (c .k) batch-letters)) + length later =
           omega (arith, ap length splits, length-append (windows (c .k) batch-letters) later, m) in
           record {
-            inside = G .inside;
             size = size₂ ∙ size₁ ∙ K .size;
             few = Y .few;
             ranks = rw (Y .letters) (kept-ranks T (g .ended));

@@ -44,7 +44,6 @@ less-room h R = record { free = λ q g. omega (arith, R .free q g) }
 -- ---- counting codes: what is left of them gives the counts at the end
 
 pub record CountingOn (counts₀ codes counts : List ℕ) (i : ℕ) : Type 0 where
-  pub inside : i ≤ length codes
   pub same-length : length counts ≡ length counts₀
   pub left : bumps counts₀ codes ≡ bumps counts (drop i codes)
   pub room : Room (length codes - i) counts
@@ -53,7 +52,7 @@ pub record CountingOn (counts₀ codes counts : List ℕ) (i : ℕ) : Type 0 whe
 pub counting-on-none : (counts codes : List ℕ) → Room (length codes) counts → Each (Below (length counts)) codes → CountingOn counts codes counts 0
 counting-on-none counts codes R B =
     let z : length codes - 0 ≡ length codes = omega arith in
-    record { inside = omega arith; same-length = refl; left = refl; room = rw z R; below = B }
+    record { same-length = refl; left = refl; room = rw z R; below = B }
 
 module _ {counts₀ codes counts : List ℕ} {i : ℕ} (C : CountingOn counts₀ codes counts i) where
   pub can-count : i < length codes → (getD codes i 0 < length counts) × (getD counts (getD codes i 0) 0 < 4294967295)
@@ -68,7 +67,6 @@ module _ {counts₀ codes counts : List ℕ} {i : ℕ} (C : CountingOn counts₀
       let n : length codes - i ≡ 1 + (length codes - (i + 1)) = omega arith in
       rw e
       (record {
-        inside = omega arith;
         same-length = length-bumps (q ∷ []) counts ∙ C .same-length;
         left = C .left ∙ rw (drop-cons codes i 0 h, add-one i);
         room = room-after (length codes - (i + 1)) counts (q ∷ []) (rw n at (C .room));

@@ -10,13 +10,12 @@ use Rattle.kernels.proofs.Parts.{length-part}
 
 -- j of the letters are moved, and behind them the array is as it was.
 pub record Moving (o : List ℕ) (from count : ℕ) (array : List ℕ) (j : ℕ) : Type 0 where
-  pub upto : j ≤ count
   pub room : from + count ≤ length o
   pub written : Written (take count (drop from o)) o j array
 
 pub moving-none : (o : List ℕ) (from count : ℕ) → from + count ≤ length o → Moving o from count o 0
 moving-none o from count h =
-    record { upto = omega arith; room = h; written = written-none (take count (drop from o)) o (omega (arith, length-part from count o h)) }
+    record { room = h; written = written-none (take count (drop from o)) o (omega (arith, length-part from count o h)) }
 
 module _ {o : List ℕ} {from count : ℕ} {array : List ℕ} {j : ℕ} (M : Moving o from count array j) where
   pub moving-length : length array ≡ length o
@@ -30,7 +29,6 @@ module _ {o : List ℕ} {from count : ℕ} {array : List ℕ} {j : ℕ} (M : Mov
       let p : from + j ≡ length (take j C) + from = omega arith in
       let q : j + from ≡ from + j = omega arith in
       record {
-        upto = omega arith;
         room = M .room;
         written =
             written-next (M .written) (getD array (from + j) 0) (omega arith)

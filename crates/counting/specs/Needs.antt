@@ -75,5 +75,4 @@ pub record Gathers (table r file : List ℕ) (mode : Mode) (i : ℕ) (g : Gather
 -- What is kept in the array of the n letters at its start.
 pub record Carries (old : List ℕ) (n k : ℕ) (ended : Bool) (kept : ℕ) (new : List ℕ) : Type 0 where
   pub few : kept < k
-  pub fits : kept ≤ length new
   pub letters : take kept new ≡ cond ended [] (drop (n + 1 - k) (take n old))
