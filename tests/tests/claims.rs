@@ -122,25 +122,40 @@ fn counted_files(passage: &str) -> (BTreeSet<&str>, usize) {
     (files, sum)
 }
 
+/// The files of all specs folders, by path below crates/, without those that only name the others.
+fn specs_files() -> Vec<String> {
+    let crates = fs::read_dir(root().join("crates")).expect("the folder of the crates");
+    let names = crates
+        .map(|folder| folder.expect("an entry of the folder").file_name().into_string().expect("a name"));
+    let files = names.flat_map(|name| {
+        let specs = fs::read_dir(root().join("crates").join(&name).join("specs")).into_iter().flatten();
+        specs.map(move |file| {
+            let file = file.expect("an entry of the folder").file_name().into_string().expect("a name");
+            format!("{name}/specs/{file}")
+        })
+    });
+    files.filter(|file| !file.ends_with("/Lib.antt")).collect()
+}
+
 #[test]
 fn what_must_be_believed_is_counted() {
     let page = read(&root().join("docs/CLAIMS.md"));
     let (_, rest) = page.split_once("\n## What must be believed\n").expect("the page has a list");
-    let (list, tied) = rest.split_once("\nTwo more files, ").expect("and two files that theorems tie to it");
+    let (list, rest) = rest.split_once("\nTwo more files, ").expect("and two files that theorems tie to it");
+    let (tied, rest) = rest.split_once(" What functions below the").expect("and what stands apart");
     let (believed, sum) = counted_files(list);
     assert!(list.contains(&format!(": {sum} in all.")), "the list adds up to {sum}");
     assert!(sum <= 700, "{sum} lines must be believed");
-    let (tied, _) = counted_files(tied.split_once("\n## ").expect("a next section").0);
-    let apart = |name: &str| ["Lib.antt", "Needs.antt", "RankTables.antt"].contains(&name);
-    for folder in fs::read_dir(root().join("crates")).expect("the folder of the crates") {
-        let folder = folder.expect("an entry of the folder").path();
-        for file in fs::read_dir(folder.join("specs")).into_iter().flatten() {
-            let path = file.expect("an entry of the folder").path();
-            let name = path.file_name().expect("a name").to_string_lossy().into_owned();
-            let crate_name = folder.file_name().expect("a name").to_string_lossy().into_owned();
-            let listed = format!("{crate_name}/specs/{name}");
-            let known = believed.contains(listed.as_str()) || tied.contains(listed.as_str());
-            assert!(known || apart(&name), "{listed} is in neither list");
+    let (tied_files, sum) = counted_files(tied);
+    assert!(tied.starts_with(&format!("{sum} lines, ")), "the two files have {sum} lines");
+    let mut sum = 0;
+    for file in specs_files() {
+        if believed.contains(file.as_str()) || tied_files.contains(file.as_str()) {
+            continue;
         }
+        let apart = file.ends_with("/Needs.antt") || file.ends_with("/RankTables.antt");
+        assert!(apart, "{file} is in neither list");
+        sum += lines_of_definitions(&read(&root().join("crates").join(&file)));
     }
+    assert!(rest.contains(&format!(": {sum} lines on which no sentence")), "{sum} lines stand apart");
 }
