@@ -1,6 +1,6 @@
 -- How answers with grounds compose: a refusal stands whatever grounds come after it, and what is given means that no ground applies.
 -- A refused call leaves its buffer as it was. From the definitions of specs/Grounds.antt alone.
-use mathlib.Core.Path.{_≡_, ap, refl}
+use mathlib.Core.Path.{_≡_, refl}
 use mathlib.Core.Bool.{Bool, false, true, cond}
 use mathlib.Core.Option.{Option, none, some}
 use mathlib.Core.List.{List, _++_}
@@ -11,15 +11,14 @@ use lib.Dec.{ltb}
 use borrow.Author.Tests.{ltb-false}
 use Rattle.settings.specs.Grounds.{refused, Ground, outcome, _orElse_, given, ground, groundAt, tooShort, unlessRefused, Overwrites}
 
--- A call refused by the grounds g is refused alike by g with more grounds after it, whatever value is at stake.
-pub refused-on : {A B : Type 0} (f : Ground) (a : A) (b : B) (g later : Option Ground) → refused f ≡ outcome g a → refused f ≡ outcome (g orElse later) b
-refused-on f a b none later e = absurd (let z : _≡_ {A = ℕ} 0 1 = cc in omega arith)
-refused-on f a b (some g) later e = let same : f ≡ g = cc in ap refused same
-
 -- The grounds of a call that is refused.
 pub refused-is : {A : Type 0} (f : Ground) (a : A) (g : Option Ground) → refused f ≡ outcome g a → g ≡ some f
 refused-is f a none e = absurd (let z : _≡_ {A = ℕ} 0 1 = cc in omega arith)
 refused-is f a (some g) e = cc
+
+-- A call refused by the grounds g is refused alike by g with more grounds after it, whatever value is at stake.
+pub refused-on : {A B : Type 0} (f : Ground) (a : A) (b : B) (g later : Option Ground) → refused f ≡ outcome g a → refused f ≡ outcome (g orElse later) b
+refused-on f a b g later e = rw (refused-is f a g e)
 
 -- Where the answer is a value, no ground applies and the value is the one at stake.
 pub record Passed {A : Type 0} (g : Option Ground) (x a : A) : Type 0 where
@@ -71,8 +70,7 @@ given-by x a g e h = rw (e, h)
 -- A call refused by its first grounds g leaves what was there, whatever grounds come after.
 pub refused-leaves : {A B : Type 0} (f : Ground) (a : A) (g later : Option Ground) (new old : B) → refused f ≡ outcome g a
     → old ≡ unlessRefused (g orElse later) new old
-refused-leaves f a none later new old e = absurd (let z : _≡_ {A = ℕ} 0 1 = cc in omega arith)
-refused-leaves f a (some g) later new old e = refl
+refused-leaves f a g later new old e = rw (refused-is f a g e)
 
 -- ---- calls that overwrite a lent buffer from its start
 
@@ -88,5 +86,4 @@ module _ (g : Option Ground) (count : ℕ) (places old : List ℕ) where
 -- Refused by the first grounds g, whatever grounds come after.
 pub kept-on : {A : Type 0} (f : Ground) (a : A) (g later : Option Ground) (count : ℕ) (places old : List ℕ) → refused f ≡ outcome g a
     → Overwrites (g orElse later) count places old (refused f) old
-kept-on f a g later count places old e =
-    record { answers = refused-on f a count g later e; leaves = refused-leaves f a g later (places ++ drop (length places) old) old e }
+kept-on f a g later count places old e = kept-by (g orElse later) count places old f (rw (refused-is f a g e))

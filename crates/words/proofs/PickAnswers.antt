@@ -8,10 +8,10 @@ use native.Mathlib.Omega.{arith}
 use borrow.Author.Tests.{eqb-true, not-false, le-leb, lt-leb}
 use denote.Ref.{RefT}
 use lib.ListN.{length}
-use Rattle.settings.specs.Grounds.{given, Ground, outcome, refused, _orElse_}
+use Rattle.settings.specs.Grounds.{given, Ground, refused, _orElse_}
 use Rattle.settings.specs.Limits.{Limits}
 use Rattle.settings.specs.Settings.{settingsGround}
-use Rattle.settings.proofs.Outcomes.{test-fails, first-none, later-none}
+use Rattle.settings.proofs.Outcomes.{passed, refused-is, test-fails, first-none, later-none}
 use Rattle.settings.proofs.SettingsGrounds.{limits}
 use Rattle.words.specs.Answers.{Picked}
 use Rattle.encoding.specs.Calls.{coding, codeGround, wrongLength, pickGround, ranksOf, firstPicked}
@@ -20,22 +20,14 @@ use Rattle.encoding.specs.Words.{Reversal, plain}
 
 -- ---- whether a word can be coded
 
-given-none : {A : Type 0} (g : Option Ground) (x a : A) → given x ≡ outcome g a → true ≡ noneApplies g
-given-none none x a e = refl
-given-none (some f) x a e = absurd (let z : _≡_ {A = ℕ} 0 1 = cc in omega arith)
-
-refused-some : {A : Type 0} (g : Option Ground) (f : Ground) (a : A) → refused f ≡ outcome g a → false ≡ noneApplies g
-refused-some none f a e = absurd (let z : _≡_ {A = ℕ} 0 1 = cc in omega arith)
-refused-some (some g) f a e = refl
-
 pub coded-none : (letters : List ℕ) (k m : ℕ) (word : List ℕ) (q : ℕ) → given q ≡ coding letters k m word → true ≡ noneApplies (codeGround letters k m word)
 unfolding coding
-coded-none letters k m word q e = given-none (codeGround letters k m word) q _ e
+coded-none letters k m word q e = rw (passed _ (codeGround letters k m word) e .none-applies)
 
 pub refused-coding : (letters : List ℕ) (k m : ℕ) (word : List ℕ) (f : Ground) → refused f ≡ coding letters k m word
     → false ≡ noneApplies (codeGround letters k m word)
 unfolding coding
-refused-coding letters k m word f e = refused-some (codeGround letters k m word) f _ e
+refused-coding letters k m word f e = rw (refused-is f _ (codeGround letters k m word) e)
 
 none-is : (g : Option Ground) → true ≡ noneApplies g → g ≡ none
 none-is none e = refl
