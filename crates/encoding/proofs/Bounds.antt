@@ -1,5 +1,5 @@
 -- No value on the way to a code reaches s^k: the digits of a canonical word of k letters, read in base s, are below it.
-use mathlib.Core.Path.{_≡_, ap}
+use mathlib.Core.Path.{_≡_}
 use mathlib.Core.List.{List, [], _∷_, _++_}
 use Prim.Native.Nat.{ℕ, suc, _+_, _*_, _^_, _<_, _≤_}
 use native.Mathlib.Nat.{pow-zero, pow-suc, mul-le-mul-right, mul-le-mul-left}
@@ -8,7 +8,7 @@ use native.Mathlib.Omega.{arith}
 use borrow.Author.Tests.{eq-eqb, ne-eqb}
 use lib.Dec.{eqb}
 use lib.ListN.{length}
-use Rattle.laws.proofs.Powers.{pairCount, square, pow-one}
+use Rattle.laws.proofs.Powers.{pairCount, square, pow-one, pow-two-more}
 use Rattle.encoding.specs.Words.{Mirror, Ranks, mirrorRank, plain}
 use Rattle.encoding.specs.Codes.{digits, pairRank}
 use Rattle.encoding.proofs.Ends.{ends, endDigits, digits-ends, plain-one, plain-snoc}
@@ -36,7 +36,7 @@ module _ (s : ℕ) (m : Mirror) (hs : 1 < s) where
         | yes e ↦
             let lt : plain s (digits s m n u) < s ^ n = ih (inner-ranks s m n a b u l h) (canonical-inner s m n a b u l h g e) in
             rw (eq-eqb a (mirrorRank s m b) e, plain-snoc s (mirrorRank s m b) (digits s m n u))
-            (omega (arith, mul-le-mul-right s lt, pow-suc s n, pow-suc s (suc n), mul-le-mul-left (s ^ suc n) hs))
+            (omega (arith, mul-le-mul-right s lt, pow-two-more s n, mul-le-mul-left (s ^ n * s) hs))
         | no ne ↦
             let lt : a < mirrorRank s m b = omega arith in
             rw (ne-eqb a (mirrorRank s m b) ne, l)
@@ -45,8 +45,7 @@ module _ (s : ℕ) (m : Mirror) (hs : 1 < s) where
               pair-value s (pairRank s a (mirrorRank s m b)) (s ^ n) (s ^ suc n) (plain s u) (pow-suc s n),
               value-differ-lt s (pairRank s a (mirrorRank s m b)) (s ^ n) (plain s u) hs (below-pairs s a (mirrorRank s m b) lt hr) (inner-lt s m n a b u l h),
               pow-suc s n,
-              pow-suc s (suc n),
-              ap (λ (x : ℕ). x * s) (pow-suc s n),
+              pow-two-more s n,
             ))
       ])
 

@@ -9,7 +9,7 @@ use lib.Dec.{eqb}
 use borrow.Author.Tests.{eqb-false}
 use Rattle.settings.specs.Settings.{halfUp, isOdd, classes}
 use Rattle.settings.specs.Limits.{EvenUnder}
-use Rattle.laws.proofs.Powers.{pairCount, square, parity, even-pow, gap}
+use Rattle.laws.proofs.Powers.{pairCount, square, parity, even-pow, gap, pow-two-more}
 use Rattle.encoding.specs.Words.{Mirror, Reversal, Complement}
 use Rattle.encoding.specs.Codes.{shift, oddShift}
 use Rattle.encoding.specs.Needs.{palindromes}
@@ -80,8 +80,7 @@ classes-suc s m n h =
       twice-classes s m (suc (suc n)) h,
       palindromes-suc s m n,
       ap (λ (x : ℕ). x * s ^ n) (square s),
-      pow-suc s (suc n),
-      ap (λ (x : ℕ). x * s) (pow-suc s n),
+      pow-two-more s n,
     )
 
 odd-even-ceil : (s n : ℕ) → s % 2 ≡ 0 → isOdd n ≡ true → (t : ℕ) × (s ^ halfUp n ≡ 2 * t)

@@ -1,6 +1,7 @@
 -- The rank of a pair l < r < s is a bijection onto the numbers below s(s - 1)/2, and `pairOfRank` its inverse.
 use mathlib.Core.Path.{_≡_, ap, _∙_, subst⁻¹}
 use Prim.Native.Nat.{ℕ, zero, suc, _+_, _-_, _*_, _/_, _<_, _≤_}
+use native.Mathlib.Nat.{mul-le-mul-right}
 use native.Mathlib.Decide.{decLe}
 use native.Mathlib.Omega.{arith}
 use borrow.Author.Tests.{lt-ltb, le-ltb}
@@ -33,6 +34,13 @@ rank-lt zero l r h g = absurd (omega arith)
 rank-lt (suc t) zero r h g = omega (arith, rank-zero (suc (suc t)) r h (omega arith))
 rank-lt (suc t) (suc l) zero h g = absurd (omega arith)
 rank-lt (suc t) (suc l) (suc r) h g = omega (arith, rank-suc t l r (omega arith) (omega arith), rank-lt t l r (omega arith) (omega arith))
+
+-- Of at most 16 letters, the product in the rank is at most 16 * 32.
+pub pair-small : (s l : ℕ) → l < s → s ≤ 16 → l * (2 * s - 3 - l) ≤ 512
+pair-small s l h g =
+    let e : l ≤ 16 = omega arith in
+    let f : 2 * s - 3 - l ≤ 32 = omega arith in
+    omega (arith, mul-le-mul-right (2 * s - 3 - l) e)
 
 -- The pair of a rank: the first t ranks are those of the pairs with l = 0, and the others have both their numbers one higher.
 pub rank-here : (t R : ℕ) → R < t → pairOfRank t R ≡ (0, suc R)

@@ -3,10 +3,10 @@ use mathlib.Core.Path.{_≡_, sym, _∙_}
 use mathlib.Core.List.{List}
 use Prim.Native.Nat.{ℕ, _+_, _*_, _^_, _<_, _≤_}
 use native.Mathlib.Nat.{pow-zero}
-use native.Mathlib.Decide.{ℕ-discrete}
 use native.Mathlib.Omega.{arith}
-use lib.ListN.{length, getD, set, length-set}
-use lib.Seq.{getD-set-same, getD-set-other}
+use lib.ListN.{length, set, length-set}
+use lib.Seq.{getD-set-same}
+use Rattle.laws.proofs.Buffers.{set-next}
 use Rattle.laws.proofs.Powers.{exponent-le, pow-fits}
 use Rattle.settings.proofs.Powers.{power-next}
 use Rattle.kernels.specs.Needs.{Powers}
@@ -32,8 +32,8 @@ module _ (s k : ℕ) where
     next-is : p * s ≡ s ^ (i + 1)
     next-is = power-next s p i (P .last)
 
-    pub power-fits : p * s ≤ 2 ^ 62
-    power-fits = rw next-is (pow-fits s (i + 1) k two (omega arith) small)
+    pub next-power-fits : p * s ≤ 2 ^ 62
+    next-power-fits = rw next-is (pow-fits s (i + 1) k two (omega arith) small)
 
     pub power-room : i + 1 < length table
     power-room = omega (arith, P .room, exponent-le s k two small)
@@ -44,12 +44,7 @@ module _ (s k : ℕ) where
           room = length-set table (i + 1) (p * s) ∙ P .room;
           upto = omega arith;
           last = next-is;
-          written = record {
-            at = λ j g. elim (ℕ-discrete j (i + 1)) as (λ _. getD (set table (i + 1) (p * s)) j 0 ≡ s ^ j) [
-              | yes q ↦ rw q (getD-set-same table (i + 1) (p * s) 0 power-room ∙ next-is)
-              | no q ↦ getD-set-other table (i + 1) j (p * s) 0 q ∙ P .written .at j (omega arith)
-            ];
-          };
+          written = record { at = λ j g. set-next (λ (h x : ℕ). x ≡ s ^ h) table power-room (λ h l. P .written .at h (omega arith)) next-is j (omega arith) };
         }
 
   pub powers-all : {i p : ℕ} {table : List ℕ} → PowersTo s k i p table → k ≤ i → Powers s k table

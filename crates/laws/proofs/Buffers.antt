@@ -1,12 +1,13 @@
 -- A lent list that is written from its start with the numbers of a list C, one after the other or several at once. Its later places stay as
--- they were before the first was written. And the front of an array that was so written.
+-- they were before the first was written. Then a property of each place that is written, and the front of an array that was so written.
 use mathlib.Core.Path.{_≡_, refl, sym, ap, _∙_}
 use mathlib.Core.List.{List, [], _∷_, _++_, append-assoc, append-nil}
 use Prim.Native.Nat.{ℕ, suc, _+_, _<_, _≤_}
+use native.Mathlib.Decide.{ℕ-discrete}
 use native.Mathlib.Numerals.{add-one}
 use native.Mathlib.Omega.{arith}
 use lib.ListN.{length, getD, take, drop, set, length-append, length-drop, length-set, drop-of-length-le}
-use lib.Seq.{drop-cons, append-snoc, set-at, take-suc, take-all, take-at, drop-at, take-add, drop-drop, drop-set-lt, length-take-le}
+use lib.Seq.{drop-cons, append-snoc, set-at, take-suc, take-all, take-at, drop-at, take-add, drop-drop, drop-set-lt, length-take-le, getD-set-same, getD-set-other}
 
 -- The first n places of out hold the first n numbers of C, the others what the list o held before.
 pub record Written (C o : List ℕ) (n : ℕ) (out : List ℕ) : Type 0 where
@@ -72,6 +73,15 @@ module _ {C : List ℕ} (o : List ℕ) (x : ℕ) where
 
   pub written-rest : {n : ℕ} {out : List ℕ} → 0 < n → Written C (set o 0 x) n out → Written C o n out
   written-rest {n} h W = record { is = W .is ∙ rw (drop-set-lt n o 0 x h); upto = W .upto; room = rw (length-set o 0 x) at (W .room) }
+
+-- What is so of each place before n, and of x at n, is so of each place before n + 1 once x is set there.
+pub set-next : (P : ℕ → ℕ → Type 0) (l : List ℕ) {n x : ℕ} → n < length l → ((i : ℕ) → i < n → P i (getD l i 0)) → P n x
+    → (i : ℕ) → i < n + 1 → P i (getD (set l n x) i 0)
+set-next P l {n} {x} h f e i g =
+    elim (ℕ-discrete i n) as (λ _. P i (getD (set l n x) i 0)) [
+      | yes q ↦ rw (q, getD-set-same l n x 0 h) e
+      | no q ↦ rw (getD-set-other l n i x 0 q) (f i (omega arith))
+    ]
 
 -- ---- the front of an array
 

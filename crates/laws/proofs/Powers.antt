@@ -17,6 +17,9 @@ pow-split s n e h =
     let g : n ≡ n - e + e = omega arith in
     ap (λ (x : ℕ). s ^ x) g ∙ pow-add s (n - e) e
 
+pub pow-two-more : (s n : ℕ) → s ^ suc (suc n) ≡ s ^ n * s * s
+pow-two-more s n = pow-suc s (suc n) ∙ ap (λ (x : ℕ). x * s) (pow-suc s n)
+
 -- A power that is at most 2^62 has lower powers that are.
 pub pow-fits : (s n k : ℕ) → 1 < s → n ≤ k → s ^ k ≤ 2 ^ 62 → s ^ n ≤ 2 ^ 62
 pow-fits s n k hs h g = le-trans (pow-le-pow-right (omega arith) h) g

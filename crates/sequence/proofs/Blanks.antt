@@ -8,7 +8,9 @@ use native.Mathlib.Decide.{ℕ-discrete, decLe}
 use native.Mathlib.Numerals.{add-one}
 use native.Mathlib.Omega.{arith}
 use lib.ListN.{length, getD, take, drop, set, length-set, length-append, length-drop, drop-of-length-le, List·getD-append}
-use lib.Seq.{drop-cons, getD-take, getD-drop, getD-set-same, getD-set-other, getD-append-add, ext-getD}
+use lib.Seq.{drop-cons, getD-take, getD-drop, getD-set-other, getD-append-add, ext-getD}
+use Rattle.laws.proofs.Buffers.{set-next}
+use Rattle.laws.proofs.Lists.{map-take, map-drop}
 use Rattle.encoding.specs.Words.{Mirror}
 use Rattle.encoding.specs.Codes.{code}
 use Rattle.encoding.specs.Calls.{rankOrZero}
@@ -33,19 +35,6 @@ module _ (rank : ℕ → Option ℕ) where
   ranked-false [] p h e = absurd (omega arith)
   ranked-false (b ∷ w) zero h e = rw e
   ranked-false (b ∷ w) (suc p) h e = rw (ranked-false w p (omega arith) e) (and-false (isRank (rank b)))
-
--- ---- a part of a list that is mapped
-
-module _ {A B : Type 0} (f : A → B) where
-  pub map-take : (n : ℕ) (l : List A) → take n (map f l) ≡ map f (take n l)
-  map-take zero l = refl
-  map-take (suc n) [] = refl
-  map-take (suc n) (x ∷ l) = ap (λ (r : List B). f x ∷ r) (map-take n l)
-
-  pub map-drop : (n : ℕ) (l : List A) → drop n (map f l) ≡ map f (drop n l)
-  map-drop zero l = refl
-  map-drop (suc n) [] = refl
-  map-drop (suc n) (x ∷ l) = map-drop n l
 
 -- ---- bytes that are all letters
 
@@ -161,14 +150,10 @@ module _ {table : List ℕ} {k : ℕ} {bytes old : List ℕ} (some : 1 ≤ k) wh
         inside = omega arith;
         blanked = record {
           kept-length = length-set new j x ∙ A .blanked .kept-length;
-          at = λ i g. elim (ℕ-discrete i j) as (λ _. getD (set new j x) i 0 ≡ cond (allRanked (rankByTable table) (part i k bytes)) (getD old i 0) noCode) [
-            | yes q ↦
-                rw q
-                (getD-set-same new j x 0 (omega (arith, A .blanked .kept-length))
-                ∙ run-kept R k j e (omega arith) x (getD new j 0) f
-                ∙ rw (A .blanked .later j (omega arith)))
-            | no nq ↦ getD-set-other new j i x 0 nq ∙ A .blanked .at i (omega arith)
-          ];
+          at =
+              set-next (λ (i y : ℕ). y ≡ cond (allRanked (rankByTable table) (part i k bytes)) (getD old i 0) noCode) new
+              (omega (arith, A .blanked .kept-length)) (A .blanked .at)
+              (run-kept R k j e (omega arith) x (getD new j 0) f ∙ rw (A .blanked .later j (omega arith)));
           later = λ i g. getD-set-other new j i x 0 (λ q. omega arith) ∙ A .blanked .later i (omega arith);
         };
       }

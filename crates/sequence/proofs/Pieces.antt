@@ -1,5 +1,5 @@
 -- A sequence in batches: the ranks of a batch in the first places of an array, its numbers, and how the numbers of the batches follow each other.
--- From the windows of the first letters and of the later ones (`windows-take`, `windows-drop`).
+-- From the windows of the first letters and of the later ones (kernels' `windows-take`, `windows-drop`).
 use mathlib.Core.Path.{_≡_, refl, sym, ap, _∙_}
 use mathlib.Core.List.{List, [], _++_, map, append-nil}
 use mathlib.Core.Bool.{Bool, true}
@@ -9,6 +9,7 @@ use native.Mathlib.Omega.{arith}
 use lib.ListN.{length, take, drop, length-drop, drop-of-length-le}
 use lib.Seq.{take-all}
 use Rattle.laws.proofs.Buffers.{front-is, front-fits, Written, written-none, written-more, written-length, written-all}
+use Rattle.laws.proofs.Lists.{map-take, map-drop}
 use Rattle.encoding.specs.Words.{Mirror}
 use Rattle.laws.specs.Windows.{windows}
 use Rattle.kernels.specs.Windows.{windowCodes}
@@ -18,7 +19,7 @@ use Rattle.sequence.specs.Needs.{ranksBy, allRanked, codeBy, Blanked}
 use Rattle.kernels.proofs.Windows.{windows-take, windows-drop, length-codes}
 use Rattle.kernels.proofs.Parts.{length-part}
 use Rattle.sequence.proofs.RankTables.{length-ranks-by}
-use Rattle.sequence.proofs.Blanks.{map-take, map-drop, blanked-codes, blanked-nothing}
+use Rattle.sequence.proofs.Blanks.{blanked-codes, blanked-nothing}
 
 -- ---- the ranks of a batch, R, written over the first places of an array
 

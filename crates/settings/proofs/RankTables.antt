@@ -3,11 +3,10 @@ use mathlib.Core.Path.{_≡_, sym, _∙_}
 use mathlib.Core.Option.{none, some}
 use mathlib.Core.List.{List}
 use Prim.Native.Nat.{ℕ, _<_, _+_, _≤_}
-use native.Mathlib.Decide.{ℕ-discrete}
 use native.Mathlib.Omega.{arith}
 use borrow.Author.Tests.{eq-eqb, ne-eqb}
 use lib.ListN.{length, set}
-use lib.Seq.{getD-set-same, getD-set-other}
+use Rattle.laws.proofs.Buffers.{set-next}
 use Rattle.settings.specs.RankTables.{asRank, rankByTable, RankTable, RanksBelow}
 use Rattle.settings.specs.Settings.{rankIn}
 use Rattle.settings.proofs.Ranks.{rank-below-count}
@@ -32,11 +31,7 @@ Filled letters table n = (b : ℕ) → b < n → rankByTable table b ≡ rankIn 
 pub fill-one : (letters table : List ℕ) (n r : ℕ) → n < length table → asRank r ≡ rankIn letters n → Filled letters table n
     → Filled letters (set table n r) (n + 1)
 unfolding Filled
-fill-one letters table n r h e f b g =
-    elim (ℕ-discrete b n) as (λ _. rankByTable (set table n r) b ≡ rankIn letters b) [
-      | yes q ↦ rw q (rw (getD-set-same table n r 0 h) e)
-      | no q ↦ rw (getD-set-other table n b r 0 q) (f b (omega arith))
-    ]
+fill-one letters table n r h e f = set-next (λ (b x : ℕ). asRank x ≡ rankIn letters b) table h f e
 
 pub fill-none : (letters table : List ℕ) → Filled letters table 0
 unfolding Filled

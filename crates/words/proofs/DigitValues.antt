@@ -3,13 +3,13 @@ use mathlib.Core.Path.{_≡_, ap, subst, subst⁻¹, _∙_, sym, refl}
 use mathlib.Core.Bool.{cond}
 use mathlib.Core.List.{List, _∷_, _++_, []}
 use Prim.Native.Nat.{_-_, ℕ, _<_, _≤_, _*_, _/_, _+_, _%_, _^_, suc, min}
-use native.Mathlib.Nat.{mul-le-mul-right, div-add-mod', pow-suc, zero-add}
+use native.Mathlib.Nat.{mul-le-mul-right, div-add-mod', zero-add}
 use native.Mathlib.Omega.{arith}
 use borrow.Author.Tests.{eq-eqb, ne-eqb}
 use lib.Dec.{eqb}
 use lib.ListN.{length, take, drop, getD}
 use lib.Seq.{take-all}
-use Rattle.laws.proofs.Powers.{pairCount, square}
+use Rattle.laws.proofs.Powers.{pairCount, square, pow-two-more}
 use Rattle.settings.proofs.Powers.{capped}
 use Rattle.encoding.specs.Codes.{pairRank, digits}
 use Rattle.words.specs.Needs.{FitDiffering, FitCanonical}
@@ -20,18 +20,12 @@ use Rattle.encoding.proofs.Ends.{plain-one}
 use Rattle.encoding.proofs.Pairs.{below-pairs}
 use Rattle.words.proofs.WordParts.{inner-plain-lt, ranks-at, length-part, part-ends, value-part, inner-of}
 
-pub pair-small : (s l : ℕ) → l < s → s ≤ 16 → l * (2 * s - 3 - l) ≤ 512
-pair-small s l h g =
-    let e : l ≤ 16 = omega arith in
-    let f : 2 * s - 3 - l ≤ 32 = omega arith in
-    omega (arith, mul-le-mul-right (2 * s - 3 - l) e)
-
 pub high-is : (s R : ℕ) → (R / s + 1) * s + R % s ≡ R + s
 high-is s R = omega (arith, div-add-mod' R s)
 
 pair-value-small : (s R : ℕ) → 1 < s → R < pairCount s → (n x : ℕ) → x < s ^ n → s ^ suc (suc n) ≤ 2 ^ 62 → (R + s) * s ^ n + x < 2 ^ 62
 pair-value-small s R hs hR n x hx g =
-    omega (arith, value-differ-lt s R (s ^ n) x hs hR hx, pow-suc s (suc n), ap (λ (y : ℕ). y * s) (pow-suc s n))
+    omega (arith, value-differ-lt s R (s ^ n) x hs hR hx, pow-two-more s n)
 
 -- What `differing_value` works out from the rank R of its pair: its two digits fit, and the value fits and is the one asked.
 module _ (s : ℕ) (w : List ℕ) (l r : ℕ) (d : FitDiffering s w l r) (R : ℕ) (e : R ≡ pairRank s l r) where

@@ -11,7 +11,7 @@ use Rattle.settings.specs.Limits.{Limits}
 use Rattle.settings.specs.Settings.{classes, isOdd}
 use Rattle.settings.proofs.Limits.{k-at-most, limits-less}
 use Rattle.laws.proofs.Each.{each-append}
-use Rattle.laws.proofs.Powers.{pairCount, square, pow-one, pow-pos}
+use Rattle.laws.proofs.Powers.{pairCount, square, pow-one, pow-pos, pow-two-more}
 use Rattle.laws.proofs.Buffers.{front-is, front-fits, front-length}
 use Rattle.encoding.specs.Calls.{inCapitals}
 use Rattle.words.specs.Needs.{RankOfPair, FitHighCode}
@@ -150,7 +150,7 @@ module _ (s : ℕ) (m : Mirror) (out : List ℕ) (h : 2 ≤ length out) where
     pow-le : s ^ (length out - 2) * s * s ≤ 2 ^ 62
     pow-le =
         let g : s ^ suc (suc (length out - 2)) ≤ 2 ^ 62 = subst (λ (n : ℕ). s ^ n ≤ 2 ^ 62) two-more (f .small) in
-        omega (arith, pow-suc s (suc (length out - 2)), ap (λ (x : ℕ). x * s) (pow-suc s (length out - 2)))
+        omega (arith, pow-two-more s (length out - 2))
 
     pub low-small : s * classes s m (length out - 2) ≤ 2 ^ 62
     low-small =

@@ -4,7 +4,7 @@ use Prim.Native.Nat.{_+_, _-_, _<_}
 use native.Mathlib.Omega.{arith}
 use denote.Ref.{now}
 use lib.ListN.{length}
-use Rattle.kernels.proofs.PowerTables.{PowersTo, powers-first, power-fits, power-room, powers-next, powers-all}
+use Rattle.kernels.proofs.PowerTables.{PowersTo, powers-first, next-power-fits, power-room, powers-next, powers-all}
 use Rattle.kernels.proofs.fill_powers.Statement.{statement}
 use Rattle.kernels.proofs.fill_powers.Tie as tie
 
@@ -25,7 +25,7 @@ room : (c : tie.In-loop Inv-loop μ-loop) → c .before .loop .i + 1 < length (c
 room c = let p = c .before .before .pre in power-room _ _ (p .1 .0) (p .1 .1) (c .before .loop .inv) (c .loop-test .taken)
 
 mul-p : tie.Need-mul-p Inv-loop μ-loop
-mul-p c = let p = c .before .before .pre in omega (arith, power-fits _ _ (p .1 .0) (p .1 .1) (c .before .loop .inv) (c .loop-test .taken))
+mul-p c = let p = c .before .before .pre in omega (arith, next-power-fits _ _ (p .1 .0) (p .1 .1) (c .before .loop .inv) (c .loop-test .taken))
 
 add-i : tie.Need-add-i Inv-loop μ-loop
 add-i c = omega (arith, room c, c .before .loop .inv .room)

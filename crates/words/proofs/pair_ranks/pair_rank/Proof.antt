@@ -3,7 +3,7 @@ use mathlib.Core.Path.{refl}
 use native.Mathlib.Omega.{arith}
 use borrow.Author.Needs.{needs}
 use Rattle.encoding.specs.Codes.{pairRank}
-use Rattle.words.proofs.DigitValues.{pair-small}
+use Rattle.encoding.proofs.Pairs.{pair-small}
 use Rattle.words.proofs.pair_ranks.pair_rank.Statement.{statement}
 use Rattle.words.proofs.pair_ranks.pair_rank.Tie as tie
 
