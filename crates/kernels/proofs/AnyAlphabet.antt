@@ -221,9 +221,9 @@ module _ {s : ℕ} {m : Mirror} {k : ℕ} {pw d : List ℕ} {j : ℕ} {t : Inner
       rw behind-more
       (lt-of-lt-of-le (back-lt s m (suc j) (suc n) d (E .window .input .ranks) (omega (arith, inside))) (power-fits (E .window .input) (suc n) few))
 
-  pub next-is : (u v : ℕ) → u ≡ t .forward * s + y - x * q → v ≡ (t .back + z * q) / s
+  pub next-window-is : (u v : ℕ) → u ≡ t .forward * s + y - x * q → v ≡ (t .back + z * q) / s
       → Window s m k pw d (j + 1) (record { palindromes = t .palindromes; forward = u; back = v })
-  next-is u v eu ev =
+  next-window-is u v eu ev =
       record {
         input = E .window .input;
         inside = omega (arith, E .more);
@@ -237,7 +237,7 @@ module _ {s : ℕ} {m : Mirror} {k : ℕ} {pw d : List ℕ} {j : ℕ} {t : Inner
 -- ---- the first window: its inner letters, from place 1, are taken in
 
 module _ {s : ℕ} {m : Mirror} {k : ℕ} {pw d : List ℕ} (I : Input s m k pw d) {n u v i : ℕ} (en : n ≡ k - 2) (O : Opened s m d 1 n u v i) where
-  pub open-all : k ≤ length d → (e : ℕ) → e ≡ palindromes s m k → n ≤ i → Window s m k pw d 0 (record { palindromes = e; forward = u; back = v })
-  open-all long e q h =
+  pub first-window-is : k ≤ length d → (e : ℕ) → e ≡ palindromes s m k → n ≤ i → Window s m k pw d 0 (record { palindromes = e; forward = u; back = v })
+  first-window-is long e q h =
       let i-is : i ≡ k - 2 = omega (arith, O .upto) in
       record { input = I; inside = omega arith; count = q; ahead = rw i-is at (O .ahead); behind = rw i-is at (O .behind) }

@@ -15,8 +15,8 @@ use Rattle.kernels.proofs.TwoBit.{four-fits}
 -- ---- the first window: its letters, from place 0, are taken in
 
 module _ {k e : ℕ} {d : List ℕ} (I : TwoBitInput k e d) {x y i : ℕ} (O : Opened 4 Complement d 0 k x y i) where
-  pub open-all : k ≤ length d → k ≤ i → TwoBitWindow k e d 0 x y
-  open-all long h =
+  pub first-strands-are : k ≤ length d → k ≤ i → TwoBitWindow k e d 0 x y
+  first-strands-are long h =
       let i-is : i ≡ k = omega (arith, O .upto) in
       record { input = I; inside = omega arith; ahead = rw i-is at (O .ahead); behind = rw i-is at (O .behind) }
 
@@ -63,5 +63,5 @@ module _ {k e : ℕ} {d : List ℕ} {j x y : ℕ} (W : TwoBitWindow k e d j x y)
     pub next-behind : y / 4 + (3 - c) * top < 2 ^ 62
     next-behind = rw (et, behind-is) (lt-of-lt-of-le (back-lt 4 Complement (suc j) k d (W .input .ranks) (omega arith)) (four-fits k (W .input .small)))
 
-    pub next-is : TwoBitWindow k e d (j + 1) (low * 4 + c) (y / 4 + (3 - c) * top)
-    next-is = record { input = W .input; inside = omega arith; ahead = rw (el, add-one j) ahead-is; behind = rw (et, add-one j) behind-is }
+    pub next-strands-are : TwoBitWindow k e d (j + 1) (low * 4 + c) (y / 4 + (3 - c) * top)
+    next-strands-are = record { input = W .input; inside = omega arith; ahead = rw (el, add-one j) ahead-is; behind = rw (et, add-one j) behind-is }

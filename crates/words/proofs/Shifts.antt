@@ -52,17 +52,17 @@ module _ (s k : ℕ) where
 
 -- ---- the code of a canonical word
 
-module _ (s : ℕ) (m : Mirror) (w : List ℕ) (c : FitCanonical s m w) (at sh odd v : ℕ) (e : at ≡ equalPairs s m (length w) w) where
-  pub at-le : 2 * at ≤ length w
-  at-le = rw e (equalPairs-le s m (length w) w)
+pub at-le : (s : ℕ) (m : Mirror) (w : List ℕ) {at : ℕ} → at ≡ equalPairs s m (length w) w → 2 * at ≤ length w
+at-le s m w e = rw e (equalPairs-le s m (length w) w)
 
-  module _ (f : sh ≡ shift s (length w) (pairAfter (length w) at)) (g : odd ≡ oddShift s m (length w)) (h : v ≡ plain s (digits s m (length w) w)) where
-    shift-is : sh ≡ shift s (length w) (differingPair s m (length w) w)
-    shift-is = f ∙ ap (λ (p : ℕ). shift s (length w) (pairAfter (length w) p)) e ∙ ap (shift s (length w)) (sym (differingPair-is s m (length w) w refl))
+module _ {s : ℕ} {m : Mirror} {w : List ℕ} (c : FitCanonical s m w) {at sh odd v : ℕ} (e : at ≡ equalPairs s m (length w) w)
+    (f : sh ≡ shift s (length w) (pairAfter (length w) at)) (g : odd ≡ oddShift s m (length w)) (h : v ≡ plain s (digits s m (length w) w)) where
+  shift-is : sh ≡ shift s (length w) (differingPair s m (length w) w)
+  shift-is = f ∙ ap (λ (p : ℕ). shift s (length w) (pairAfter (length w) p)) e ∙ ap (shift s (length w)) (sym (differingPair-is s m (length w) w refl))
 
-    pub enough : sh + odd ≤ v
-    enough = omega (arith, value s m (c .word .two) (c .even) (length w) w refl (c .word .ranks) (c .least), shift-is)
+  pub enough : sh + odd ≤ v
+  enough = omega (arith, value s m (c .word .two) (c .even) (length w) w refl (c .word .ranks) (c .least), shift-is)
 
-    pub code-is-this : v - sh - odd ≡ codeOfCanonical s m (length w) w
-    unfolding codeOfCanonical
-    code-is-this = rw (h, shift-is, g)
+  pub code-is-this : v - sh - odd ≡ codeOfCanonical s m (length w) w
+  unfolding codeOfCanonical
+  code-is-this = rw (h, shift-is, g)

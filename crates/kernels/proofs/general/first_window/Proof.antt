@@ -4,7 +4,7 @@ use native.Mathlib.Omega.{arith}
 use borrow.Author.Needs.{needs}
 use denote.Ref.{now}
 use Rattle.kernels.proofs.FirstWindows.{Opened, open-none, Letter, open-lt, open-ahead, open-behind, open-more}
-use Rattle.kernels.proofs.AnyAlphabet.{k-lt, power-fits, open-all}
+use Rattle.kernels.proofs.AnyAlphabet.{k-lt, power-fits, first-window-is}
 use Rattle.kernels.proofs.general.first_window.Statement.{statement}
 use Rattle.kernels.proofs.general.first_window.Tie as tie
 
@@ -79,7 +79,7 @@ loop-again c = open-more (letter (c .before .before)) (c .before .mirror-rank .e
 returns : tie.Need-returns Inv-loop μ-loop
 returns c =
     let p = c .before .before .before .before .pre in
-    open-all (p .0) (c .before .before .inner-length .ensures) (c .before .loop .inv) (p .1 .0) _ (p .1 .1) (c .loop-test .left)
+    first-window-is (p .0) (c .before .before .inner-length .ensures) (c .before .loop .inv) (p .1 .0) _ (p .1 .1) (c .loop-test .left)
 
 pub first-window-spec : {M : Type 1} → statement M
 first-window-spec =

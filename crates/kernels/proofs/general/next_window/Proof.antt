@@ -3,7 +3,7 @@ use mathlib.Core.Path.{refl}
 use native.Mathlib.Omega.{arith}
 use borrow.Author.Needs.{needs}
 use denote.Ref.{now}
-use Rattle.kernels.proofs.AnyAlphabet.{k-lt, entering-lt, Entering, ahead-fits, behind-fits, next-is}
+use Rattle.kernels.proofs.AnyAlphabet.{k-lt, entering-lt, Entering, ahead-fits, behind-fits, next-window-is}
 use Rattle.kernels.proofs.general.next_window.Statement.{statement}
 use Rattle.kernels.proofs.general.next_window.Tie as tie
 
@@ -80,7 +80,7 @@ divided-requires : tie.Need-divided-requires
 divided-requires c κs = search needs
 
 returns : tie.Need-returns
-returns c = next-is (entering (c .before .before .before)) _ _ refl (c .divided .ensures)
+returns c = next-window-is (entering (c .before .before .before)) _ _ refl (c .divided .ensures)
 
 pub next-window-spec : {M : Type 1} → statement M
 next-window-spec =

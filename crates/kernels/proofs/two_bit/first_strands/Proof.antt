@@ -6,7 +6,7 @@ use denote.Ref.{now}
 use Rattle.encoding.specs.Words.{Complement}
 use Rattle.kernels.proofs.FirstWindows.{Opened, open-none, Letter, open-lt, open-ahead, open-behind, open-more}
 use Rattle.kernels.proofs.TwoBit.{four-fits}
-use Rattle.kernels.proofs.TwoBitRolls.{open-all, three-less}
+use Rattle.kernels.proofs.TwoBitRolls.{first-strands-are, three-less}
 use Rattle.kernels.proofs.two_bit.first_strands.Statement.{statement}
 use Rattle.kernels.proofs.two_bit.first_strands.Tie as tie
 
@@ -70,7 +70,7 @@ loop-again : tie.Need-loop-again Inv-loop μ-loop
 loop-again c = (open-more (letter (c .before)) (three-less _) (c .power-of-four .ensures), c .before .before .before .loop .inv .1)
 
 returns : tie.Need-returns Inv-loop μ-loop
-returns c = let p = c .before .before .before .pre in open-all (p .0) (c .before .loop .inv .0) (p .1) (c .loop-test .left)
+returns c = let p = c .before .before .before .pre in first-strands-are (p .0) (c .before .loop .inv .0) (p .1) (c .loop-test .left)
 
 pub first-strands-spec : {M : Type 1} → statement M
 first-strands-spec =

@@ -1,7 +1,7 @@
 -- `kernels::two_bit::next_strands` meets its contract. A letter enters both plain ranks and one leaves; neither sum wraps (TwoBitRolls).
 use native.Mathlib.Omega.{arith}
 use borrow.Author.Needs.{needs}
-use Rattle.kernels.proofs.TwoBitRolls.{next-lt, next-ahead, next-behind, next-is}
+use Rattle.kernels.proofs.TwoBitRolls.{next-lt, next-ahead, next-behind, next-strands-are}
 use Rattle.kernels.proofs.two_bit.next_strands.Statement.{statement}
 use Rattle.kernels.proofs.two_bit.next_strands.Tie as tie
 
@@ -56,7 +56,7 @@ returns : tie.Need-returns
 returns c =
     let start = c .before .before .before .before .before in
     let p = start .pre in
-    next-is (p .0) (p .1) (c .before .before .before .rank-at .ensures) (c .before .before .low-letters .ensures) (c .before .power-of-four .ensures)
+    next-strands-are (p .0) (p .1) (c .before .before .before .rank-at .ensures) (c .before .before .low-letters .ensures) (c .before .power-of-four .ensures)
 
 pub next-strands-spec : {M : Type 1} → statement M
 next-strands-spec =

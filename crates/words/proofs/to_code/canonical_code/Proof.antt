@@ -12,8 +12,7 @@ differing-at-requires c κs = search needs
 shift-of-requires : tie.Need-shift-of-requires
 shift-of-requires c κs =
     let start = c .before .before in
-    let at = at-le (start .args .s) (start .args .m) (start .args .w .now) (start .pre) _ 0 0 0 (c .differing-at .ensures) in
-    (start .pre .word .two, start .pre .word .small, at)
+    (start .pre .word .two, start .pre .word .small, at-le (start .args .s) (start .args .m) (start .args .w .now) (c .differing-at .ensures))
 
 odd-shift-requires : tie.Need-odd-shift-requires
 odd-shift-requires c κs = search needs
@@ -28,9 +27,8 @@ subtracted c = c .before .before .shift-of .result + c .before .odd-shift .resul
 subtracts : (c : tie.After-digits-value) → subtracted c ≤ c .digits-value .result
 subtracts c =
     let sh = c .before .before in
-    let start = sh .before .before .before in
-    enough (start .args .s) (start .args .m) (start .args .w .now) (start .pre) _ _ _ _ (sh .before .differing-at .ensures)
-    (sh .shift-of .ensures) (c .before .odd-shift .ensures) (c .digits-value .ensures)
+    enough (sh .before .before .before .pre) (sh .before .differing-at .ensures) (sh .shift-of .ensures) (c .before .odd-shift .ensures)
+    (c .digits-value .ensures)
 
 sub-t9 : tie.Need-sub-t9
 sub-t9 c = omega (arith, subtracts c)
@@ -41,9 +39,8 @@ sub-t10 c = omega (arith, subtracts c)
 returns : tie.Need-returns
 returns c =
     let sh = c .before .before in
-    let start = sh .before .before .before in
-    code-is-this (start .args .s) (start .args .m) (start .args .w .now) (start .pre) _ _ _ _ (sh .before .differing-at .ensures)
-    (sh .shift-of .ensures) (c .before .odd-shift .ensures) (c .digits-value .ensures)
+    code-is-this (sh .before .before .before .pre) (sh .before .differing-at .ensures) (sh .shift-of .ensures) (c .before .odd-shift .ensures)
+    (c .digits-value .ensures)
 
 pub canonical-code-spec : {M : Type 1} → statement M
 canonical-code-spec =
