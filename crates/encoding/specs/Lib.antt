@@ -1,5 +1,5 @@
 -- What a reader must believe of the encoding, in the order of document 01 (WordsOfCodes need not be believed: theorems tie it to Codes); and, last,
--- what only laws speak of.
+-- what laws and the functions of crates above speak of on the way.
 pub mod Words
 pub mod Codes
 pub mod WordsOfCodes

@@ -1,5 +1,5 @@
--- What the laws of the encoding speak of on the way; no sentence of document 01 rests on it: how many outer pairs of a word are equal, and the number
--- of palindromes.
+-- What the laws of the encoding, and functions of `words` and `kernels`, speak of on the way; no sentence of document 01 rests on it: how many outer
+-- pairs of a word are equal, and the number of palindromes.
 use mathlib.Core.Bool.{cond}
 use mathlib.Core.List.{List}
 use Prim.Native.Nat.{ℕ, zero, suc, _^_}

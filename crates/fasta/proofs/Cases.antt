@@ -1,4 +1,5 @@
--- The definitions, computed: each sentence of document 01's section "Sequence file (FASTA)" on a file of a few bytes. By computation.
+-- The definitions, computed on files of a few bytes: the sentences of document 01's section "Sequence file (FASTA)", save those on the record reader (the
+-- crate `records`), and the order of the grounds. By computation.
 use mathlib.Core.Path.{_≡_, refl}
 use Prim.Native.Nat.{ℕ}
 use mathlib.Core.Option.{Option, none, some}
@@ -97,7 +98,8 @@ no-fault : fileFault (bytes ">*\n\nAxN\n>b 1\r\n>-\r") ≡ none
 unfolding isLetter lfNext lineItem item next itemsFrom faultFrom
 no-fault = refl
 
--- Checks go in number order: 1 to 4, then 6, then 10 or 11.
+-- "Checks go in number order": 1 to 4, then 10 or 11. Ground 6, which comes between them, is of files too long to be written here: `long-file` in
+-- ScanGrounds shows it.
 bad-letters : groundBeforeStray (bytes "AA") 0 2 ≡ some (1, 0)
 unfolding groundBeforeStray
 bad-letters = refl

@@ -89,7 +89,7 @@ fn line_item(file: &[u8], i: usize) -> Item
     }
 }
 
-// What the byte at i is. For `table` too, which reads byte by byte; i lies inside the file.
+// What the byte at i is. For `counting` too, which reads byte by byte; i lies inside the file.
 pub fn item_at(file: &[u8], i: usize, mode: Mode) -> Item
     requires { ⌜ i < length (now file) ⌝ }
     ensures { λ r. ⌜ r ≡ item mode (getD (now (file .entry)) i 0) (lfNext (drop (i + 1) (now (file .entry)))) ⌝ }
@@ -107,7 +107,7 @@ pub fn item_at(file: &[u8], i: usize, mode: Mode) -> Item
     }
 }
 
-// Where the byte after b stands. For `table` too.
+// Where the byte after b stands. For `counting` too.
 pub fn next_mode(mode: Mode, b: u8) -> Mode
     ensures { λ r. ⌜ r ≡ next mode b ⌝ }
 {

@@ -1,4 +1,4 @@
--- What the kernels ask holds under settings that pass the check.
+-- What the kernels ask, and what their callers ask of a table of ranks, holds under settings that pass the check.
 use mathlib.Core.Path.{_≡_, ap, _∙_, subst, subst⁻¹}
 use mathlib.Core.List.{List}
 use mathlib.Core.Option.{none}

@@ -1,4 +1,4 @@
--- The definitions, computed: each sentence of document 01 about the record reader on a file of a few bytes. By computation.
+-- The definitions, computed on files of a few bytes: which records the reader gives and where it moves, by the sentences of document 01. By computation.
 use mathlib.Core.Path.{_≡_, refl}
 use mathlib.Core.List.{[], _∷_}
 use Rattle.laws.specs.Text.{bytes}

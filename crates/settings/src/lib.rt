@@ -1,5 +1,5 @@
 // The settings of a survey: letters, k and mirror. Their check, a byte's rank, powers of s, the number of classes; and the
-// enum of all refusals, which every crate above answers with.
+// enum of all refusals, with which the calls of the crates above answer.
 ghost use mathlib.Core.Path.{_≡_};
 ghost use Prim.Native.Nat.{_^_, _<_, _≤_, min};
 ghost use lib.ListN.{length, drop};

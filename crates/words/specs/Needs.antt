@@ -1,5 +1,5 @@
 -- What functions below the calls ask of each other and laws speak of; no sentence of document 01 rests on it: parts of a word, where the scan of one stops,
--- and words and codes that fit 62 bits.
+-- words and codes that fit 62 bits, and whether a ground applies.
 use mathlib.Core.Bool.{Bool, true, false, cond}
 use mathlib.Core.Option.{Option, none, some}
 use mathlib.Core.List.{List}

@@ -1,4 +1,4 @@
-// The rank of a pair of letters' ranks: what coding a word and the kernels along a sequence share.
+// The rank of a pair of letters' ranks: what coding a word and the kernels share.
 ghost use mathlib.Core.Path.{_≡_};
 ghost use Prim.Native.Nat.{_<_, _≤_};
 ghost use Rattle.encoding.specs.Codes.{pairRank};
