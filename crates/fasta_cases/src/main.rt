@@ -7,7 +7,7 @@
 use fasta::Answer;
 use records::Found;
 ghost use mathlib.Core.Path.{_≡_};
-ghost use Prim.Native.Nat.{_+_, _<_, _≤_};
+ghost use Prim.Native.Nat.{_<_, _≤_};
 ghost use lib.ListN.{length};
 
 // A byte of a file, and how many bytes of the line stand for it.

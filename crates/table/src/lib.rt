@@ -13,7 +13,7 @@ use settings::Refusal;
 use settings::Settings;
 ghost use mathlib.Core.Path.{_≡_};
 ghost use mathlib.Core.Option.{none};
-ghost use Prim.Native.Nat.{_-_, _<_, _≤_};
+ghost use Prim.Native.Nat.{_≤_};
 ghost use lib.ListN.{length};
 ghost use Rattle.settings.specs.Grounds.{outcome, ofFilling};
 ghost use Rattle.settings.specs.Settings.{classes, settingsGround, settingsOf, ofChecked};
