@@ -93,6 +93,7 @@ fn a_folder_that_takes_no_file() {
         (folder.path("a.fa/counts.txt"), "Not a directory"),
         (folder.path("none/"), "it is no name of a file"),
         ("".into(), "it is no name of a file"),
+        (folder.path(&"x".repeat(256)), "File name too long"),
     ];
     for (path, reason) in cases {
         let right = format!("{}: not written: {reason}", path.display());

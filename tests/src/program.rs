@@ -4,6 +4,7 @@
 use crate::second_counter::MOST_INPUT;
 use crate::settings::shown_file;
 use std::env;
+use std::fs::File;
 use std::io::{self, Read, Write};
 use std::path::{Path, PathBuf};
 use std::process::{Child, ChildStdin, Command, ExitStatus, Stdio};
@@ -24,9 +25,9 @@ fn path() -> PathBuf {
     root.join(env::var_os("COUNTER_BIN").unwrap_or(BUILT.into()))
 }
 
-fn start() -> Child {
+fn start(stdin: Stdio) -> Child {
     let mut command = Command::new(path());
-    command.stdin(Stdio::piped()).stdout(Stdio::piped()).stderr(Stdio::piped());
+    command.stdin(stdin).stdout(Stdio::piped()).stderr(Stdio::piped());
     command.spawn().unwrap_or_else(|error| panic!("{} does not start: {error}", path().display()))
 }
 
@@ -60,29 +61,40 @@ fn ended(child: &mut Child) -> Option<ExitStatus> {
     None
 }
 
-/// What the program prints for an input that reaches it in pieces of so many bytes.
-pub fn run_in_pieces(input: &[u8], piece: usize) -> Vec<u8> {
-    let mut child = start();
-    let stdin = child.stdin.take().expect("a pipe");
+/// What a program that was started prints, once it has ended in time with status 0 and with nothing on standard
+/// error; `input` shows what it was given.
+fn printed_by(mut child: Child, input: impl Fn() -> String) -> Vec<u8> {
     let (stdout, stderr) = (child.stdout.take().expect("a pipe"), child.stderr.take().expect("a pipe"));
-    let (fed, status, printed, complaints) = thread::scope(|scope| {
-        let fed = scope.spawn(|| feed(stdin, input, piece));
+    let (status, printed, complaints) = thread::scope(|scope| {
         let printed = scope.spawn(|| collected(stdout));
         let complaints = scope.spawn(|| collected(stderr));
         let status = ended(&mut child);
-        (
-            fed.join().expect("feeding"),
-            status,
-            printed.join().expect("output"),
-            complaints.join().expect("errors"),
-        )
+        (status, printed.join().expect("output"), complaints.join().expect("errors"))
     });
-    let status = status.unwrap_or_else(|| panic!("no end within {LONGEST:?}: input {}", shown_file(input)));
-    assert_eq!(status.code(), Some(0), "{status}: input {}", shown_file(input));
-    assert!(complaints.is_empty(), "{}: input {}", shown_file(&complaints), shown_file(input));
+    let status = status.unwrap_or_else(|| panic!("no end within {LONGEST:?}: input {}", input()));
+    assert_eq!(status.code(), Some(0), "{status}: input {}", input());
+    assert!(complaints.is_empty(), "{}: input {}", shown_file(&complaints), input());
+    printed
+}
+
+/// What the program prints for an input that reaches it in pieces of so many bytes.
+pub fn run_in_pieces(input: &[u8], piece: usize) -> Vec<u8> {
+    let mut child = start(Stdio::piped());
+    let stdin = child.stdin.take().expect("a pipe");
+    let (fed, printed) = thread::scope(|scope| {
+        let fed = scope.spawn(|| feed(stdin, input, piece));
+        let printed = printed_by(child, || shown_file(input));
+        (fed.join().expect("feeding"), printed)
+    });
     // The program must know whether there are more than MOST_INPUT bytes: only then may it leave some unread.
     assert!(fed.is_ok() || input.len() > MOST_INPUT, "{fed:?}: input {}", shown_file(input));
     printed
+}
+
+/// What the program prints where it cannot read its standard input, here a folder.
+pub fn run_on_a_folder() -> Vec<u8> {
+    let folder = File::open("/").expect("the root folder opens");
+    printed_by(start(folder.into()), || "a folder".to_string())
 }
 
 /// The program prints just this for an input.

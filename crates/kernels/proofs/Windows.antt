@@ -35,9 +35,9 @@ module _ (k : ℕ) (some : 1 ≤ k) where
       ∙ ap₂ (λ (v : List ℕ) (vs : List (List ℕ)). v ∷ vs) (sym (take-take k (suc (a + k - 1)) (x ∷ xs) (omega arith))) (windows-take a xs (omega arith))
       ∙ sym (ap (λ (i : ℕ). windows k (take i (x ∷ xs))) n ∙ windows-first k x (take (a + k - 1) xs) (omega arith))
 
-  -- The law for batches: all windows of w are those of its first a + k - 1 letters, then those of the letters from a on.
-  pub batch : (a : ℕ) (w : List ℕ) → a + k ≤ suc (length w) → windows k w ≡ windows k (take (a + k - 1) w) ++ windows k (drop a w)
-  batch a w g = sym (take-append-drop a (windows k w)) ∙ rw (windows-take a w g, windows-drop a w)
+  -- A run cut into pieces that overlap by k - 1 letters has the same windows: those of its first a + k - 1 letters, then those of the letters from a on.
+  pub pieces : (a : ℕ) (w : List ℕ) → a + k ≤ suc (length w) → windows k w ≡ windows k (take (a + k - 1) w) ++ windows k (drop a w)
+  pieces a w g = sym (take-append-drop a (windows k w)) ∙ rw (windows-take a w g, windows-drop a w)
 
   -- What is worked out of the window at j.
   pub window-at : (f : List ℕ → ℕ) (j : ℕ) (w : List ℕ) → j + k ≤ length w → getD (map f (windows k w)) j 0 ≡ f (take k (drop j w))

@@ -1,4 +1,4 @@
--- Demand 3 of the C calls: what they leave and tell is what a list of adds leaves and answers, of which it is proved in the table's crate.
+-- Demand 3 of the C calls: what they leave and tell is what a list of adds leaves and answers, of which it is proved in the crate tally.
 use mathlib.Core.Path.{_≡_, refl, ap₂, _∙_}
 use mathlib.Core.Option.{Option, none, some}
 use mathlib.Core.List.{List, [], _∷_, map, zipWith}

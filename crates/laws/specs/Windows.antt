@@ -1,4 +1,4 @@
--- Document 01, "Sequence file (FASTA)" and "Codes along a sequence": the windows of letters in a row, of which files and sequences are cut.
+-- Document 01, "Sequence file (FASTA)" and "Codes along a sequence": the windows of letters in a row, which are cut from files and sequences.
 use mathlib.Core.Bool.{cond}
 use mathlib.Core.List.{List, [], _∷_}
 use Prim.Native.Nat.{ℕ}

@@ -22,7 +22,7 @@ use Rattle.settings.specs.Grounds.{ofFilling}
 use Rattle.laws.specs.Windows.{windows}
 use Rattle.kernels.specs.Windows.{windowCodes}
 use Rattle.sequence.specs.Sequences.{noCode, allLetters, codeOrNone, sequenceCodes, FillsCodes}
-use Rattle.kernels.proofs.Windows.{length-codes, window-at, batch}
+use Rattle.kernels.proofs.Windows.{length-codes, window-at, pieces}
 
 -- ---- which number stands at which place
 
@@ -60,15 +60,11 @@ no-code letters k m good word l = go (allLetters letters word)
 
 -- ---- pieces
 
--- A run cut into pieces that overlap by k - 1 letters has the same windows, and so the same codes, one piece after the other.
-pub pieces : (k : ℕ) → 1 ≤ k → (a : ℕ) (run : List ℕ) → a + k ≤ suc (length run)
-    → windows k run ≡ windows k (take (a + k - 1) run) ++ windows k (drop a run)
-pieces k some-k a run h = batch k some-k a run h
-
+-- A run cut into pieces that overlap by k - 1 letters has the same windows (`pieces`), and so the same codes, one piece after the other.
 pub pieces-codes : (s : ℕ) (m : Mirror) (k : ℕ) → 1 ≤ k → (a : ℕ) (run : List ℕ) → a + k ≤ suc (length run)
     → windowCodes s m k run ≡ windowCodes s m k (take (a + k - 1) run) ++ windowCodes s m k (drop a run)
 pieces-codes s m k some-k a run h =
-    ap (map (code s m k)) (batch k some-k a run h)
+    ap (map (code s m k)) (pieces k some-k a run h)
     ∙ map-append (code s m k) (windows k (take (a + k - 1) run)) (windows k (drop a run))
 
 -- ---- the two paths agree

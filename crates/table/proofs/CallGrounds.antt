@@ -208,14 +208,14 @@ module _ (letters : List ℕ) (k : ℕ) (file : List ℕ) (n : Numbers) (F : Cle
 
 -- ---- from the table to its counts and back
 
-module _ (letters : List ℕ) (k m : ℕ) (t file : List ℕ) (good : settingsGround letters k m ≡ none) (long : classCount letters k m ≤ length t)
-    (n : Numbers) (F : CleanFile letters k file n) where
+module _ (letters : List ℕ) (k m : ℕ) (t file : List ℕ) (good : settingsGround letters k m ≡ none) (n : Numbers)
+    (F : CleanFile letters k file n) where
   leaves-by : (g : Option Ground) (counts′ : List ℕ)
       → counts′ ≡ unlessRefused g (bumps (take (classCount letters k m) t) (places letters k m file)) (take (classCount letters k m) t)
       → counts′ ++ drop (classCount letters k m) t ≡ unlessRefused g (bumps t (places letters k m file)) t
   leaves-by none counts′ e =
       ap (λ (x : List ℕ). x ++ drop (classCount letters k m) t) e
-      ∙ bumps-front (classCount letters k m) t (places letters k m file) long (places-below letters k m good file)
+      ∙ bumps-front (classCount letters k m) t (places letters k m file) (places-below letters k m good file)
   leaves-by (some g) counts′ e = ap (λ (x : List ℕ). x ++ drop (classCount letters k m) t) e ∙ take-append-drop (classCount letters k m) t
 
   by-classes : (ps : List ℕ) (answer : Outcome Numbers) (counts′ : List ℕ) → ps ≡ places letters k m file

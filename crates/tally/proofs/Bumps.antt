@@ -72,11 +72,10 @@ bumps-append t [] qs = refl
 bumps-append t (p ∷ ps) qs = bumps-append (bump t p) ps qs
 
 -- Counting in the first n places alone, the others put behind them, is counting in all.
-pub bumps-front : (n : ℕ) (t qs : List ℕ) → n ≤ length t → Each (Below n) qs → bumps (take n t) qs ++ drop n t ≡ bumps t qs
+pub bumps-front : (n : ℕ) (t qs : List ℕ) → Each (Below n) qs → bumps (take n t) qs ++ drop n t ≡ bumps t qs
 unfolding bumps bump
-bumps-front n t [] h a = take-append-drop n t
-bumps-front n t (q ∷ qs) h a =
+bumps-front n t [] a = take-append-drop n t
+bumps-front n t (q ∷ qs) a =
     let e : bump (take n t) q ≡ take n (bump t q) = sym (take-set-lt n t q (getD t q 0 + 1) (a .0) ∙ rw (getD-take n t q 0 (a .0))) in
     let d : drop n t ≡ drop n (bump t q) = sym (drop-set-lt n t q (getD t q 0 + 1) (a .0)) in
-    let l : length (bump t q) ≡ length t = length-set t q (getD t q 0 + 1) in
-    ap (λ (x : List ℕ). bumps x qs ++ drop n t) e ∙ ap (λ (x : List ℕ). bumps (take n (bump t q)) qs ++ x) d ∙ bumps-front n (bump t q) qs (omega arith) (a .1)
+    ap (λ (x : List ℕ). bumps x qs ++ drop n t) e ∙ ap (λ (x : List ℕ). bumps (take n (bump t q)) qs ++ x) d ∙ bumps-front n (bump t q) qs (a .1)

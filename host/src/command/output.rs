@@ -62,10 +62,13 @@ fn new_part(path: &Path) -> io::Result<(PathBuf, File)> {
 }
 
 /// Fails where no new file can have this name, so that nobody waits for a result that cannot be written: the
-/// name is there, or is none, or the folder takes no new file, as one shows that is made and removed again.
+/// name is there, or is none or too long, or the folder takes no new file, as one shows that is made and removed
+/// again.
 fn check_new(path: &Path) -> Result<(), Failure> {
-    if path.symlink_metadata().is_ok() {
-        return Err(failed(path, ErrorKind::AlreadyExists.into()));
+    match path.symlink_metadata() {
+        Ok(_) => return Err(failed(path, ErrorKind::AlreadyExists.into())),
+        Err(error) if error.kind() != ErrorKind::NotFound => return Err(failed(path, error)),
+        Err(_) => (),
     }
     // A path that is empty or ends in / or /. has no file's name at its end.
     let whole = path.as_os_str().as_bytes();

@@ -91,7 +91,7 @@ returns c =
     let a = start kernel .args in
     let codes-are = ap (λ (c : Coder). codesBy c (fileWindows (rankByTable (now (a .ranks))) (c .k) (now (a .file)))) (made coder) in
     let places-are = codes-are ∙ places-by-table _ (a .k) (a .mirror) _ (now (a .file)) _ st-is (pre .0) in
-    whole-table _ _ _ _ _ good (pre .1 .1) _ (pre .1 .0) _ _ _ _ (classes-are (start kernel)) places-are (count .count-unless-full .ensures)
+    whole-table _ _ _ _ _ good _ (pre .1 .0) _ _ _ _ (classes-are (start kernel)) places-are (count .count-unless-full .ensures)
 
 pub add-scanned-spec : {M : Type 1} → statement M
 add-scanned-spec =
