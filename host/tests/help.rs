@@ -7,6 +7,7 @@ use std::ffi::{c_char, c_int, CStr};
 use std::fs::File;
 use std::io::Read;
 use std::os::fd::{FromRawFd, OwnedFd};
+use std::path::Path;
 use std::process::{Command, Stdio};
 
 const COMMANDS: [&str; 5] = ["count", "code", "word", "classes", "histogram"];
@@ -155,7 +156,7 @@ fn terminal() -> (File, File) {
 }
 
 /// What a count shows on a terminal.
-fn shown_on_a_terminal(file: &std::path::Path) -> String {
+fn shown_on_a_terminal(file: &Path) -> String {
     let (mut far, near) = terminal();
     let mut command = Command::new(WONTIRJE);
     command.args(["count", "--k", "3"]).arg(file).stdin(Stdio::null()).stdout(Stdio::null()).stderr(near);
@@ -169,21 +170,37 @@ fn shown_on_a_terminal(file: &std::path::Path) -> String {
     String::from_utf8(shown).expect("text")
 }
 
+/// A name as progress shows it: of one above 50 characters the end, so that the line can be wiped.
+fn short_name(file: &Path) -> String {
+    let name: Vec<char> = file.display().to_string().chars().collect();
+    match name.len().checked_sub(50) {
+        Some(cut @ 1..) => format!("…{}", name[cut..].iter().collect::<String>()),
+        _ => name.iter().collect(),
+    }
+}
+
 /// Above 1 MB there is progress, which is wiped before the file's line; below there is none, and none where
 /// standard error is no terminal.
 #[test]
 fn progress_on_a_terminal() {
     let folder = Folder::new();
-    let large = folder.file("large.fa", &[b">a\n", &b"GATTACA\n".repeat(300_000)[..]].concat());
+    let text = [b">a\n", &b"GATTACA\n".repeat(300_000)[..]].concat();
+    let large = folder.file("large.fa", &text);
+    let long = folder.file(&format!("{}.fa", "x".repeat(100)), &text);
     let small = folder.file("small.fa", &[b">a\n", &b"GATTACA\n".repeat(120_000)[..]].concat());
-    let shown = shown_on_a_terminal(&large);
-    let name = large.display();
     let wiped = "\r\x1b[K";
-    let line = format!("{name}: records 1, letters 2100000, foreign 0, edge 2, windows 2099998\r\n");
-    assert!(shown.starts_with(&format!("{wiped}{name}: 1 MB read{wiped}{name}: 2 MB read")), "{shown:?}");
-    assert!(shown.ends_with(&format!("{wiped}{name}: counting 2 MB{wiped}{line}")), "{shown:?}");
+    for file in [&large, &long] {
+        let shown = shown_on_a_terminal(file);
+        let (name, short) = (file.display(), short_name(file));
+        let line = format!("{name}: records 1, letters 2100000, foreign 0, edge 2, windows 2099998\r\n");
+        assert!(
+            shown.starts_with(&format!("{wiped}{short}: 1 MB read{wiped}{short}: 2 MB read")),
+            "{shown:?}"
+        );
+        assert!(shown.ends_with(&format!("{wiped}{short}: counting 2 MB{wiped}{line}")), "{shown:?}");
+    }
     let shown = shown_on_a_terminal(&small);
     assert!(shown.starts_with(&format!("{}: records 1,", small.display())), "{shown:?}");
     let piped = run(&["count".as_ref(), "--no-listing".as_ref(), large.as_os_str()]);
-    assert!(piped.err.starts_with(&format!("{name}: records 1,")), "{}", piped.err);
+    assert!(piped.err.starts_with(&format!("{}: records 1,", large.display())), "{}", piped.err);
 }

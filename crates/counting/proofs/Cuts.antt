@@ -1,4 +1,4 @@
--- A file's windows as the batches take them, `cut`: what each byte does to them, what a pieces takes off, and that all of them are the file's windows.
+-- A file's windows as the batches take them, `cut`: what each byte does to them, what a batch takes off, and that all of them are the file's windows.
 use mathlib.Core.Path.{_≡_, refl, sym, ap, _∙_}
 use Prim.Native.Nat.{ℕ, _+_, _-_, _≤_}
 use native.Mathlib.Omega.{arith}
@@ -49,7 +49,7 @@ cut-item rank k r (Letter b) is = by-rank (rank b)
     by-rank none = refl
     by-rank (some x) = refl
 
--- ---- one pieces
+-- ---- one batch
 
 module _ (k : ℕ) (some-k : 1 ≤ k) where
   -- The windows with one letter more, from the last k - 1 letters on.
@@ -61,7 +61,7 @@ module _ (k : ℕ) (some-k : 1 ≤ k) where
       pieces k some-k (length r + 1 - k) (r ++ (x ∷ [])) (omega arith)
       ∙ rw (a, take-at r (x ∷ []) (length r) refl, drop-append-le (length r + 1 - k) r (x ∷ []) (omega arith))
 
-  -- A pieces of letters r takes off the windows in it; its last k - 1 letters stay for the next.
+  -- A batch of letters r takes off the windows in it; its last k - 1 letters stay for the next.
   pub cut-batch : (ms : List (Option ℕ)) (r : List ℕ) → k ≤ length r + 1 → cut k r ms ≡ windows k r ++ cut k (drop (length r + 1 - k) r) ms
   unfolding cut
   cut-batch [] r h = rw (windows-none k (drop (length r + 1 - k) r) (omega (arith, length-drop (length r + 1 - k) r)), append-nil (windows k r))

@@ -1,6 +1,7 @@
-//! Progress on standard error, for files above 1 MB and only where it is a terminal. It stays in one line and
-//! is wiped before anything else is written.
+//! Progress on standard error, for files above 1 MB and only where it is a terminal. It stays in one line, for
+//! which a long name is cut, and is wiped before anything else is written.
 
+use crate::report;
 use std::io::{self, IsTerminal, Write};
 
 /// Files up to so many bytes are done before a line could be read.
@@ -14,7 +15,7 @@ pub struct Progress {
 
 impl Progress {
     pub fn new(name: &str) -> Progress {
-        Progress { name: name.to_string(), terminal: io::stderr().is_terminal(), shown: false }
+        Progress { name: report::shortened(name), terminal: io::stderr().is_terminal(), shown: false }
     }
 
     fn show(&mut self, text: &str) {

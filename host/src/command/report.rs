@@ -31,6 +31,14 @@ pub fn name(operand: &OsStr) -> String {
     }
 }
 
+/// A name cut at its start, where it is too long for a chart or for a line of a terminal: its last 50 characters.
+pub fn shortened(name: &str) -> String {
+    match name.char_indices().rev().nth(49) {
+        Some((at, _)) if at > 0 => format!("…{}", &name[at..]),
+        _ => name.to_string(),
+    }
+}
+
 /// A file's five numbers.
 pub fn counted(numbers: &Numbers) -> String {
     let Numbers { records, letters, foreign, edge, windows } = numbers;

@@ -1,6 +1,7 @@
 //! The bars as a chart in SVG.
 
 use crate::bars::Bar;
+use crate::report;
 use std::fmt::Write;
 
 /// The picture, and in it the area of the bars.
@@ -14,14 +15,6 @@ const BOTTOM: f64 = 385.0;
 /// Characters that mean something in SVG are written by their names.
 fn escaped(text: &str) -> String {
     text.replace('&', "&amp;").replace('<', "&lt;").replace('>', "&gt;").replace('"', "&quot;")
-}
-
-/// A name cut at its start, where it is too long for the chart.
-fn shortened(name: &str) -> String {
-    match name.char_indices().rev().nth(49) {
-        Some((at, _)) if at > 0 => format!("…{}", &name[at..]),
-        _ => name.to_string(),
-    }
 }
 
 /// A number with commas between its thousands.
@@ -90,7 +83,7 @@ pub fn chart(name: &str, headline: &str, bars: &[Bar]) -> String {
         &mut svg,
         (LEFT, 28.0),
         r#"font-size="16" font-weight="bold""#,
-        &format!("Classes by count: {}", shortened(name)),
+        &format!("Classes by count: {}", report::shortened(name)),
     );
     text(&mut svg, (LEFT, 48.0), r##"fill="#666""##, headline);
     let highest = bars.iter().map(|bar| bar.classes).max().unwrap_or(0).max(1);
