@@ -50,7 +50,7 @@ claims t = (
 )
 
 -- Where the function began, from the place past `class_count`; that the word has two letters or more there; and, where its code is below low, that it is
--- below the codes of equal outer letters.
+-- one of those of words with equal outer letters.
 abbrev Start : ℕ → Type 0
 Start t = fill-word-lts.Start (claims t) (fill-word-at t) fill-word.Post
 
