@@ -81,7 +81,7 @@ pub fn spelled_mixed(random: &mut Random, letters: &[u8], word: &[u8]) -> Vec<u8
     spelling
 }
 
-/// A file of so many bytes: one record of ACGT in lines of 79 letters. It is written piece by piece, so that
+/// A file of so many bytes: one record of ACGT, with a line end at every 80th byte. It is written piece by piece, so that
 /// this process stays small where the memory of others is measured.
 pub fn write_drawn(path: &Path, seed: u64, length: usize) -> io::Result<()> {
     let mut file = BufWriter::new(File::create(path)?);

@@ -15,13 +15,12 @@ use Rattle.settings.specs.declared.Refusal.{Refusal}
 use Rattle.settings.specs.declared.Refusal.the-variants.{BadLetters, BadMirror, OddComplement, BadK, WrongLength, TooLarge, ShortBuffer, NoSuchCode, ForeignByte, StrayByte, EarlyLetter, CountsFull, NoSurveyLine, LongInput}
 use Rattle.settings.specs.Grounds.{Ground, Outcome, refused, groundOf, ground, groundAt, tooShort, outcome, _orElse_, Overwrites}
 use Rattle.settings.specs.Settings.{rankIn, settingsGround}
-use Rattle.settings.proofs.Outcomes.{refused-is, test-fails}
+use Rattle.settings.proofs.Outcomes.{refused-is, test-fails, not-too-large}
 use Rattle.settings.proofs.SettingsGrounds.{good-settings}
 use Rattle.settings.proofs.Places.{Small, test-small, place-small, then-small, room-small, settings-small}
 use Rattle.encoding.specs.Calls.{hereOr, foreignFrom, wrongLength, mirrorGround}
 use Rattle.sequence.specs.Sequences.{sequenceGround}
 use Rattle.tally.specs.Table.{classCount, tooMany, clearGround}
-use Rattle.tally.proofs.Clearing.{not-too-large}
 use Rattle.kmer.specs.Returned.{ReturnsPlaces}
 use Rattle.kmer.specs.Needs.{PlaceFits}
 

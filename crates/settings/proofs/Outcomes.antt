@@ -47,6 +47,10 @@ pub nowhere-met : (n : ℕ) (o : Option ℕ) → groundAt n o ≡ none → o ≡
 nowhere-met n none e = refl
 nowhere-met n (some p) e = absurd (let z : _≡_ {A = ℕ} 0 1 = cc in omega arith)
 
+-- Where ground 6 does not apply to a number, it is at most 16,777,216.
+pub not-too-large : (n : ℕ) → ground 6 (ltb 16777216 n) ≡ none → n ≤ 16777216
+not-too-large n e = ltb-false 16777216 n (test-fails 6 (ltb 16777216 n) e)
+
 -- Where ground 7 does not apply, the buffer has the length needed.
 pub room-enough : (room needed : ℕ) → tooShort room needed ≡ none → needed ≤ room
 room-enough room needed e = go (ltb room needed) refl e

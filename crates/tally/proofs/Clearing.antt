@@ -5,22 +5,16 @@ use Prim.Native.Nat.{ℕ, zero, suc, _≤_}
 use native.Mathlib.Omega.{arith}
 use mathlib.Core.Option.{none}
 use mathlib.Core.List.{List, _++_}
-use lib.Dec.{ltb}
 use lib.ListN.{length, drop, replicate, length-replicate, getD-replicate, length-append, length-drop, List·getD-append}
 use lib.Seq.{drop-at}
-use borrow.Author.Tests.{ltb-false}
 use Rattle.laws.proofs.Buffers.{front-is, front-fits}
 use Rattle.settings.specs.Grounds.{Outcome, ground, groundAt, tooShort, _orElse_}
 use Rattle.settings.specs.Settings.{settingsGround}
-use Rattle.settings.proofs.Outcomes.{first-none, later-none, test-fails, nowhere-met, room-enough}
+use Rattle.settings.proofs.Outcomes.{first-none, later-none, nowhere-met, not-too-large, room-enough}
 use Rattle.tally.specs.Table.{classCount, placeOf, tooMany, clearGround, Clears}
 use Rattle.tally.specs.Book.{clearedBook}
 use Rattle.tally.specs.Demand.{sum, counts, Agrees}
 use Rattle.tally.proofs.Classes.{place-below}
-
--- A number to which ground 6 does not apply.
-pub not-too-large : (n : ℕ) → ground 6 (ltb 16777216 n) ≡ none → n ≤ 16777216
-not-too-large n e = ltb-false 16777216 n (test-fails 6 (ltb 16777216 n) e)
 
 -- ---- where no ground refuses a clearing
 

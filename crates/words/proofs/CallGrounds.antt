@@ -45,6 +45,7 @@ module _ (letters : List ℕ) (k m : ℕ) (passed : settingsGround letters k m �
   unfolding mirrorGround
   mirror-short word room h g = rw (passed, eq-eqb (length word) k h, lt-ltb room k g)
 
+  -- Ground 9 where some byte is no letter, and else none.
   pub mirror-foreign : (word : List ℕ) (room : ℕ) → length word ≡ k → k ≤ room → (at : Option ℕ) → foreignFrom letters 0 word ≡ at
       → mirrorGround letters k m word room ≡ groundAt 9 at
   unfolding mirrorGround
