@@ -1,7 +1,7 @@
 /*
  * words.c: how a C program codes k-mers, reads codes back and handles a refusal, with kmer.h.
- * Prints the starred cases of document 01 (AACTT as the word of code 0), and some refused calls; words.expected
- * has what it must print.
+ * Prints the starred cases of document 01 (AACTT as the word of code 0), those of document 02, K10, and some
+ * refused calls; words.expected has what it must print.
  *
  *   rt staticlib kmer
  *   cc -std=c11 -Iinclude examples/words.c target/staticlib/libkmer.a -o target/words && target/words
@@ -34,7 +34,6 @@ static const char *reason(uint64_t answer)
     switch (kmer_refusal(answer)) {
     case KMER_BAD_LETTERS: return "the letters are not 2 to 16 different capitals";
     case KMER_BAD_MIRROR: return "the mirror is neither 0 nor 1";
-    case KMER_ODD_COMPLEMENT: return "complement needs an even number of letters";
     case KMER_BAD_K: return "k is 0 or too large for the letters";
     case KMER_BAD_LENGTH: return "the word has not k letters";
     case KMER_SHORT_BUFFER: return "the buffer is shorter than k";
@@ -94,6 +93,16 @@ static void some_codes(void)
     print_codes(&(struct settings){"ACGT", 1, KMER_COMPLEMENT}, one, COUNT(one));
 }
 
+/* An odd number of letters: under complement B pairs with itself. */
+static void an_odd_alphabet(void)
+{
+    const char *const one[] = {"B", "A", "C"};
+    const struct settings three = {"ABC", 3, KMER_COMPLEMENT};
+    print_codes(&(struct settings){"ABC", 1, KMER_COMPLEMENT}, one, COUNT(one));
+    print_words(&three, 15);
+    print_word(&three, 15, LONGEST);
+}
+
 static void some_words(void)
 {
     const struct settings longest = {"ACGT", 31, KMER_COMPLEMENT};
@@ -110,8 +119,9 @@ static void some_refusals(void)
 {
     const struct settings five = {"ACGT", 5, KMER_COMPLEMENT};
     const struct settings refused[] = {
-        {"ACGA", 3, KMER_REVERSAL}, {"ACGT", 3, 2},  {"ABC", 3, KMER_COMPLEMENT},
+        {"ACGA", 3, KMER_REVERSAL}, {"ACGT", 3, 2},
         {"ACGT", 0, KMER_REVERSAL}, {"ACGT", 32, KMER_REVERSAL},
+        {"ABC", 40, KMER_COMPLEMENT},
     };
     print_settings(&five);
     print_code(&five, "ACGTNN");
@@ -127,6 +137,7 @@ int main(void)
 {
     some_codes();
     some_words();
+    an_odd_alphabet();
     some_refusals();
     return 0;
 }

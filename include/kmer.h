@@ -12,7 +12,8 @@
  *                         A letter's rank is its place in this list, from 0. s is their number. DNA is ACGT.
  *   k                     the letters in a word: at least 1, and s^k at most 2^62. The largest k is 62
  *                         for two letters, 39 for three, 31 for four, 15 for sixteen.
- *   mirror                KMER_REVERSAL or KMER_COMPLEMENT; the latter needs an even s.
+ *   mirror                KMER_REVERSAL or KMER_COMPLEMENT. Under the latter the letter of rank i pairs with
+ *                         that of rank s - 1 - i, the middle letter of an odd s with itself.
  *
  * Every pointer comes with its length in elements of its type (bytes, 32-bit counts or 64-bit numbers),
  * may be NULL where that length is 0, and must otherwise be aligned for its type and point to as many
@@ -43,11 +44,11 @@ enum kmer_mirrors {
     KMER_COMPLEMENT = 1 /* the word reversed, with s - 1 - i for each rank i: the reverse complement */
 };
 
-/* The grounds for refusing a call, by number. Other numbers are never returned. */
+/* The grounds for refusing a call, by number. Other numbers are never returned, and 3 is reserved. */
 enum kmer_grounds {
     KMER_BAD_LETTERS = 1,    /* letters are not 2 to 16 different capitals */
     KMER_BAD_MIRROR = 2,     /* mirror is neither 0 nor 1 */
-    KMER_ODD_COMPLEMENT = 3, /* reverse complement with an odd number of letters */
+    KMER_ODD_COMPLEMENT = 3, /* reserved, never returned: an odd number of letters may be complemented */
     KMER_BAD_K = 4,          /* k is 0, or s^k is above 2^62 */
     KMER_BAD_LENGTH = 5,     /* word_len is not k */
     KMER_TOO_LARGE = 6,      /* the sequence or file is above 16,777,216 bytes; in table calls also:
@@ -66,7 +67,7 @@ enum kmer_grounds {
  *   word, word_len  the k-mer, k bytes. A small letter counts as its capital. It need not be
  *                   canonical: a word and its mirror have the same code.
  * Returns the code of the word's class, below 2^62, or 2^63 + the number of the first ground that
- * applies of 1, 2, 3, 4, 5, 9. No P is returned. Nothing is written.
+ * applies of 1, 2, 4, 5, 9. No P is returned. Nothing is written.
  */
 uint64_t kmer_code(const uint8_t *letters, size_t letters_len, size_t k, uint64_t mirror,
                    const uint8_t *word, size_t word_len);
@@ -76,7 +77,7 @@ uint64_t kmer_code(const uint8_t *letters, size_t letters_len, size_t k, uint64_
  *   code          a code under the same settings, below the number of classes.
  *   out, out_len  the buffer for the word, at least k bytes. Its first k bytes receive the word, in
  *                 capitals and with no end byte; later bytes keep what they held.
- * Returns k, or 2^63 + the number of the first ground that applies of 1, 2, 3, 4, 7, 8. No P is
+ * Returns k, or 2^63 + the number of the first ground that applies of 1, 2, 4, 7, 8. No P is
  * returned. A refused call writes nothing to out.
  */
 uint64_t kmer_word(const uint8_t *letters, size_t letters_len, size_t k, uint64_t mirror,
@@ -87,7 +88,7 @@ uint64_t kmer_word(const uint8_t *letters, size_t letters_len, size_t k, uint64_
  *   word, word_len  the k-mer, k bytes. A small letter counts as its capital.
  *   out, out_len    the buffer for the mirror, at least k bytes. Its first k bytes receive the mirror,
  *                   in capitals and with no end byte; later bytes keep what they held.
- * Returns k, or 2^63 + P * 256 + the number of the first ground that applies of 1, 2, 3, 4, 5, 7, 9,
+ * Returns k, or 2^63 + P * 256 + the number of the first ground that applies of 1, 2, 4, 5, 7, 9,
  * where P is 0 unless the ground states it: kmer_refusal_p gives it. A refused call writes nothing to
  * out.
  */
@@ -104,7 +105,7 @@ uint64_t kmer_mirror(const uint8_t *letters, size_t letters_len, size_t k, uint6
  *                           window, that is sequence_len - k + 1, or none where the sequence is shorter
  *                           than k. Later places keep what they held.
  * Returns how many places were filled, or 2^63 + P * 256 + the number of the first ground that applies of
- * 1, 2, 3, 4, 6, 7, where P is the length needed for 7, else 0. A refused call writes nothing to codes.
+ * 1, 2, 4, 6, 7, where P is the length needed for 7, else 0. A refused call writes nothing to codes.
  */
 uint64_t kmer_codes(const uint8_t *letters, size_t letters_len, size_t k, uint64_t mirror,
                     const uint8_t *sequence, size_t sequence_len, uint64_t *codes, size_t codes_len);
@@ -122,7 +123,7 @@ uint64_t kmer_codes_two_bit(size_t k, const uint8_t *sequence, size_t sequence_l
  *                     the code q counts at place q. The first places, one a class, are set to 0; later
  *                     places keep what they held.
  * Returns the number of classes, which is the number of places set, or 2^63 + P * 256 + the number of the
- * first ground that applies of 1, 2, 3, 4, 6, 7, where P is the length needed for 7, else 0. A refused call
+ * first ground that applies of 1, 2, 4, 6, 7, where P is the length needed for 7, else 0. A refused call
  * writes nothing to table: call with table NULL and table_len 0 first to learn the length, the refusal's P.
  */
 uint64_t kmer_clear(const uint8_t *letters, size_t letters_len, size_t k, uint64_t mirror,
@@ -135,7 +136,7 @@ uint64_t kmer_clear(const uint8_t *letters, size_t letters_len, size_t k, uint64
  *   answer, answer_len  a list of at least KMER_NUMBERS numbers. Its first five places receive the file's
  *                       records (header lines), letters (foreign ones too), foreign letters, edge letters
  *                       and windows; later places keep what they held.
- * Returns 5, or 2^63 + P * 256 + the number of the first ground that applies of 1, 2, 3, 4, 6, 7 (of the
+ * Returns 5, or 2^63 + P * 256 + the number of the first ground that applies of 1, 2, 4, 6, 7 (of the
  * table, then of answer), 10 or 11 (the earlier byte), 12, where P is the length needed for 7, the offset of
  * the byte for 10 and 11, else 0. A refused call writes nothing to table or answer: no part of a refused
  * file is counted.
@@ -151,7 +152,7 @@ uint64_t kmer_add(const uint8_t *letters, size_t letters_len, size_t k, uint64_t
  *                     listing, each line ending in LF and no end byte after the last; later bytes keep
  *                     what they held.
  * Returns how many bytes were written, or 2^63 + P * 256 + the number of the first ground that applies of
- * 1, 2, 3, 4, 6, 7 (of the table, then of text), where P is the length needed for 7, else 0. A refused call
+ * 1, 2, 4, 6, 7 (of the table, then of text), where P is the length needed for 7, else 0. A refused call
  * writes nothing to text: call with an empty text first to learn the length, which is below 2^31.
  */
 uint64_t kmer_listing(const uint8_t *letters, size_t letters_len, size_t k, uint64_t mirror,

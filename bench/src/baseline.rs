@@ -17,12 +17,13 @@ fn pair_rank(s: u64, l: u64, r: u64) -> u64 {
     l * (2 * s - 3 - l) / 2 + r - 1
 }
 
-/// The number of palindromes of k letters.
+/// The number of palindromes of k letters: their first half, and for odd k a middle letter that is its own mirror.
 fn palindromes(s: u64, complement: bool, k: usize) -> u64 {
-    if complement && k % 2 == 1 {
-        0
-    } else {
-        s.pow(k.div_ceil(2) as u32)
+    let half = s.pow((k / 2) as u32);
+    match (k % 2, complement) {
+        (0, _) => half,
+        (_, false) => half * s,
+        (_, true) => half * (s % 2),
     }
 }
 
@@ -121,7 +122,7 @@ impl General<'_> {
             return closing;
         }
         let x = self.rank(at);
-        let middle = if self.complement { self.s / 2 - 1 - x.min(self.s - 1 - x) } else { x };
+        let middle = if self.complement { (self.s - 1) / 2 - x.min(self.s - 1 - x) } else { x };
         closing + scale * middle
     }
 }

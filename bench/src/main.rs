@@ -95,7 +95,7 @@ fn print_dna() {
 /// The general path for alphabets of other sizes, under both mirrors.
 fn print_alphabets() {
     let capitals: Vec<u8> = (b'A'..=b'P').collect();
-    for (s, k) in [(2, 31), (6, 12), (10, 12), (16, 12)] {
+    for (s, k) in [(2, 31), (5, 13), (6, 12), (10, 12), (16, 12)] {
         let letters = &capitals[..s];
         let sequence = drawn(letters, LETTERS);
         for mirror in [Mirror::Reversal, Mirror::Complement] {

@@ -17,7 +17,7 @@ const REFUSED: u64 = 1 << 63;
 /// ```
 #[derive(Clone, Copy, Debug, PartialEq, Eq)]
 pub struct Refusal {
-    /// The ground, from 1 to 12.
+    /// The ground, from 1 to 12. It is never 3, which is reserved.
     pub number: u64,
     /// The length needed for 7; the place or offset, from 0, for 9, 10 and 11; else 0.
     /// [`crate::Settings::code`] and [`crate::Settings::word`] always give 0.
@@ -35,7 +35,6 @@ impl Refusal {
         match self.number {
             1 => "the letters are not 2 to 16 different capitals",
             2 => "the mirror is neither reversal nor complement",
-            3 => "complement needs an even number of letters",
             4 => "k is 0, or there are more than 2^62 words of k letters",
             5 => "the word has not k letters",
             6 => "more than 16,777,216 bytes, or more than 16,777,216 classes for a table",

@@ -21,7 +21,7 @@ pub const MOST_BYTES: usize = 16_777_216;
 
 impl Settings<'_> {
     /// Writes to place j of `codes` the code of the k bytes from place j of the sequence, or [`NO_CODE`], and
-    /// answers how many places were filled; later places keep what they held. Refused on the grounds 1, 3, 4,
+    /// answers how many places were filled; later places keep what they held. Refused on the grounds 1, 4,
     /// 6 and 7 (the place is the length needed).
     ///
     /// ```

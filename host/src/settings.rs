@@ -12,8 +12,8 @@
 pub enum Mirror {
     /// The word read backwards.
     Reversal = 0,
-    /// The word read backwards with s − 1 − i for each rank i: the reverse complement. The number s of
-    /// letters must be even.
+    /// The word read backwards with s − 1 − i for each rank i: the reverse complement. Where the number s of
+    /// letters is odd, the middle letter pairs with itself.
     Complement = 1,
 }
 

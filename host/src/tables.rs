@@ -28,7 +28,7 @@ pub struct Numbers {
 
 impl Settings<'_> {
     /// How many places a table needs: the number of classes, as clearing an empty table tells it. Refused on
-    /// the grounds 1, 3, 4 and 6 (more than 16,777,216 classes).
+    /// the grounds 1, 4 and 6 (more than 16,777,216 classes).
     ///
     /// ```
     /// use wontirje::Settings;
@@ -43,7 +43,7 @@ impl Settings<'_> {
     }
 
     /// Sets the first places of a table, one for each class, to 0 and answers how many these are; later
-    /// places keep what they held. Refused on the grounds 1, 3, 4, 6 and 7 (the place is the length needed).
+    /// places keep what they held. Refused on the grounds 1, 4, 6 and 7 (the place is the length needed).
     ///
     /// ```
     /// use wontirje::{Refusal, Settings};
@@ -63,7 +63,7 @@ impl Settings<'_> {
     }
 
     /// Adds a sequence file to a table that was cleared with the same settings: 1 for each window at the
-    /// place of its class. Refused on the grounds 1, 3, 4, 6, 7 (the place is the length needed), 10 and 11
+    /// place of its class. Refused on the grounds 1, 4, 6, 7 (the place is the length needed), 10 and 11
     /// (the offset of the byte), and 12; a refused file changes no count.
     ///
     /// ```
@@ -100,7 +100,7 @@ impl Settings<'_> {
     }
 
     /// Writes the listing of a table to the first bytes of `text` and answers how many these are; later bytes
-    /// keep what they held. Refused on the grounds 1, 3, 4, 6 and 7 (of the table, then of the text; the
+    /// keep what they held. Refused on the grounds 1, 4, 6 and 7 (of the table, then of the text; the
     /// place is the length needed). [`Settings::write_listing`] needs no buffer for the whole of it.
     ///
     /// ```

@@ -19,7 +19,7 @@ pub struct Code(pub u64);
 const LONGEST: usize = 62;
 
 impl Settings<'_> {
-    /// The code of a word's class. A small letter counts as its capital. Refused on the grounds 1, 3, 4, 5
+    /// The code of a word's class. A small letter counts as its capital. Refused on the grounds 1, 4, 5
     /// and 9.
     ///
     /// ```
@@ -28,6 +28,14 @@ impl Settings<'_> {
     /// assert_eq!(settings.code(b"AACTT"), Ok(Code(0)));
     /// assert_eq!(settings.code(b"aaGTT"), Ok(Code(0)));
     /// assert_eq!(settings.code(b"AANTT").unwrap_err().number, 9);
+    /// ```
+    ///
+    /// Of an odd number of letters the middle one pairs with itself:
+    ///
+    /// ```
+    /// use wontirje::{Code, Mirror, Settings};
+    /// let settings = Settings { letters: b"ABC", k: 1, mirror: Mirror::Complement };
+    /// assert_eq!((settings.code(b"B"), settings.code(b"A")), (Ok(Code(0)), Ok(Code(1))));
     /// ```
     pub fn code(&self, word: &[u8]) -> Result<Code, Refusal> {
         let (letters, k, mirror) = (self.letters, self.k, self.mirror as u64);
@@ -38,7 +46,7 @@ impl Settings<'_> {
     }
 
     /// Writes the canonical word of a code, in capitals, to the first k bytes of `out` and answers k; later
-    /// bytes keep what they held. Refused on the grounds 1, 3, 4, 7 and 8.
+    /// bytes keep what they held. Refused on the grounds 1, 4, 7 and 8.
     ///
     /// ```
     /// use wontirje::{Code, Settings};
@@ -57,7 +65,7 @@ impl Settings<'_> {
     }
 
     /// Writes the mirror of a word, in capitals, to the first k bytes of `out` and answers k; later bytes
-    /// keep what they held. Refused on the grounds 1, 3, 4, 5, 7 (the place is k) and 9 (the place of the
+    /// keep what they held. Refused on the grounds 1, 4, 5, 7 (the place is k) and 9 (the place of the
     /// byte).
     ///
     /// ```
@@ -78,7 +86,7 @@ impl Settings<'_> {
     }
 
     /// The number of classes. The library has no call for it, but reads exactly the codes below it: the first
-    /// one that it refuses is found by halving. Refused on the grounds 1, 3 and 4.
+    /// one that it refuses is found by halving. Refused on the grounds 1 and 4.
     ///
     /// ```
     /// assert_eq!(wontirje::Settings::dna(31).classes(), Ok(2_305_843_009_213_693_952));

@@ -107,14 +107,14 @@ fn refused_settings() {
              give --letters in capitals, each once, as in --letters ACGT",
         ),
         (
-            &["classes", "--letters", "ACG"],
-            "refused 3: complement needs an even number of letters (letters ACG, k 11, mirror complement); \
-             give --mirror reversal, or one letter more or less",
+            &["classes", "--letters", "A"],
+            "refused 1: the letters are not 2 to 16 different capitals (letters A, k 11, mirror complement); \
+             give --letters in capitals, each once, as in --letters ACGT",
         ),
         (
-            &["classes", "--letters", "ACG", "5", "6"],
-            "refused 3: complement needs an even number of letters (letters ACG, k 11, mirror complement); \
-             give --mirror reversal, or one letter more or less",
+            &["classes", "--letters", "ACGA", "5", "6"],
+            "refused 1: the letters are not 2 to 16 different capitals (letters ACGA, k 11, mirror complement); \
+             give --letters in capitals, each once, as in --letters ACGT",
         ),
         (
             &["classes", "--letters", "AA", "-"],

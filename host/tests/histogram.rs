@@ -182,8 +182,8 @@ fn what_is_no_listing() {
             String::from("line 8: nothing may follow the listing"),
         ),
         (
-            whole.replace("(letters ACGT)", "(letters ACG)"),
-            String::from("line 1: refused 3: complement needs an even number of letters"),
+            whole.replace("(letters ACGT)", "(letters ACGA)"),
+            String::from("line 1: refused 1: the letters are not 2 to 16 different capitals"),
         ),
     ];
     for (text, right) in cases {

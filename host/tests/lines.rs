@@ -71,7 +71,7 @@ fn large_tables() {
 fn refusals_come_before_the_first_byte() {
     let cases: [(&[u8], usize, usize); 6] = [
         (b"ACgT", 2, 10),
-        (b"ACG", 2, 10),
+        (b"ACG", 2, 5),
         (b"ACGT", 0, 10),
         (b"ACGT", 13, 10),
         (b"ACGT", 2, 9),

@@ -95,10 +95,10 @@ fn check(input: &[u8], output: &[u8], compared: &Compared) {
 #[test]
 fn stored_runs() {
     let compared = Compared::default();
-    let cases: Vec<_> = vectors(246).into_iter().chain(cases_by_hand(96)).collect();
+    let cases: Vec<_> = vectors([245, 200]).into_iter().chain(cases_by_hand(103)).collect();
     check_each(&cases, |case| check(&case.input, &case.output, &compared));
     let [counted, file_refused, settings_refused, out_of_reach] = compared.numbers();
-    assert_eq!(counted + file_refused + settings_refused + out_of_reach, 342);
+    assert_eq!(counted + file_refused + settings_refused + out_of_reach, 548);
     assert!(counted > 100 && file_refused > 20 && settings_refused > 20, "{:?}", compared.numbers());
     assert!(out_of_reach < 170, "{:?}", compared.numbers());
 }

@@ -22,6 +22,20 @@ fn codes_and_words_of_document_01() {
     assert_eq!(run_text(&["word", "--k", "31", "2305843009213693951"]), last);
 }
 
+/// The cases of document 02, K10: an odd number of letters under complement.
+#[test]
+fn codes_and_words_of_odd_alphabets() {
+    let run_text = |arguments: &[&str]| run(arguments).text().to_string();
+    assert_eq!(run_text(&["code", "--letters", "ABC", "--k", "1", "B", "A", "C"]), "0\n1\n1\n");
+    let classes = run_text(&["classes", "--letters", "ABC", "1", "3", "39"]);
+    let right = "k 1: 2 classes, table 8 bytes\nk 3: 15 classes, table 60 bytes\n\
+        k 39: 2026277577090618867 classes, too many for a table\n";
+    assert_eq!(classes, right);
+    let run = run_with(&["word", "--letters", "ABC", "--k", "3"], b"0\n1\n2\n3\n14\n15\n");
+    assert_eq!((run.status, run.text()), (1, "ABC\nBBB\nCBA\nAAC\nBCA\n"));
+    assert_eq!(run.complaints(), ["15: refused 8: the code is not below the number of classes, 15"]);
+}
+
 #[test]
 fn sizes_of_tables() {
     let run = run(&["classes", "1", "11", "12", "13", "31", "32", "18446744073709551616", "x"]);

@@ -81,7 +81,7 @@ pub fn class_count(settings: &Settings) -> u128 {
     coder(settings).classes()
 }
 
-/// Grounds 1 to 4, 6 and 7 for a table of so many places; else the number of classes.
+/// Grounds 1, 2, 4, 6 and 7 for a table of so many places; else the number of classes.
 pub fn table_ground(settings: &Settings, long: bool, places: usize) -> Result<usize, Refusal> {
     settings_ground(settings)?;
     let classes = class_count(settings);

@@ -94,13 +94,11 @@ impl Inputs {
         self.with_file(&Values::of(&settings), &file)
     }
 
-    /// Any good size, or one k above the largest, or complement where s is odd: mostly too many classes.
+    /// Any good size, or one with k above the largest: mostly too many classes.
     fn with_any_size(&mut self) -> Vec<u8> {
         let mut settings = self.settings(false);
-        match self.random.below(4) {
-            0 => settings.k = largest_k(settings.letters.len()) + 1 + self.random.below(3) as usize,
-            1 => settings.mirror = 1,
-            _ => (),
+        if self.random.below(4) == 0 {
+            settings.k = largest_k(settings.letters.len()) + 1 + self.random.below(3) as usize;
         }
         let file = drawn_file(&mut self.random, &settings, 60);
         self.with_file(&Values::of(&settings), &file)

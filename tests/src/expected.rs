@@ -1,4 +1,4 @@
-//! What document 01 says that each call answers and leaves in the buffer: the second coder behind a
+//! What documents 01 and 02 say that each call answers and leaves in the buffer: the second coder behind a
 //! plain reference of the grounds for refusing; and the comparisons that the tests make with it.
 
 use crate::calls::{self, REFUSED};
@@ -25,7 +25,7 @@ fn refuse(number: u64) -> Result<(), Refusal> {
     Err(Refusal { number, p: 0 })
 }
 
-/// Grounds 1 to 4, in number order.
+/// Grounds 1, 2 and 4, in number order. "Refusal 3 then never occurs" (document 02, K10).
 pub fn settings_ground(settings: &Settings) -> Result<(), Refusal> {
     let s = settings.letters.len();
     let capitals = settings.letters.iter().all(u8::is_ascii_uppercase);
@@ -37,9 +37,6 @@ pub fn settings_ground(settings: &Settings) -> Result<(), Refusal> {
     }
     if settings.mirror != REVERSAL && settings.mirror != COMPLEMENT {
         return refuse(2);
-    }
-    if settings.mirror == COMPLEMENT && s % 2 == 1 {
-        return refuse(3);
     }
     // With two letters 63 is already too much, so that longer powers need not be worked out.
     if settings.k == 0 || settings.k > 62 || (s as u128).pow(settings.k as u32) > MOST_WORDS {
@@ -79,7 +76,7 @@ pub fn ranks(settings: &Settings, word: &[u8]) -> Result<Vec<u8>, Refusal> {
     }
 }
 
-/// Word coding: grounds 1, 2, 3, 4, 5, 9, else the code.
+/// Word coding: grounds 1, 2, 4, 5, 9, else the code.
 pub fn coding(settings: &Settings, word: &[u8]) -> Result<u64, Refusal> {
     settings_ground(settings)?;
     length_ground(settings, word)?;
@@ -87,7 +84,7 @@ pub fn coding(settings: &Settings, word: &[u8]) -> Result<u64, Refusal> {
     Ok(coder(settings).code(&ranks) as u64)
 }
 
-/// Code reading: grounds 1, 2, 3, 4, 7, 8, else the canonical word.
+/// Code reading: grounds 1, 2, 4, 7, 8, else the canonical word.
 pub fn reading(settings: &Settings, code: u64, room: usize) -> Result<Vec<u8>, Refusal> {
     settings_ground(settings)?;
     room_ground(settings, room)?;
@@ -97,7 +94,7 @@ pub fn reading(settings: &Settings, code: u64, room: usize) -> Result<Vec<u8>, R
     }
 }
 
-/// Mirroring: grounds 1, 2, 3, 4, 5, 7, 9, else the mirror.
+/// Mirroring: grounds 1, 2, 4, 5, 7, 9, else the mirror.
 pub fn mirroring(settings: &Settings, word: &[u8], room: usize) -> Result<Vec<u8>, Refusal> {
     settings_ground(settings)?;
     length_ground(settings, word)?;

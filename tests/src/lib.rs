@@ -1,5 +1,5 @@
 //! What the tests share. The C calls and what is lent to them: `c_calls`, `lent`, `calls`, `sequences`,
-//! `tables`. What document 01 says that they answer, written apart from the library: `second_coder`,
+//! `tables`. What documents 01 and 02 say that they answer, written apart from the library: `second_coder`,
 //! `expected`, `book`. What the tests go over: `settings`, `draw`, `draw_files`, and the stored answers in
 //! `vectors`, `table_vectors`. For the counter program: its runs in `program`, the second counter,
 //! `draw_inputs` and `program_cases`.

@@ -1,5 +1,6 @@
-//! Reads the stored runs of the counter program, vectors/program.txt and program/cases.txt, and the lines of
-//! program/malformed.txt; the heads of these files say how they are written.
+//! Reads the stored runs of the counter program, vectors/program.txt, vectors/k10_program.txt and
+//! program/cases.txt, and the lines of program/malformed.txt; the heads of these files say how they are
+//! written.
 
 use crate::vectors::bytes;
 
@@ -55,9 +56,12 @@ fn cases(text: &'static str, count: usize) -> Vec<Case> {
     found
 }
 
-/// The stored answers of the independent reference implementation.
-pub fn vectors(count: usize) -> Vec<Case> {
-    cases(include_str!("../vectors/program.txt"), count)
+/// The stored answers of independent reference implementations: so many to document 01 alone, then so many to
+/// document 01 with document 02, K10.
+pub fn vectors(counts: [usize; 2]) -> Vec<Case> {
+    let mut found = cases(include_str!("../vectors/program.txt"), counts[0]);
+    found.extend(cases(include_str!("../vectors/k10_program.txt"), counts[1]));
+    found
 }
 
 /// The cases whose outputs were worked out by hand.

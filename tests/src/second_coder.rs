@@ -5,6 +5,10 @@
 //! The corrections of document 01 hold: at a differing middle letter the sum is empty, so nothing is
 //! missing there; palindromes under reversal take the lowest s^c codes.
 //!
+//! For odd alphabets under complement, whose "technicalities are omitted" in the paper, the text of document
+//! 02, K10, is followed: "With odd s the middle rank is then its own mirror, and odd k has palindromes." That
+//! is rank (s - 1)/2, counted from 0.
+//!
 //! Words are lists of ranks. Numbers are u128, in which no value here can overflow.
 
 use std::array;
@@ -21,7 +25,7 @@ pub struct Coder {
 
 impl Coder {
     pub fn new(s: usize, k: usize, complement: bool) -> Coder {
-        assert!((2..=16).contains(&s) && k >= 1 && !(complement && s % 2 == 1));
+        assert!((2..=16).contains(&s) && k >= 1);
         let mut coder = Coder {
             s,
             k,
@@ -60,7 +64,9 @@ impl Coder {
     }
 
     /// The paper's preliminary encoding of a canonical word as k digits, and the place (from 1) of the
-    /// pair of two letters that differs; no place for a palindrome or a differing middle letter.
+    /// pair of two letters that differs; no place for a palindrome or a differing middle letter. The digit
+    /// of a middle letter is its mirror's rank, so that "a self-mirrored middle letter gives its rank as the
+    /// digit" (document 02, K10).
     pub fn digits(&self, word: &[u8]) -> (Vec<u8>, Option<usize>) {
         let half = self.k / 2;
         // The mirror's letter i is what the paper compares with the word's letter i.
@@ -90,7 +96,8 @@ impl Coder {
     }
 
     /// How many smaller digit strings encode no canonical word: the paper's sum over m from
-    /// ceil(k/2) - 1 to k - place - 2, and for odd k under complement half of s^c more.
+    /// ceil(k/2) - 1 to k - place - 2, and for odd k under complement half of s^c more. With odd s "the
+    /// extra subtraction becomes (s - 1)/2 times s^(k/2 rounded down)" (document 02, K10).
     pub fn missing(&self, place: Option<usize>) -> u128 {
         let outer = self.k.div_ceil(2);
         let pairs = (self.s * (self.s - 1) / 2) as u128;
@@ -99,7 +106,10 @@ impl Coder {
             total += (outer - 1..self.k - place - 1).map(|m| self.power(m) * pairs).sum::<u128>();
         }
         if self.complement && self.k % 2 == 1 {
-            total += self.power(outer) / 2;
+            total += match self.s % 2 {
+                0 => self.power(outer) / 2,
+                _ => (self.s as u128 - 1) / 2 * self.power(self.k / 2),
+            };
         }
         total
     }
@@ -139,7 +149,7 @@ impl Coder {
             word[equal + 1..last - equal].copy_from_slice(&digits[equal + 2..self.k - equal]);
         } else if self.k % 2 == 1 {
             word[half] = self.turned(digits[half]);
-            // Under complement the middle letter must be the smaller one of the two.
+            // Under complement the middle letter must be the smaller one of the two, or its own mirror.
             if word[half] > digits[half] {
                 return None;
             }
@@ -167,10 +177,12 @@ impl Coder {
         canonical
     }
 
-    /// The number of classes, by the formulas of document 01.
+    /// The number of classes, by the formulas of document 01, and for odd s under complement by that of
+    /// document 02, K10: "(s^k + s^(k/2 rounded down)) / 2".
     pub fn classes(&self) -> u128 {
-        match (self.complement, self.k % 2) {
-            (true, 1) => self.power(self.k) / 2,
+        match (self.complement, self.s % 2, self.k % 2) {
+            (true, 1, _) => (self.power(self.k) + self.power(self.k / 2)) / 2,
+            (true, _, 1) => self.power(self.k) / 2,
             _ => (self.power(self.k) + self.power(self.k.div_ceil(2))) / 2,
         }
     }
@@ -178,7 +190,7 @@ impl Coder {
 
 #[cfg(test)]
 mod tests {
-    //! The paper's own examples, as document 01 corrects them.
+    //! The paper's own examples, as document 01 corrects them, and the cases of document 02, K10.
     use super::Coder;
 
     #[test]
@@ -214,11 +226,64 @@ mod tests {
         assert_eq!((coder.missing(place), coder.code(&word)), (384, 1571));
     }
 
-    #[test]
-    fn palindromes_under_reversal_take_the_lowest_codes() {
-        let coder = Coder::new(3, 5, false);
+    /// The lowest codes, so many of them, belong to palindromes, and no others do.
+    fn check_palindromes(coder: &Coder, count: usize) {
         let palindrome = |word: &Vec<u8>| *word == coder.mirror(word);
         let order = coder.words_in_order();
-        assert!(order[..27].iter().all(palindrome) && !order[27..].iter().any(palindrome));
+        let lowest = order.iter().take_while(|word| palindrome(word)).count();
+        let all = order.iter().filter(|word| palindrome(word)).count();
+        assert_eq!((lowest, all), (count, count), "s {} k {}", coder.s, coder.k);
+    }
+
+    #[test]
+    fn palindromes_under_reversal_take_the_lowest_codes() {
+        check_palindromes(&Coder::new(3, 5, false), 27);
+    }
+
+    /// s^(k/2 rounded down) of them, save that even s and odd k have none.
+    #[test]
+    fn palindromes_under_complement_take_the_lowest_codes() {
+        let odd = [(3, 1, 1), (3, 5, 9), (3, 6, 27), (5, 3, 5), (5, 4, 25), (7, 3, 7), (15, 2, 15)];
+        let even = [(2, 6, 8), (4, 4, 16), (2, 7, 0), (4, 1, 0), (4, 5, 0), (6, 3, 0)];
+        for (s, k, count) in odd.into_iter().chain(even) {
+            check_palindromes(&Coder::new(s, k, true), count);
+        }
+    }
+
+    /// The codes are the places in the order of the digit strings, which needs neither `missing` nor the
+    /// number of classes; the next code has no word.
+    fn check_order(coder: &Coder) {
+        let size = format!("s {} k {}", coder.s, coder.k);
+        let order = coder.words_in_order();
+        for (code, word) in (0..).zip(&order) {
+            assert_eq!(coder.code(word), code, "{size}: {word:?}");
+            assert_eq!(coder.code(&coder.mirror(word)), code, "{size}: the mirror of {word:?}");
+            assert_eq!(coder.word(code).as_ref(), Some(word), "{size}: code {code}");
+        }
+        let next = order.len() as u128;
+        assert_eq!((coder.classes(), coder.word(next)), (next, None), "{size}");
+    }
+
+    #[test]
+    fn abc_under_complement() {
+        let coder = Coder::new(3, 1, true);
+        assert_eq!(coder.words_in_order(), [[1], [0]]);
+        assert_eq!([0, 1, 2].map(|rank| coder.code(&[rank])), [1, 0, 1]);
+        check_order(&coder);
+        let coder = Coder::new(3, 3, true);
+        let lowest = [[0, 1, 2], [1, 1, 1], [2, 1, 0], [0, 0, 2], [1, 0, 1], [2, 0, 0], [0, 0, 1]];
+        assert_eq!(coder.words_in_order()[..7], lowest);
+        assert_eq!((coder.missing(None), coder.missing(Some(1)), coder.classes()), (3, 3, 15));
+        check_order(&coder);
+    }
+
+    /// "Codes must fill their range for odd s as for even s": the second coder by itself, up to 20,000 words.
+    #[test]
+    fn codes_fill_their_range_under_complement() {
+        for s in 2..=16usize {
+            for k in (1..).take_while(|&k| s.pow(k) <= 20_000) {
+                check_order(&Coder::new(s, k as usize, true));
+            }
+        }
     }
 }

@@ -55,7 +55,7 @@ pub fn window_count(settings: &Settings, sequence: &[u8]) -> usize {
     (sequence.len() + 1).saturating_sub(settings.k)
 }
 
-/// Grounds 1 to 4, 6, 7, else nothing.
+/// Grounds 1, 2, 4, 6, 7, else nothing.
 pub fn sequence_ground(settings: &Settings, sequence: &[u8], room: usize) -> Result<(), Refusal> {
     settings_ground(settings)?;
     if sequence.len() > MOST_BYTES {
@@ -85,12 +85,16 @@ fn check(what: &str, (answer, left): (u64, Vec<u64>), expected: &Result<Vec<u64>
     check_places(what, &left, &list);
 }
 
+/// Compares both paths, where there are two, with an expectation.
+pub fn check_codes(settings: &Settings, sequence: &[u8], room: usize, expected: &Result<Vec<u64>, Refusal>) {
+    let what = |path: &str| format!("{settings}: {path} along {} with room {room}", shown(sequence));
+    check(&what("kmer_codes"), codes(settings, sequence, room), expected);
+    if settings.letters == b"ACGT" && settings.mirror == COMPLEMENT {
+        check(&what("kmer_codes_two_bit"), codes_two_bit(settings.k, sequence, room), expected);
+    }
+}
+
 /// Both paths, where there are two, beside the second coder.
 pub fn check_along(settings: &Settings, sequence: &[u8], room: usize) {
-    let expected = along(settings, sequence, room);
-    let what = |path: &str| format!("{settings}: {path} along {} with room {room}", shown(sequence));
-    check(&what("kmer_codes"), codes(settings, sequence, room), &expected);
-    if settings.letters == b"ACGT" && settings.mirror == COMPLEMENT {
-        check(&what("kmer_codes_two_bit"), codes_two_bit(settings.k, sequence, room), &expected);
-    }
+    check_codes(settings, sequence, room, &along(settings, sequence, room));
 }

@@ -54,14 +54,12 @@ pub fn largest_k(s: usize) -> usize {
     k as usize
 }
 
-/// Every (s, mirror, k) that no ground refuses.
+/// Every (s, mirror, k) that no ground refuses: both mirrors for odd s too (document 02, K10).
 pub fn good_sizes() -> Vec<(usize, u64, usize)> {
     let mut sizes = Vec::new();
     for s in 2..=16 {
         for mirror in [REVERSAL, COMPLEMENT] {
-            if mirror == REVERSAL || s % 2 == 0 {
-                sizes.extend((1..=largest_k(s)).map(|k| (s, mirror, k)));
-            }
+            sizes.extend((1..=largest_k(s)).map(|k| (s, mirror, k)));
         }
     }
     sizes

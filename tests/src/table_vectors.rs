@@ -1,28 +1,23 @@
-//! Reads vectors/tables.txt, the stored answers of an independent reference implementation for clearing and
-//! adding; the head of that file says what its columns are.
+//! Reads the stored answers of independent reference implementations for clearing and adding:
+//! vectors/tables.txt, those to document 01 alone, and vectors/k10_tables.txt, those to document 01 with
+//! document 02, K10; the heads of these files say what their columns are.
 
 use crate::expected::Refusal;
 use crate::settings::Settings;
-use crate::vectors::{bytes, rows};
+use crate::vectors::{bytes, number, places, rows, StoredFile};
+
+const TABLES: StoredFile = ("tables.txt", include_str!("../vectors/tables.txt"));
+const K10_TABLES: StoredFile = ("k10_tables.txt", include_str!("../vectors/k10_tables.txt"));
 
 /// A stored call.
 pub struct Stored {
-    pub line: usize,
+    /// The file and the line in it.
+    pub line: String,
     pub settings: Settings,
     pub file: Vec<u8>,
     pub table: Vec<u32>,
     pub outcome: Result<Vec<u64>, Refusal>,
     pub after: Vec<u32>,
-}
-
-fn number<T: std::str::FromStr>(text: &str) -> T {
-    text.parse().unwrap_or_else(|_| panic!("{text} is no number of its column"))
-}
-
-fn stored_places(text: &str) -> Vec<u32> {
-    let parts = text.split(',').filter(|part| *part != "-");
-    let pairs = parts.map(|part| part.split_once('*').unwrap_or((part, "1")));
-    pairs.flat_map(|(value, times)| vec![number(value); number(times)]).collect()
 }
 
 fn stored_outcome(text: &str) -> Result<Vec<u64>, Refusal> {
@@ -32,16 +27,17 @@ fn stored_outcome(text: &str) -> Result<Vec<u64>, Refusal> {
     }
 }
 
-/// The stored calls of one kind; how many is asked for, so that a cut file does not pass.
-pub fn stored(call: &str, count: usize) -> Vec<Stored> {
-    let rows = rows(include_str!("../vectors/tables.txt"), call, count);
-    let parsed = rows.iter().map(|(line, columns)| Stored {
-        line: *line,
+/// The stored calls of one kind: so many of tables.txt, then so many of k10_tables.txt, so that a cut file
+/// does not pass.
+pub fn stored(call: &str, counts: [usize; 2]) -> Vec<Stored> {
+    let rows = [rows(TABLES, call, counts[0]), rows(K10_TABLES, call, counts[1])].concat();
+    let parsed = rows.into_iter().map(|(line, columns)| Stored {
+        line,
         settings: Settings::new(&bytes(columns[1]), number(columns[2]), number(columns[3])),
         file: bytes(columns[4]),
-        table: stored_places(columns[5]),
+        table: places(columns[5]),
         outcome: stored_outcome(columns[6]),
-        after: stored_places(columns[7]),
+        after: places(columns[7]),
     });
     parsed.collect()
 }

@@ -1,8 +1,9 @@
-//! The table calls as safe functions that lend copies between guards, their comparison with the tally book,
-//! and what the tests of tables begin with: sizes, cleared and drawn tables, files of one record.
+//! The table calls as safe functions that lend copies between guards, the comparison of clearing and adding
+//! with the tally book, and what the tests of tables begin with: sizes, cleared and drawn tables, files of
+//! one record.
 
 use crate::book::{class_count, table_ground, Book, Numbers};
-use crate::c_calls::{kmer_add, kmer_clear};
+use crate::c_calls::{kmer_add, kmer_clear, kmer_listing};
 use crate::draw::{first_capitals, Random};
 use crate::expected::Refusal;
 use crate::lent::{check_places, Lent};
@@ -38,6 +39,24 @@ pub fn add(settings: &Settings, table: &mut Table, file: &[u8], numbers: &mut Le
     table.check_guards(settings, "table");
     numbers.check_guards(settings, "answer list");
     answer
+}
+
+/// Lists a table into a filled buffer of `room` bytes: the answer of kmer_listing and the buffer after it.
+pub fn listed(settings: &Settings, table: &[u32], room: usize) -> (u64, Vec<u8>) {
+    let mut letters = Lent::new(&settings.letters);
+    let mut lent = Lent::new(table);
+    let mut text = Lent::<u8>::filled(room);
+    // SAFETY: each pointer is NULL with length 0 or points to as many places as the length says; the text is
+    // an allocation of its own.
+    let answer = unsafe {
+        let (k, mirror, from, to) = (settings.k, settings.mirror, lent.pointer(), text.pointer());
+        kmer_listing(letters.pointer(), letters.len(), k, mirror, from, table.len(), to, room)
+    };
+    letters.check_unchanged(settings, "letters", &settings.letters);
+    lent.check_guards(settings, "table");
+    check_places(&format!("{settings}: kmer_listing"), lent.slice(), table);
+    text.check_guards(settings, "text");
+    (answer, text.slice().to_vec())
 }
 
 /// Clears a table and compares the answer and every place; later places and those of a refused call keep

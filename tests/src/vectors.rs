@@ -1,19 +1,30 @@
-//! Reads vectors/words.txt, the stored answers of an independent reference implementation; the head of
-//! that file says what its columns are. Holds the second coder and its grounds against them.
+//! Reads the stored answers of independent reference implementations: vectors/words.txt, those to document 01
+//! alone, and vectors/k10_calls.txt, those to document 01 with document 02, K10; the heads of these files say
+//! what their columns are. Holds the second coder and its grounds against them.
 
 use crate::expected::Refusal;
 use crate::settings::Settings;
+use std::fmt::Debug;
+use std::str::FromStr;
 
-/// What a vector's buffer held before the call.
-const BEFORE: u8 = 0x23;
+/// What a vector's byte buffer held before the call, and what a list of codes held.
+const BYTE_BEFORE: u8 = 0x23;
+const CODE_BEFORE: u64 = 9;
+
+/// The name of a file of stored calls, and its text.
+pub type StoredFile = (&'static str, &'static str);
+
+const WORDS: StoredFile = ("words.txt", include_str!("../vectors/words.txt"));
+const K10_CALLS: StoredFile = ("k10_calls.txt", include_str!("../vectors/k10_calls.txt"));
 
 pub struct Vector {
-    pub line: usize,
+    /// The file and the line in it.
+    pub line: String,
     pub settings: Settings,
     pub given: &'static str,
     pub room: usize,
     outcome: &'static str,
-    after: Vec<u8>,
+    after: &'static str,
 }
 
 pub fn bytes(hex: &str) -> Vec<u8> {
@@ -25,34 +36,43 @@ pub fn bytes(hex: &str) -> Vec<u8> {
     digits.chunks(2).map(|two| two[0] * 16 + two[1]).collect()
 }
 
-/// The numbers and columns of one call's lines; how many there are is asked for, so that a cut file does not
-/// pass.
-pub fn rows(text: &'static str, call: &str, count: usize) -> Vec<(usize, Vec<&'static str>)> {
+pub fn number<T: FromStr>(text: &str) -> T {
+    text.parse().unwrap_or_else(|_| panic!("{text} is no number of its column"))
+}
+
+/// The places of a list: numbers parted by commas, VALUE*TIMES where one stands in several places in a row.
+pub fn places<T: FromStr + Clone>(text: &str) -> Vec<T> {
+    let parts = text.split(',').filter(|part| *part != "-");
+    let pairs = parts.map(|part| part.split_once('*').unwrap_or((part, "1")));
+    pairs.flat_map(|(value, times)| vec![number(value); number(times)]).collect()
+}
+
+/// Where one call's lines stand, and their columns; how many there are is asked for, so that a cut file does
+/// not pass.
+pub fn rows((name, text): StoredFile, call: &str, count: usize) -> Vec<(String, Vec<&'static str>)> {
     let lines = text.lines().enumerate();
-    let split = lines.map(|(place, line)| (place + 1, line.split(' ').collect::<Vec<&str>>()));
-    let found: Vec<(usize, Vec<&str>)> = split.filter(|(_, columns)| columns[0] == call).collect();
-    assert_eq!(found.len(), count, "lines for {call}");
+    let split = lines.map(|(line, columns)| (line + 1, columns.split(' ').collect::<Vec<&str>>()));
+    let calls = split.filter(|(_, columns)| columns[0] == call);
+    let found: Vec<_> = calls.map(|(line, columns)| (format!("{name}, line {line}"), columns)).collect();
+    assert_eq!(found.len(), count, "{name}: lines for {call}");
     found
 }
 
-/// The stored calls of one kind.
-pub fn vectors(call: &str, count: usize) -> Vec<Vector> {
-    let rows = rows(include_str!("../vectors/words.txt"), call, count);
-    rows.iter().map(|(line, columns)| parsed(*line, columns)).collect()
+/// The stored calls of one kind: so many of words.txt, then so many of k10_calls.txt.
+pub fn vectors(call: &str, counts: [usize; 2]) -> Vec<Vector> {
+    let rows = [rows(WORDS, call, counts[0]), rows(K10_CALLS, call, counts[1])].concat();
+    rows.into_iter().map(parsed).collect()
 }
 
-fn parsed(line: usize, columns: &[&'static str]) -> Vector {
-    assert_eq!(columns.len(), 8, "line {line}: columns");
-    let k = columns[2].parse().expect("k");
-    let mirror = columns[3].parse().expect("mirror");
-    let room = if columns[5] == "-" { 0 } else { columns[5].parse().expect("room") };
+fn parsed((line, columns): (String, Vec<&'static str>)) -> Vector {
+    assert_eq!(columns.len(), 8, "{line}: columns");
     Vector {
-        line,
-        settings: Settings::new(&bytes(columns[1]), k, mirror),
+        settings: Settings::new(&bytes(columns[1]), number(columns[2]), number(columns[3])),
         given: columns[4],
-        room,
+        room: if columns[5] == "-" { 0 } else { number(columns[5]) },
         outcome: columns[6],
-        after: bytes(columns[7]),
+        after: columns[7],
+        line,
     }
 }
 
@@ -61,10 +81,10 @@ impl Vector {
     fn stored(&self) -> Result<u64, (u64, Option<u64>)> {
         let parts: Vec<&str> = self.outcome.split('/').collect();
         match parts[..] {
-            [answer] => Ok(answer.parse().expect("answer")),
-            ["refused", number, "-"] => Err((number.parse().expect("number"), None)),
-            ["refused", number, p] => Err((number.parse().expect("number"), Some(p.parse().expect("P")))),
-            _ => panic!("line {}: outcome {}", self.line, self.outcome),
+            [answer] => Ok(number(answer)),
+            ["refused", ground, "-"] => Err((number(ground), None)),
+            ["refused", ground, p] => Err((number(ground), Some(number(p)))),
+            _ => panic!("{}: outcome {}", self.line, self.outcome),
         }
     }
 
@@ -73,38 +93,55 @@ impl Vector {
         self.stored().map_err(|(number, p)| Refusal { number, p: p.unwrap_or(0) })
     }
 
-    /// The stored bytes of a reading or mirroring, or its refusal.
+    /// The stored bytes of a reading, a mirroring or a listing, or its refusal.
     pub fn stored_bytes(&self) -> Result<Vec<u8>, Refusal> {
-        self.stored_code().map(|k| self.after[..k as usize].to_vec())
+        self.stored_code().map(|length| bytes(self.after)[..length as usize].to_vec())
+    }
+
+    /// The stored codes along a sequence, or the refusal.
+    pub fn stored_codes(&self) -> Result<Vec<u64>, Refusal> {
+        self.stored_code().map(|length| places(self.after)[..length as usize].to_vec())
     }
 
     /// The second coder codes as stored, with the stored P where there is one.
     pub fn check_second_code(&self, found: Result<u64, Refusal>) {
         match found {
-            Ok(code) => assert_eq!(self.stored(), Ok(code), "line {}: {}", self.line, self.settings),
+            Ok(code) => assert_eq!(self.stored(), Ok(code), "{}: {}", self.line, self.settings),
             Err(refusal) => self.check_second_refusal(refusal),
         }
     }
 
-    /// The second coder writes as stored, buffer included, with the stored P where there is one.
+    /// The reference writes as stored, buffer included, with the stored P where there is one.
     pub fn check_second_bytes(&self, found: Result<Vec<u8>, Refusal>) {
-        let mut buffer = vec![BEFORE; self.room];
+        self.check_second(found, BYTE_BEFORE, bytes(self.after));
+    }
+
+    /// The same for the codes along a sequence.
+    pub fn check_second_codes(&self, found: Result<Vec<u64>, Refusal>) {
+        self.check_second(found, CODE_BEFORE, places(self.after));
+    }
+
+    fn check_second<T>(&self, found: Result<Vec<T>, Refusal>, before: T, after: Vec<T>)
+    where
+        T: Copy + Debug + PartialEq,
+    {
+        let mut buffer = vec![before; self.room];
         match found {
-            Ok(bytes) => {
-                assert_eq!(self.stored(), Ok(bytes.len() as u64), "line {}: {}", self.line, self.settings);
-                buffer[..bytes.len()].copy_from_slice(&bytes);
+            Ok(written) => {
+                assert_eq!(self.stored(), Ok(written.len() as u64), "{}: {}", self.line, self.settings);
+                buffer[..written.len()].copy_from_slice(&written);
             }
             Err(refusal) => self.check_second_refusal(refusal),
         }
-        assert_eq!(self.after, buffer, "line {}: {}", self.line, self.settings);
+        assert_eq!(after, buffer, "{}: {}", self.line, self.settings);
     }
 
     fn check_second_refusal(&self, found: Refusal) {
         match self.stored() {
-            Ok(answer) => panic!("line {}: {}: {found:?}, stored {answer}", self.line, self.settings),
+            Ok(answer) => panic!("{}: {}: {found:?}, stored {answer}", self.line, self.settings),
             Err((number, p)) => {
                 let stored = Refusal { number, p: p.unwrap_or(found.p) };
-                assert_eq!(found, stored, "line {}: {}", self.line, self.settings);
+                assert_eq!(found, stored, "{}: {}", self.line, self.settings);
             }
         }
     }

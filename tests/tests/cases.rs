@@ -1,4 +1,4 @@
-//! The cases of document 01 that concern words, with its own numbers and no second coder.
+//! The cases of documents 01 and 02 that concern words, with their own numbers and no second coder.
 
 use kmer_tests::calls;
 use kmer_tests::calls::REFUSED;
@@ -75,6 +75,44 @@ fn acgt_complement_k_31_ends_with_g_29_t_a() {
     assert_eq!(code("ACGT", 31, COMPLEMENT, &expected), last);
     let settings = Settings::new(b"ACGT", 31, COMPLEMENT);
     assert_eq!(calls::word(&settings, last + 1, 40), (REFUSED + 8, filled(40)));
+}
+
+/// Document 02, K10: B is its own mirror.
+#[test]
+fn abc_complement_k_1() {
+    for (letter, expected) in [("B", 0), ("A", 1), ("C", 1), ("b", 0), ("a", 1), ("c", 1)] {
+        assert_eq!(code("ABC", 1, COMPLEMENT, letter), expected, "{letter}");
+    }
+    check_all("ABC", 1, COMPLEMENT, "B A");
+}
+
+/// Document 02, K10: the palindromes x B y come first, then x A y with the same x and y, all with the digits
+/// 0, r of the middle letter, r of y; then the pairs A B, A A and B A with any letter between, from 1 0 0 on.
+#[test]
+fn abc_complement_k_3() {
+    check_all("ABC", 3, COMPLEMENT, "ABC BBB CBA AAC BAB CAA AAB ABB ACB AAA ABA ACA BAA BBA BCA");
+    assert_eq!(code("ABC", 3, COMPLEMENT, "CCC"), 9);
+    assert_eq!(code("ABC", 3, COMPLEMENT, "cab"), 14);
+}
+
+/// Document 02, K10, with its number of classes, (s^k + s^(k/2 rounded down)) / 2: the highest code has the
+/// highest pair at its ends, the last letter but one with the first, and the last letter between.
+#[test]
+fn the_largest_k_for_odd_s_under_complement() {
+    for (s, k) in [(3, 39), (5, 26), (7, 22), (9, 19), (11, 17), (13, 16), (15, 15)] {
+        let letters = first_capitals(s);
+        let settings = Settings::new(&letters, k, COMPLEMENT);
+        let power = |exponent: usize| (s as u64).pow(exponent as u32);
+        let last = (power(k) + power(k / 2)) / 2 - 1;
+        let between = vec![letters[s - 1]; k - 2];
+        let highest = [&[letters[s - 2]], &between[..], &[letters[0]]].concat();
+        assert_eq!(calls::code(&settings, &highest), last, "{settings}");
+        assert_eq!(calls::word(&settings, last, k), (k as u64, highest), "{settings}: code {last}");
+        assert_eq!(calls::word(&settings, last + 1, k), (REFUSED + 8, filled(k)), "{settings}: the next");
+        let above = Settings::new(&letters, k + 1, COMPLEMENT);
+        assert_eq!(calls::code(&above, &vec![letters[0]; k + 1]), REFUSED + 4, "{above}");
+        assert_eq!(calls::word(&above, 0, k + 1), (REFUSED + 4, filled(k + 1)), "{above}");
+    }
 }
 
 #[test]

@@ -145,7 +145,6 @@ fn what_must_be_believed_is_counted() {
     let (tied, rest) = rest.split_once(" What functions below the").expect("and what stands apart");
     let (believed, sum) = counted_files(list);
     assert!(list.contains(&format!(": {sum} in all.")), "the list adds up to {sum}");
-    assert!(sum <= 700, "{sum} lines must be believed");
     let (tied_files, sum) = counted_files(tied);
     assert!(tied.starts_with(&format!("{sum} lines, ")), "the two files have {sum} lines");
     let mut sum = 0;

@@ -3,7 +3,6 @@
 //! Bytes after the listing, the table, and all of a refused call's buffer must stay as they were.
 
 use kmer_tests::book::{class_count, table_ground};
-use kmer_tests::c_calls::kmer_listing;
 use kmer_tests::draw::*;
 use kmer_tests::draw_inputs::Inputs;
 use kmer_tests::expected::{coder, Refusal};
@@ -11,27 +10,10 @@ use kmer_tests::lent::{check_places, filled, Lent};
 use kmer_tests::second_counter::{answer, first_line, listing};
 use kmer_tests::sequences::two_bit_settings;
 use kmer_tests::settings::*;
-use kmer_tests::tables::{add, cleared, drawn_table, sizes_up_to};
+use kmer_tests::tables::{add, cleared, drawn_table, listed, sizes_up_to};
+use kmer_tests::vectors::{places, vectors};
 
-/// Lists a table into a filled buffer of `room` bytes: the answer of kmer_listing and the buffer after it.
-fn listed(settings: &Settings, table: &[u32], room: usize) -> (u64, Vec<u8>) {
-    let mut letters = Lent::new(&settings.letters);
-    let mut lent = Lent::new(table);
-    let mut text = Lent::<u8>::filled(room);
-    // SAFETY: each pointer is NULL with length 0 or points to as many places as the length says; the text is
-    // an allocation of its own.
-    let answer = unsafe {
-        let (k, mirror, from, to) = (settings.k, settings.mirror, lent.pointer(), text.pointer());
-        kmer_listing(letters.pointer(), letters.len(), k, mirror, from, table.len(), to, room)
-    };
-    letters.check_unchanged(settings, "letters", &settings.letters);
-    lent.check_guards(settings, "table");
-    check_places(&format!("{settings}: kmer_listing"), lent.slice(), table);
-    text.check_guards(settings, "text");
-    (answer, text.slice().to_vec())
-}
-
-/// Grounds 1 to 4, 6 and 7 of the table, then 7 of the text; else the listing.
+/// Grounds 1, 2, 4, 6 and 7 of the table, then 7 of the text; else the listing.
 fn expected(settings: &Settings, table: &[u32], room: usize) -> Result<Vec<u8>, Refusal> {
     let classes = table_ground(settings, false, table.len())?;
     let coder = coder(settings);
@@ -100,6 +82,16 @@ fn counts_of_all_lengths() {
     for digits in 0..10 {
         let count = 10u32.pow(digits);
         check_rooms(&settings, &[count - 1, count, 0, 0, count / 10 * 9, count.saturating_mul(9)]);
+    }
+}
+
+/// The stored answers of an independent reference, held against the call and the second counter's listing.
+#[test]
+fn stored_listings() {
+    for vector in vectors("listing", [0, 17]) {
+        let table: Vec<u32> = places(vector.given);
+        check_right(&vector.settings, &table, vector.room, &vector.stored_bytes());
+        vector.check_second_bytes(expected(&vector.settings, &table, vector.room));
     }
 }
 
@@ -200,17 +192,19 @@ type Faulty<'a> = (&'a [u8], usize, u64, usize, usize, (u64, u64));
 /// no reference. An empty listing of ACGT, k 2 has 50 bytes for the survey line and 10 for the total.
 #[test]
 fn grounds_go_in_number_order() {
-    let cases: [Faulty; 14] = [
+    let cases: [Faulty; 16] = [
         (b"AcG", 0, 2, 0, 0, (1, 0)),
         (b"", 2, 1, 10, 90, (1, 0)),
         (b"ACG", 0, 2, 0, 0, (2, 0)),
         (b"ACGT", 2, u64::MAX, 10, 90, (2, 0)),
-        (b"ACG", 0, 1, 0, 0, (3, 0)),
+        (b"ACG", 0, 1, 0, 0, (4, 0)),
         (b"ACGT", 0, 1, 0, 0, (4, 0)),
         (b"ACGT", 32, 1, 0, 0, (4, 0)),
         (b"ACGT", usize::MAX, 1, 10, 90, (4, 0)),
+        (b"ACG", 16, 1, 0, 0, (6, 0)),
         (b"ACGT", 31, 1, 0, 0, (6, 0)),
         (b"ACGT", 13, 1, 10, 90, (6, 0)),
+        (b"ACG", 3, 1, 14, 0, (7, 15)),
         (b"ACGT", 2, 1, 9, 0, (7, 10)),
         (b"ACGT", 2, 1, 0, 90, (7, 10)),
         (b"ACGT", 2, 1, 10, 59, (7, 60)),

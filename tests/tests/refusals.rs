@@ -1,11 +1,14 @@
 //! The grounds for refusing, through word coding, code reading and mirroring: each ground alone, their order
-//! where several apply, and no byte changed (which the calls themselves check for what they lend).
+//! where several apply, and no byte changed (which the calls themselves check for what they lend). And that
+//! no call of the library answers 3.
 
 use kmer_tests::calls::{self, REFUSED};
 use kmer_tests::draw::*;
 use kmer_tests::expected::*;
-use kmer_tests::lent::filled;
+use kmer_tests::lent::{filled, Lent};
+use kmer_tests::sequences::{codes, codes_two_bit};
 use kmer_tests::settings::*;
+use kmer_tests::tables::{add, clear, listed, record, Table};
 
 const MEGABYTE: usize = 1 << 20;
 
@@ -77,11 +80,55 @@ fn mirrors_other_than_0_and_1_are_refused_2() {
     }
 }
 
+/// Document 02, K10: odd s is no ground by itself. Code 0 is a palindrome of the first letters, for odd k the
+/// letter that is its own mirror, and the last letters.
 #[test]
-fn complement_with_odd_s_is_refused_3() {
+fn complement_with_odd_s_is_answered() {
     for s in (3..=15).step_by(2) {
-        for k in (0..=largest_k(s) + 1).chain([1 << 32, usize::MAX]) {
-            check_refused(&Settings::new(&first_capitals(s), k, COMPLEMENT), 3);
+        let letters = first_capitals(s);
+        for k in 1..=largest_k(s) {
+            let settings = Settings::new(&letters, k, COMPLEMENT);
+            let (first, last) = (vec![letters[0]; k / 2], vec![letters[s - 1]; k / 2]);
+            let palindrome = [&first[..], &vec![letters[s / 2]; k % 2], &last].concat();
+            assert_eq!(calls::code(&settings, &palindrome), 0, "{settings}: kmer_code");
+            let right = (k as u64, palindrome.clone());
+            assert_eq!(calls::word(&settings, 0, k), right, "{settings}: kmer_word");
+            assert_eq!(calls::mirror(&settings, &palindrome, k), right, "{settings}: kmer_mirror");
+        }
+    }
+}
+
+/// What each call answers: words and sequences of letters A, and buffers and tables of so many places.
+fn answers(settings: &Settings, places: usize) -> [u64; 8] {
+    let letters = vec![b'A'; settings.k.min(70)];
+    let mut table = Table::filled(places);
+    [
+        calls::code(settings, &letters),
+        calls::word(settings, 0, places).0,
+        calls::mirror(settings, &letters, places).0,
+        codes(settings, &letters, places).0,
+        codes_two_bit(settings.k, &letters, places).0,
+        clear(settings, &mut table),
+        add(settings, &mut table, &record(&letters), &mut Lent::filled(places)),
+        listed(settings, table.slice(), places).0,
+    ]
+}
+
+/// Document 02, K10: "Refusal 3 then never occurs." Good and bad settings, and every k up to one above the
+/// largest for odd s under complement, which document 01 alone refuses 3.
+#[test]
+fn no_call_answers_3() {
+    let mut all = good_and_bad_settings();
+    for s in (3..=15).step_by(2) {
+        let sizes = (0..=largest_k(s) + 1).chain([1 << 32, usize::MAX]);
+        all.extend(sizes.map(|k| Settings::new(&first_capitals(s), k, COMPLEMENT)));
+    }
+    for settings in all {
+        for places in [0, 4, 100] {
+            for (call, answer) in answers(&settings, places).into_iter().enumerate() {
+                let refused_3 = answer >= REFUSED && answer % 256 == 3;
+                assert!(!refused_3, "{settings}: call {call} with {places} places");
+            }
         }
     }
 }
@@ -92,9 +139,7 @@ fn k_outside_its_limits_is_refused_4() {
         let wide = WIDE.map(|k| k as usize);
         for k in wide.into_iter().chain([0, largest_k(s) + 1, largest_k(s) + 2, 63, 64, 65, 127, 128]) {
             check_refused(&Settings::new(&first_capitals(s), k, REVERSAL), 4);
-            if s % 2 == 0 {
-                check_refused(&Settings::new(&first_capitals(s), k, COMPLEMENT), 4);
-            }
+            check_refused(&Settings::new(&first_capitals(s), k, COMPLEMENT), 4);
         }
     }
 }
@@ -169,13 +214,16 @@ fn a_foreign_byte_at_any_place_is_refused_9() {
 /// reference.
 #[test]
 fn grounds_go_in_number_order() {
-    let cases: [Faulty; 12] = [
+    let cases: [Faulty; 15] = [
         (b"AcG", 0, 2, b"#", 0, (1, 1, (1, 0))),
         (b"ACG", 0, 2, b"#", 0, (2, 2, (2, 0))),
-        (b"ACG", 0, 1, b"#", 0, (3, 3, (3, 0))),
-        (b"ACG", 40, 1, b"#", 0, (3, 3, (3, 0))),
+        (b"ACG", 0, 1, b"#", 0, (4, 4, (4, 0))),
+        (b"ACG", 40, 1, b"#", 0, (4, 4, (4, 0))),
         (b"ACGT", 0, 1, b"#", 0, (4, 4, (4, 0))),
         (b"ACGT", 32, 1, b"#", 0, (4, 4, (4, 0))),
+        (b"ACG", 31, 1, b"AC", 3, (5, 7, (5, 0))),
+        (b"ACG", 3, 1, b"AC#", 2, (9, 7, (7, 3))),
+        (b"ACG", 3, 1, b"AC#", 3, (9, 8, (9, 2))),
         (b"ACGT", 3, 1, b"##", 2, (5, 7, (5, 0))),
         (b"ACGT", 3, 1, b"AC##", 2, (5, 7, (5, 0))),
         (b"ACGT", 3, 1, b"AC#", 2, (9, 7, (7, 3))),

@@ -63,9 +63,9 @@ fn short_lengths_and_exact_room() {
 /// Some sizes whose k are small, middling and the largest.
 fn some_settings(random: &mut Random) -> Vec<Settings> {
     let mut all: Vec<Settings> = [1, 2, 5, 12, 31].into_iter().map(two_bit_settings).collect();
-    for (s, mirror, k) in
-        [(2, 0, 62), (2, 1, 61), (3, 0, 39), (6, 1, 11), (10, 0, 18), (16, 1, 15), (4, 0, 31)]
-    {
+    let even = [(2, 0, 62), (2, 1, 61), (6, 1, 11), (10, 0, 18), (16, 1, 15), (4, 0, 31)];
+    let odd = [(3, 0, 39), (3, 1, 39), (5, 1, 9)];
+    for (s, mirror, k) in even.into_iter().chain(odd) {
         all.push(Settings::new(&drawn_capitals(random, s), k, mirror));
     }
     all
@@ -135,7 +135,7 @@ fn bad_settings_are_refused_before_6_and_7() {
         check_along(settings, b"ACGTACGT", 3);
         check_along(settings, b"", 0);
     }
-    check_along(&Settings::new(b"ACG", 3, COMPLEMENT), &long, 0);
+    check_along(&Settings::new(b"ACG", 40, COMPLEMENT), &long, 0);
 }
 
 #[test]

@@ -19,6 +19,7 @@ fn some_settings() -> Vec<Settings> {
     all.push(Settings::new(b"XY", 13, REVERSAL));
     all.push(Settings::new(b"PQR", 6, REVERSAL));
     all.push(Settings::new(b"ZYXWVUTSRQ", 3, COMPLEMENT));
+    all.push(Settings::new(b"ACXGT", 3, COMPLEMENT));
     all
 }
 

@@ -41,6 +41,22 @@ fn the_largest_table_of_all() {
     assert_eq!(check_add(&mut Book::new(&above), &mut table, &file, 5), refused(6, 0));
 }
 
+/// Document 02, K10: ABC under complement has (3^15 + 3^7) / 2 classes for k 15, and too many for k 16. The
+/// first class is a palindrome, the last has the highest pair at its ends.
+#[test]
+fn the_largest_table_for_three_letters_under_complement_is_at_k_15() {
+    let settings = Settings::new(b"ABC", 15, COMPLEMENT);
+    check_clear(&settings, &mut Table::filled(7_175_546));
+    let (mut book, mut table) = cleared(&settings, 1);
+    assert_eq!(clear(&settings, &mut table), 7_175_547);
+    let file = b">\nAAAAAAABCCCCCCC\n>\nBCCCCCCCCCCCCCA\n";
+    assert_eq!(check_add(&mut book, &mut table, file, 5), Ok([2, 30, 0, 28, 2]));
+    assert_eq!((table.slice()[0], table.slice()[7_175_546]), (1, 1));
+    let above = Settings::new(b"ABC", 16, COMPLEMENT);
+    assert_eq!(clear(&above, &mut table), Refusal { number: 6, p: 0 }.packed());
+    assert_eq!(check_add(&mut Book::new(&above), &mut table, file, 5), refused(6, 0));
+}
+
 /// A file of so many bytes: records of some 90,000 letters in lines of 80, with some foreign letters.
 fn long_file(random: &mut Random, letters: &[u8], length: usize) -> Vec<u8> {
     let mut file = b">first\n".to_vec();

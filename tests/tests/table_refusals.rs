@@ -23,7 +23,8 @@ fn table_with(settings: &Settings, place: usize, count: u64) -> (Book, Table) {
 #[test]
 fn a_place_too_full_is_refused_12() {
     let mut random = Random::new(37);
-    for settings in [two_bit_settings(3), two_bit_settings(4), Settings::new(b"ZEBRA", 3, REVERSAL)] {
+    let zebra = [REVERSAL, COMPLEMENT].map(|mirror| Settings::new(b"ZEBRA", 3, mirror));
+    for settings in [two_bit_settings(3), two_bit_settings(4)].into_iter().chain(zebra) {
         let file = record(&drawn_letters(&mut random, &settings, 25, 0));
         let windows = check_file(&settings, &file).expect("a file without damage")[4];
         for place in 0..class_count(&settings) as usize {
@@ -111,15 +112,17 @@ type Faulty<'a> = (&'a [u8], usize, u64, usize, u32, &'a [u8], usize, (u64, u64)
 fn grounds_go_in_number_order() {
     let long = vec![b'*'; MOST_BYTES + 1];
     let full = u32::MAX;
-    let cases: [Faulty; 17] = [
+    let cases: [Faulty; 20] = [
         (b"AcG", 0, 2, 0, 0, &long, 0, (1, 0)),
         (b"ACG", 0, 2, 0, 0, &long, 0, (2, 0)),
-        (b"ACG", 0, 1, 0, 0, &long, 0, (3, 0)),
+        (b"ACG", 0, 1, 0, 0, &long, 0, (4, 0)),
         (b"ACGT", 0, 1, 0, 0, &long, 0, (4, 0)),
         (b"ACGT", 32, 1, 0, 0, &long, 0, (4, 0)),
+        (b"ACG", 16, 1, 0, 0, b"*", 0, (6, 0)),
         (b"ACGT", 31, 1, 0, 0, b"*", 0, (6, 0)),
         (b"ACGT", 13, 1, 0, 0, b"*", 0, (6, 0)),
         (b"ACGT", 2, 1, 0, 0, &long, 0, (6, 0)),
+        (b"ACG", 1, 1, 1, full, b"*", 0, (7, 2)),
         (b"ACGT", 2, 1, 9, full, b"*", 0, (7, 10)),
         (b"ACGT", 2, 1, 9, full, b">\nAC", 5, (7, 10)),
         (b"ACGT", 2, 1, 10, full, b"*", 4, (7, 5)),
@@ -128,6 +131,7 @@ fn grounds_go_in_number_order() {
         (b"ACGT", 2, 1, 10, full, b"A*\n>\nAC", 5, (11, 0)),
         (b"ACGT", 2, 1, 10, full, b"*A\n>\nAC", 5, (10, 0)),
         (b"ACGT", 2, 1, 10, full, b"\nN\n>\nAC", 5, (11, 1)),
+        (b"ACG", 1, 1, 2, full, b">\nC", 5, (12, 0)),
         (b"ACGT", 2, 1, 10, full, b">\nAC", 5, (12, 0)),
     ];
     for (letters, k, mirror, places, first, file, room, (number, p)) in cases {

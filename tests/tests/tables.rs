@@ -51,7 +51,8 @@ fn lists_of_files_over_every_size() {
 #[test]
 fn longer_files_in_a_row() {
     let mut random = Random::new(32);
-    for (s, mirror, k) in [(4, 1, 8), (4, 1, 3), (4, 0, 7), (2, 1, 13), (3, 0, 9), (10, 0, 4), (16, 1, 3)] {
+    let sizes = [(4, 1, 8), (4, 1, 3), (4, 0, 7), (2, 1, 13), (3, 0, 9), (10, 0, 4), (16, 1, 3)];
+    for (s, mirror, k) in sizes.into_iter().chain([(3, 1, 9), (5, 1, 5), (15, 1, 3)]) {
         let settings = Settings::new(&drawn_capitals(&mut random, s), k, mirror);
         let (mut book, mut table) = cleared(&settings, 1);
         for _ in 0..4 {
@@ -66,7 +67,7 @@ fn longer_files_in_a_row() {
 #[test]
 fn the_order_of_files_makes_no_difference() {
     let mut random = Random::new(33);
-    for (s, mirror, k) in [(4, 1, 5), (6, 1, 3), (10, 0, 3), (2, 0, 9)] {
+    for (s, mirror, k) in [(4, 1, 5), (6, 1, 3), (10, 0, 3), (2, 0, 9), (3, 1, 7)] {
         let settings = Settings::new(&drawn_capitals(&mut random, s), k, mirror);
         let good: Vec<Vec<u8>> = (0..8).map(|_| drawn_file(&mut random, &settings, 200)).collect();
         let files: Vec<Vec<u8>> = good.into_iter().map(|file| [&file[..], b"\n>\n"].concat()).collect();
@@ -133,25 +134,25 @@ fn empty_files_are_taken_in() {
 
 #[test]
 fn stored_clears() {
-    for stored in stored("clear", 54) {
+    for stored in stored("clear", [54, 14]) {
         let mut table = Table::new(&stored.table);
         check_clear(&stored.settings, &mut table);
-        assert_eq!(table.slice(), stored.after, "line {}", stored.line);
+        assert_eq!(table.slice(), stored.after, "{}", stored.line);
         let right = stored.outcome.map_or_else(|refusal| refusal.packed(), |answer| answer[0]);
-        assert_eq!(clear(&stored.settings, &mut table), right, "line {}", stored.line);
+        assert_eq!(clear(&stored.settings, &mut table), right, "{}", stored.line);
     }
 }
 
 /// The stored answers against the book and the call.
 #[test]
 fn stored_adds() {
-    for stored in stored("add", 49) {
+    for stored in stored("add", [49, 19]) {
         let mut table = Table::new(&stored.table);
         let ground = table_ground(&stored.settings, false, stored.table.len());
         let counts = ground.map_or(&[][..], |classes| &stored.table[..classes]);
         let mut book = Book::starting(&stored.settings, counts);
         let answer = check_add(&mut book, &mut table, &stored.file, 5).map(|numbers| numbers.to_vec());
-        assert_eq!(answer, stored.outcome, "line {}", stored.line);
-        assert_eq!(table.slice(), stored.after, "line {}", stored.line);
+        assert_eq!(answer, stored.outcome, "{}", stored.line);
+        assert_eq!(table.slice(), stored.after, "{}", stored.line);
     }
 }

@@ -38,11 +38,11 @@ fn check_reading(settings: &Settings, coder: &Coder, random: &mut Random, code: 
 }
 
 #[test]
-fn the_sizes_are_those_of_document_01() {
+fn the_sizes_are_those_of_documents_01_and_02() {
     let largest = [62, 39, 31, 26, 23, 22, 20, 19, 18, 17, 17, 16, 16, 15, 15];
     assert_eq!((2..=16).map(largest_k).collect::<Vec<usize>>(), largest);
-    // 356 sizes under reversal, 202 of them with even s and so under complement too.
-    assert_eq!(good_sizes().len(), 356 + 202);
+    // Each of the 356 sizes has both mirrors, odd s too (document 02, K10).
+    assert_eq!(good_sizes().len(), 2 * 356);
 }
 
 /// Runs a check for every word of k ranks below s, by rising plain rank.

@@ -53,7 +53,7 @@ module _ {c : Coder} {powers : List ℕ} (C : ReadyCoder c powers) (ranks : List
       → (n : ℕ) → n ≡ length ranks + 1 - c .k
       → Room (length (take n new)) counts × Each (Below (length counts)) (take n new)
   can-count-batch R l room F n e =
-      rw (codes-front F n e, l) (room, codes-below (C .limits) (windows (c .k) ranks) (word-windows (c .s) (c .k) ranks R))
+      rw (codes-front F n e, l) (room, codes-below (c .mirror) (C .limits) (windows (c .k) ranks) (word-windows (c .s) (c .k) ranks R))
 
 drop-of-take : (l : List ℕ) (d m n : ℕ) → d + m ≡ n → d ≤ length l → drop d (take n l) ≡ take m (drop d l)
 drop-of-take l d m n e h =

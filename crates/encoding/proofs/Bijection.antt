@@ -10,12 +10,11 @@ use borrow.Author.Tests.{le-leb, lt-leb}
 use lib.Arith.{digits-div, digits-mod, digits-lt}
 use lib.ListN.{length}
 use Rattle.settings.specs.Settings.{halfUp, isOdd, classes}
-use Rattle.settings.specs.Limits.{EvenUnder}
-use Rattle.laws.proofs.Powers.{pairCount, pow-pos, pow-one}
+use Rattle.laws.proofs.Powers.{pairCount, pow-pos}
 use Rattle.encoding.specs.Words.{Mirror, Reversal, Complement, Ranks, mirrorRank, plain}
 use Rattle.encoding.specs.Codes.{pairRank}
 use Rattle.encoding.specs.WordsOfCodes.{wordOfPlain, pairOfRank, middleOfCode, wordOf}
-use Rattle.encoding.proofs.ClassNumbers.{classes-suc}
+use Rattle.encoding.proofs.ClassNumbers.{classes-suc, classes-one-reversal, classes-one-complement}
 use Rattle.encoding.proofs.Ends.{ends, length-ends, Ranks-ends}
 use Rattle.encoding.proofs.Canonical.{IsCanonical, mirrorRank-lt, mirrorRank-twice, first-lt, last-lt, inner-ranks, inner-lt, canonical-first, canonical-inner, differ-canonical, same-canonical, canonical-one, one-canonical, nil-canonical}
 use Rattle.encoding.proofs.Recursion.{codeRec, codeRec-same, codeRec-differ}
@@ -52,21 +51,21 @@ unfolding classes isOdd halfUp
 classes-zero s Reversal = rw (pow-zero s)
 classes-zero s Complement = rw (pow-zero s)
 
-middle-lt : (s : ℕ) (m : Mirror) → EvenUnder s m → (a : ℕ) → a < s → a ≤ mirrorRank s m a → middleOfCode s m a < classes s m 1
-unfolding classes isOdd halfUp middleOfCode mirrorRank
-middle-lt s Reversal he a h g = omega (arith, pow-one s)
-middle-lt s Complement he a h g = omega (arith, pow-one s)
-
-middle-middle : (s : ℕ) (m : Mirror) → EvenUnder s m → (a : ℕ) → a < s → a ≤ mirrorRank s m a → middleOfCode s m (middleOfCode s m a) ≡ a
+middle-lt : (s : ℕ) (m : Mirror) (a : ℕ) → a < s → a ≤ mirrorRank s m a → middleOfCode s m a < classes s m 1
 unfolding middleOfCode mirrorRank
-middle-middle s Reversal he a h g = refl
-middle-middle s Complement he a h g = omega arith
+middle-lt s Reversal a h g = omega (arith, classes-one-reversal s)
+middle-lt s Complement a h g = omega (arith, classes-one-complement s)
 
-middle-of : (s : ℕ) (m : Mirror) → 1 < s → EvenUnder s m → (q : ℕ) → q < classes s m 1
+middle-middle : (s : ℕ) (m : Mirror) (a : ℕ) → a < s → a ≤ mirrorRank s m a → middleOfCode s m (middleOfCode s m a) ≡ a
+unfolding middleOfCode mirrorRank
+middle-middle s Reversal a h g = refl
+middle-middle s Complement a h g = omega arith
+
+middle-of : (s : ℕ) (m : Mirror) → 1 < s → (q : ℕ) → q < classes s m 1
     → (middleOfCode s m q < s) × (middleOfCode s m q ≤ mirrorRank s m (middleOfCode s m q)) × (middleOfCode s m (middleOfCode s m q) ≡ q)
-unfolding classes isOdd halfUp middleOfCode mirrorRank
-middle-of s Reversal hs he q h = omega (arith, pow-one s)
-middle-of s Complement hs he q h = omega (arith, pow-one s)
+unfolding middleOfCode mirrorRank
+middle-of s Reversal hs q h = omega (arith, classes-one-reversal s)
+middle-of s Complement hs q h = omega (arith, classes-one-complement s)
 
 -- ---- from the word to the code and back
 
@@ -74,7 +73,7 @@ pub record Coded (s : ℕ) (m : Mirror) (n : ℕ) (w : List ℕ) : Type 0 where
   pub below : codeRec s m n w < classes s m n
   pub back : wordOf s m n (codeRec s m n w) ≡ w
 
-module _ (s : ℕ) (m : Mirror) (hs : 1 < s) (he : EvenUnder s m) where
+module _ (s : ℕ) (m : Mirror) (hs : 1 < s) where
   coded-same : (n a b : ℕ) (u : List ℕ) → length u ≡ n → a < s → b < s → a ≡ mirrorRank s m b → Coded s m n u → Coded s m (suc (suc n)) (a ∷ (u ++ (b ∷ [])))
   coded-same n a b u l ha hb e ih =
       let c : ℕ = codeRec s m n u in
@@ -82,7 +81,7 @@ module _ (s : ℕ) (m : Mirror) (hs : 1 < s) (he : EvenUnder s m) where
       let hr : r < s = mirrorRank-lt s m b hb in
       let lt : s * c + r < s * classes s m n = omega (arith, digits-lt (ih .below) hr) in
       record {
-        below = rw (codeRec-same s m n a b u l e, classes-suc s m n he) (omega arith);
+        below = rw (codeRec-same s m n a b u l e, classes-suc s m n) (omega arith);
         back =
             rw (
               codeRec-same s m n a b u l e,
@@ -103,7 +102,7 @@ module _ (s : ℕ) (m : Mirror) (hs : 1 < s) (he : EvenUnder s m) where
       let e : codeRec s m (suc (suc n)) (a ∷ (u ++ (b ∷ []))) ≡ s * classes s m n + (pairRank s a (mirrorRank s m b) * s ^ n + plain s u)
       = codeRec-differ s m n a b u l (omega arith) ∙ (omega arith) in
       record {
-        below = rw (e, classes-suc s m n he) (omega (arith, digits-lt (below-pairs s a r lt hr) pu));
+        below = rw (e, classes-suc s m n) (omega (arith, digits-lt (below-pairs s a r lt hr) pu));
         back =
             rw (
               e,
@@ -137,7 +136,7 @@ module _ (s : ℕ) (m : Mirror) (hs : 1 < s) (he : EvenUnder s m) where
 
   coded-one : (a : ℕ) → a < s → a ≤ mirrorRank s m a → Coded s m 1 (a ∷ [])
   unfolding codeRec wordOf
-  coded-one a h g = record { below = middle-lt s m he a h g; back = ap (λ (x : ℕ). x ∷ []) (middle-middle s m he a h g) }
+  coded-one a h g = record { below = middle-lt s m a h g; back = ap (λ (x : ℕ). x ∷ []) (middle-middle s m a h g) }
 
   pub coded : (n : ℕ) (w : List ℕ) → length w ≡ n → Ranks s w → IsCanonical s m w → Coded s m n w
   coded = ends (λ n w. Ranks s w → IsCanonical s m w → Coded s m n w) (λ h g. coded-zero) (λ a h g. coded-one a (h .0) (canonical-one s m a g)) coded-step
@@ -150,7 +149,7 @@ pub record Worded (s : ℕ) (m : Mirror) (n q : ℕ) (w : List ℕ) : Type 0 whe
   pub least : IsCanonical s m w
   pub back : codeRec s m n w ≡ q
 
-module _ (s : ℕ) (m : Mirror) (hs : 1 < s) (he : EvenUnder s m) where
+module _ (s : ℕ) (m : Mirror) (hs : 1 < s) where
   worded-same : (n c r : ℕ) (u : List ℕ) → r < s → Worded s m n c u → Worded s m (suc (suc n)) (s * c + r) (r ∷ (u ++ (mirrorRank s m r ∷ [])))
   worded-same n c r u hr g =
       let tr : mirrorRank s m r < s = mirrorRank-lt s m r hr in
@@ -198,7 +197,7 @@ module _ (s : ℕ) (m : Mirror) (hs : 1 < s) (he : EvenUnder s m) where
   unfolding codeRec wordOf
   worded zero q h = record { len = refl; ranks = tt; least = nil-canonical s m; back = omega (arith, classes-zero s m) }
   worded (suc zero) q h =
-      let g = middle-of s m hs he q h in
+      let g = middle-of s m hs q h in
       record { len = refl; ranks = (g .0, tt); least = one-canonical s m (middleOfCode s m q) (g .1); back = g .2 }
   worded (suc (suc n)) q h =
       elim (decLt q (s * classes s m n)) as (λ d. Worded s m (suc (suc n)) q (wordOf s m (suc (suc n)) q)) [
@@ -206,5 +205,5 @@ module _ (s : ℕ) (m : Mirror) (hs : 1 < s) (he : EvenUnder s m) where
         | no np ↦
             let e : s * classes s m n + (q - s * classes s m n) ≡ q = omega arith in
             subst (λ (x : ℕ). Worded s m (suc (suc n)) x (wordOf s m (suc (suc n)) x)) e
-            (worded-high n (q - s * classes s m n) (omega (arith, classes-suc s m n he)))
+            (worded-high n (q - s * classes s m n) (omega (arith, classes-suc s m n)))
       ]

@@ -11,7 +11,6 @@ use borrow.Author.Tests.{eq-eqb, ne-eqb}
 use lib.Dec.{eqb}
 use lib.ListN.{length, getD, take, drop}
 use Rattle.settings.specs.Settings.{classes}
-use Rattle.settings.specs.Limits.{EvenUnder}
 use Rattle.laws.proofs.Powers.{pow-pos, pow-one}
 use Rattle.laws.proofs.DigitWindows.{window, window-ends, window-first, window-inner, low-ends}
 use Rattle.encoding.specs.Words.{Mirror, Reversal, Complement, Ranks, mirrorRank, mirror, plain}
@@ -112,7 +111,7 @@ byRanks-differ s m n a x b c y d hs ha hc hb hx hr hr′ =
 
 -- ---- the law
 
-module _ (s : ℕ) (m : Mirror) (hs : 1 < s) (he : EvenUnder s m) where
+module _ (s : ℕ) (m : Mirror) (hs : 1 < s) where
   abbrev Ranked : ℕ → List ℕ → Type 0
   Ranked n w = Ranks s w → IsCanonical s m w → codeRec s m n w ≡ byRanks s m n (equalPairs s m n w) (plain s w) (plain s (mirror s m w))
 
@@ -158,4 +157,4 @@ module _ (s : ℕ) (m : Mirror) (hs : 1 < s) (he : EvenUnder s m) where
   -- The code of a canonical word, from its plain rank, its mirror's and the number of equal outer pairs.
   pub code-by-ranks : (n : ℕ) (w : List ℕ) → length w ≡ n → Ranks s w → IsCanonical s m w
       → codeOfCanonical s m n w ≡ byRanks s m n (equalPairs s m n w) (plain s w) (plain s (mirror s m w))
-  code-by-ranks n w l h g = code-is s m hs he n w l h g ∙ ranked n w l h g
+  code-by-ranks n w l h g = code-is s m hs n w l h g ∙ ranked n w l h g

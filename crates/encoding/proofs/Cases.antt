@@ -1,4 +1,4 @@
--- The starred cases of document 01, all of them, as one check of the definitions by computing.
+-- The starred cases of document 01, all of them, and those of document 02, K10, as one check of the definitions by computing.
 use mathlib.Core.Path.{_≡_, refl}
 use mathlib.Core.List.{List, [], _∷_, map}
 use Prim.Native.Nat.{ℕ, zero, suc}
@@ -49,6 +49,18 @@ pub starred-cases : record {
   complement-31-code : codeOf "ACGT" 31 1 "GTTTTTTTTTTTTTTTTTTTTTTTTTTTTTA" ≡ given 2305843009213693951;
   complement-31-read : reading (bytes "ACGT") 31 1 2305843009213693951 31 ≡ given 31;
   complement-31-next : reading (bytes "ACGT") 31 1 2305843009213693952 31 ≡ refused (8, 0);
+  -- Document 02, K10. ABC, complement, k 1: B 0, A and C 1.
+  odd-1 : codesOf "ABC" 1 1 ("B" ∷ "A" ∷ "C" ∷ []) ≡ (given 0 ∷ given 1 ∷ given 1 ∷ []);
+  -- ABC, complement, k 3: 15 codes, each read and coded back, the three palindromes first; the next is refused 8.
+  odd-3 :
+      InOrder "ABC" 3 1 15
+      ("ABC" ∷ "BBB" ∷ "CBA" ∷ "AAC" ∷ "BAB" ∷ "CAA" ∷ "AAB" ∷ "ABB" ∷ "ACB" ∷ "AAA" ∷ "ABA" ∷ "ACA" ∷ "BAA" ∷ "BBA" ∷ "BCA" ∷ []);
+  odd-3-next : reading (bytes "ABC") 3 1 15 3 ≡ refused (8, 0);
+  -- ABC, complement, k 39, the largest: code 2,026,277,577,090,618,866 is B, 37 C, A; the next is refused 8, and k 40 is refused 4.
+  odd-39 : wordBytes (bytes "ABC") 39 1 2026277577090618866 ≡ bytes "BCCCCCCCCCCCCCCCCCCCCCCCCCCCCCCCCCCCCCA";
+  odd-39-code : codeOf "ABC" 39 1 "BCCCCCCCCCCCCCCCCCCCCCCCCCCCCCCCCCCCCCA" ≡ given 2026277577090618866;
+  odd-39-next : reading (bytes "ABC") 39 1 2026277577090618867 39 ≡ refused (8, 0);
+  odd-40 : reading (bytes "ABC") 40 1 0 40 ≡ refused (4, 0);
 }
 unfolding isCapital isIn differentCapitals goodLetters capitalOf placeFrom isOdd halfUp classes badSize settingsGround
     mirrorRank mirror plain canonical pairRank digits differingPair shift oddShift codeOfCanonical code
@@ -65,4 +77,11 @@ starred-cases = record {
   complement-31-code = refl;
   complement-31-read = refl;
   complement-31-next = refl;
+  odd-1 = refl;
+  odd-3 = (refl, refl);
+  odd-3-next = refl;
+  odd-39 = refl;
+  odd-39-code = refl;
+  odd-39-next = refl;
+  odd-40 = refl;
 }

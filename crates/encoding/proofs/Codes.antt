@@ -9,7 +9,6 @@ use native.Mathlib.Omega.{arith}
 use borrow.Author.Tests.{le-leb, lt-leb}
 use lib.ListN.{length}
 use Rattle.settings.specs.Settings.{classes}
-use Rattle.settings.specs.Limits.{EvenUnder}
 use Rattle.encoding.specs.Words.{Mirror, Ranks, mirror, plain, canonical}
 use Rattle.encoding.specs.Codes.{codeOfCanonical, code}
 use Rattle.encoding.specs.WordsOfCodes.{wordOf}
@@ -63,36 +62,36 @@ canonical-mirror s m n w hs l h =
     mm : mirror s m (mirror s m w) ≡ w
     mm = mirror-mirror s m n w l h
 
-module _ (s : ℕ) (m : Mirror) (hs : 1 < s) (he : EvenUnder s m) where
+module _ (s : ℕ) (m : Mirror) (hs : 1 < s) where
   -- The code is below the number of classes.
   pub code-below : (k : ℕ) (w : List ℕ) → length w ≡ k → Ranks s w → code s m k w < classes s m k
   unfolding code
   code-below k w l h =
       let c = is-canonical s m k w l h in
-      rw (code-is s m hs he k (canonical s m w) (c .len) (c .ranks) (c .least)) (coded s m hs he k (canonical s m w) (c .len) (c .ranks) (c .least) .below)
+      rw (code-is s m hs k (canonical s m w) (c .len) (c .ranks) (c .least)) (coded s m hs k (canonical s m w) (c .len) (c .ranks) (c .least) .below)
 
   -- The word of a word's code is its canonical word.
   pub wordOf-code : (k : ℕ) (w : List ℕ) → length w ≡ k → Ranks s w → wordOf s m k (code s m k w) ≡ canonical s m w
   unfolding code
   wordOf-code k w l h =
       let c = is-canonical s m k w l h in
-      rw (code-is s m hs he k (canonical s m w) (c .len) (c .ranks) (c .least)) (coded s m hs he k (canonical s m w) (c .len) (c .ranks) (c .least) .back)
+      rw (code-is s m hs k (canonical s m w) (c .len) (c .ranks) (c .least)) (coded s m hs k (canonical s m w) (c .len) (c .ranks) (c .least) .back)
 
   -- The word of a code is a canonical word of k letters with that code.
   pub code-wordOf : (k q : ℕ) → q < classes s m k → code s m k (wordOf s m k q) ≡ q
   unfolding code
   code-wordOf k q h =
-      let g = worded s m hs he k q h in
-      rw (canonical-low s m (wordOf s m k q) (g .least), code-is s m hs he k (wordOf s m k q) (g .len) (g .ranks) (g .least)) (g .back)
+      let g = worded s m hs k q h in
+      rw (canonical-low s m (wordOf s m k q) (g .least), code-is s m hs k (wordOf s m k q) (g .len) (g .ranks) (g .least)) (g .back)
 
   pub length-wordOf : (k q : ℕ) → q < classes s m k → length (wordOf s m k q) ≡ k
-  length-wordOf k q h = worded s m hs he k q h .len
+  length-wordOf k q h = worded s m hs k q h .len
 
   pub ranks-wordOf : (k q : ℕ) → q < classes s m k → Ranks s (wordOf s m k q)
-  ranks-wordOf k q h = worded s m hs he k q h .ranks
+  ranks-wordOf k q h = worded s m hs k q h .ranks
 
   pub canonical-wordOf : (k q : ℕ) → q < classes s m k → canonical s m (wordOf s m k q) ≡ wordOf s m k q
-  canonical-wordOf k q h = canonical-low s m (wordOf s m k q) (worded s m hs he k q h .least)
+  canonical-wordOf k q h = canonical-low s m (wordOf s m k q) (worded s m hs k q h .least)
 
   -- Two words have one code exactly where they are equal or mirrors.
   pub code-mirror : (k : ℕ) (w : List ℕ) → length w ≡ k → Ranks s w → code s m k (mirror s m w) ≡ code s m k w

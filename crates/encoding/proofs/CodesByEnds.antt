@@ -7,7 +7,6 @@ use native.Mathlib.Decide.{decLe}
 use native.Mathlib.Omega.{arith}
 use lib.ListN.{length}
 use Rattle.settings.specs.Settings.{classes}
-use Rattle.settings.specs.Limits.{EvenUnder}
 use Rattle.encoding.specs.Words.{Mirror, Reversal, Complement, Ranks, mirrorRank, mirror, plain}
 use Rattle.encoding.specs.Codes.{pairRank, code}
 use Rattle.encoding.specs.WordsOfCodes.{middleOfCode}
@@ -16,11 +15,11 @@ use Rattle.encoding.proofs.Canonical.{IsCanonical, mirrorRank-lt, mirro
 use Rattle.encoding.proofs.Recursion.{codeRec, code-is, codeRec-same, codeRec-differ}
 use Rattle.encoding.proofs.Codes.{canonical-low, code-mirror}
 
-module _ (s : ℕ) (m : Mirror) (hs : 1 < s) (he : EvenUnder s m) where
+module _ (s : ℕ) (m : Mirror) (hs : 1 < s) where
   -- The code of a canonical word.
   code-low : (n : ℕ) (w : List ℕ) → length w ≡ n → Ranks s w → IsCanonical s m w → code s m n w ≡ codeRec s m n w
   unfolding code
-  code-low n w l h g = rw (canonical-low s m w g) (code-is s m hs he n w l h g)
+  code-low n w l h g = rw (canonical-low s m w g) (code-is s m hs n w l h g)
 
   pub code-none : code s m 0 [] ≡ 0
   unfolding codeRec
@@ -42,7 +41,7 @@ module _ (s : ℕ) (m : Mirror) (hs : 1 < s) (he : EvenUnder s m) where
     turned-code : code s m (suc (suc n)) (mirrorRank s m b ∷ (mirror s m u ++ (mirrorRank s m a ∷ []))) ≡ code s m (suc (suc n)) (a ∷ (u ++ (b ∷ [])))
     turned-code =
         ap (code s m (suc (suc n))) (sym (mirror-ends s m a b u))
-        ∙ code-mirror s m hs he (suc (suc n)) (a ∷ (u ++ (b ∷ []))) (length-ends n a b u l) h
+        ∙ code-mirror s m hs (suc (suc n)) (a ∷ (u ++ (b ∷ []))) (length-ends n a b u l) h
 
   -- A first letter below the last as the mirror shows it: behind all words of equal outer letters, by the pair, then by the plain rank of the inner letters.
   pub code-less : (n a b : ℕ) (u : List ℕ) (l : length u ≡ n) (h : Ranks s (a ∷ (u ++ (b ∷ [])))) → a < mirrorRank s m b
@@ -79,25 +78,25 @@ module _ (s : ℕ) (m : Mirror) (hs : 1 < s) (he : EvenUnder s m) where
             sym (turned-code n a b u l h)
             ∙ same-low n (mirrorRank s m b) (mirrorRank s m a) (mirror s m u) (length-mirror s m u ∙ l) (turned-ranks n a b u l h)
             (sym e ∙ sym tt-a) (rw (mirror-mirror s m n u l hu) (omega arith))
-            ∙ rw (code-mirror s m hs he n u l hu, sym e)
+            ∙ rw (code-mirror s m hs n u l hu, sym e)
       ]
 
 -- The code of one letter: under complement the lower of the letter and its mirror counts, from the middle down.
 unfoldable pub middleCode : ℕ → Mirror → ℕ → ℕ
 middleCode s Reversal a = a
-middleCode s Complement a = s / 2 - 1 - min a (s - 1 - a)
+middleCode s Complement a = (s - 1) / 2 - min a (s - 1 - a)
 
-other-one : (s : ℕ) (hs : 1 < s) (he : EvenUnder s Complement) (a : ℕ) → a < s → s - 1 - a < a
-    → code s Complement 1 (mirror s Complement (a ∷ [])) ≡ s / 2 - 1 - (s - 1 - a)
+other-one : (s : ℕ) (hs : 1 < s) (a : ℕ) → a < s → s - 1 - a < a
+    → code s Complement 1 (mirror s Complement (a ∷ [])) ≡ (s - 1) / 2 - (s - 1 - a)
 unfolding mirror mirrorRank middleOfCode
-other-one s hs he a h g = one-low s Complement hs he (s - 1 - a) (omega arith) (omega arith)
+other-one s hs a h g = one-low s Complement hs (s - 1 - a) (omega arith) (omega arith)
 
 -- The code of a word of one letter is its `middleCode`.
-pub code-one : (s : ℕ) (m : Mirror) (hs : 1 < s) (he : EvenUnder s m) (a : ℕ) → a < s → code s m 1 (a ∷ []) ≡ middleCode s m a
+pub code-one : (s : ℕ) (m : Mirror) (hs : 1 < s) (a : ℕ) → a < s → code s m 1 (a ∷ []) ≡ middleCode s m a
 unfolding middleCode middleOfCode mirrorRank
-code-one s Reversal hs he a h = one-low s Reversal hs he a h (omega arith)
-code-one s Complement hs he a h =
-    elim (decLe a (s - 1 - a)) as (λ _. code s Complement 1 (a ∷ []) ≡ s / 2 - 1 - min a (s - 1 - a)) [
-      | yes p ↦ one-low s Complement hs he a h p ∙ omega arith
-      | no np ↦ sym (code-mirror s Complement hs he 1 (a ∷ []) refl (h, tt)) ∙ other-one s hs he a h (omega arith) ∙ omega arith
+code-one s Reversal hs a h = one-low s Reversal hs a h (omega arith)
+code-one s Complement hs a h =
+    elim (decLe a (s - 1 - a)) as (λ _. code s Complement 1 (a ∷ []) ≡ (s - 1) / 2 - min a (s - 1 - a)) [
+      | yes p ↦ one-low s Complement hs a h p ∙ omega arith
+      | no np ↦ sym (code-mirror s Complement hs 1 (a ∷ []) refl (h, tt)) ∙ other-one s hs a h (omega arith) ∙ omega arith
     ]

@@ -3,7 +3,7 @@
 use mathlib.Core.Path.{_≡_, refl, sym, ap, _∙_}
 use mathlib.Core.Logic.{⊎-elim, _↔_}
 use mathlib.Core.List.{List, [], _∷_, _++_}
-use Prim.Native.Nat.{ℕ, suc, _-_, _<_}
+use Prim.Native.Nat.{ℕ, suc, _-_, _/_, _<_, _≤_}
 use native.Mathlib.Nat.{pow-zero, mul-le-mul-left, lt-of-mul-lt-mul-left}
 use native.Mathlib.Decide.{ℕ-discrete}
 use native.Mathlib.Omega.{arith}
@@ -11,15 +11,14 @@ use lib.Arith.{digits-lt}
 use lib.ListN.{length, take}
 use lib.Seq.{take-at}
 use Rattle.settings.specs.Settings.{halfUp, isOdd}
-use Rattle.settings.specs.Limits.{EvenUnder}
 use Rattle.laws.proofs.Powers.{pow-one}
 use Rattle.encoding.specs.Words.{Mirror, Reversal, Complement, Ranks, mirrorRank, mirror, canonical, Palindrome}
 use Rattle.encoding.specs.Codes.{code}
 use Rattle.encoding.specs.WordsOfCodes.{middleOfCode}
 use Rattle.encoding.specs.Needs.{palindromes}
-use Rattle.encoding.proofs.ClassNumbers.{palindromes-suc, classes-palindromes}
+use Rattle.encoding.proofs.ClassNumbers.{palindromes-suc, palindromes-one, classes-palindromes}
 use Rattle.encoding.proofs.Ends.{ends, mirror-ends, length-mirror}
-use Rattle.encoding.proofs.Canonical.{IsCanonical, mirrorRank-lt, mirrorRank-twice, mirror-mirror, last-lt, inner-ranks, canonical-inner}
+use Rattle.encoding.proofs.Canonical.{IsCanonical, mirrorRank-lt, mirrorRank-twice, mirror-mirror, last-lt, inner-ranks, canonical-inner, canonical-one}
 use Rattle.encoding.proofs.Recursion.{codeRec, code-is, codeRec-same, codeRec-differ}
 use Rattle.encoding.proofs.Codes.{is-canonical}
 
@@ -29,7 +28,7 @@ tails-equal n b d u v lu lv e = sym (take-at u (b ∷ []) n lu) ∙ ap (take n) 
 
 -- ---- canonical words
 
-module _ (s : ℕ) (m : Mirror) (hs : 1 < s) (he : EvenUnder s m) where
+module _ (s : ℕ) (m : Mirror) (hs : 1 < s) where
   abbrev Lowest : ℕ → List ℕ → Type 0
   Lowest n w = Ranks s w → IsCanonical s m w → (Palindrome s m w ↔ (codeRec s m n w < palindromes s m n))
 
@@ -64,7 +63,7 @@ module _ (s : ℕ) (m : Mirror) (hs : 1 < s) (he : EvenUnder s m) where
     differ-lowest ne =
         rw (codeRec-differ s m n a b u l ne, palindromes-suc s m n) (
           λ p. absurd (ne (outer-equal p)),
-          λ q. absurd (omega (arith, mul-le-mul-left s (classes-palindromes s m n hs he))),
+          λ q. absurd (omega (arith, mul-le-mul-left s (classes-palindromes s m n hs))),
         )
 
   lowest-step : (n a b : ℕ) (u : List ℕ) → length u ≡ n → Lowest n u → Lowest (suc (suc n)) (a ∷ (u ++ (b ∷ [])))
@@ -80,16 +79,21 @@ unfolding mirror codeRec palindromes isOdd halfUp
 no-letter-lowest s Reversal = (λ p. omega (arith, pow-zero s), λ q. refl)
 no-letter-lowest s Complement = (λ p. omega (arith, pow-zero s), λ q. refl)
 
--- One letter is a palindrome under reversal, and never under complement, where s is even.
-one-letter-lowest : (s : ℕ) (m : Mirror) → EvenUnder s m → (a : ℕ) → a < s → Palindrome s m (a ∷ []) ↔ (codeRec s m 1 (a ∷ []) < palindromes s m 1)
-unfolding mirror mirrorRank codeRec middleOfCode palindromes isOdd halfUp
-one-letter-lowest s Reversal he a h = (λ p. omega (arith, pow-one s), λ q. refl)
-one-letter-lowest s Complement he a h =
-    (λ p. let e : s - 1 - a ≡ a = cc in absurd (omega arith), λ q. absurd (omega arith))
+-- Under complement a letter is its own mirror where it is the middle one of an odd s, and then it has the code 0.
+middle-lowest : (s a : ℕ) → a < s → a ≤ s - 1 - a → (s - 1 - a ≡ a) ↔ ((s - 1) / 2 - a < palindromes s Complement 1)
+middle-lowest s a h g = rw (palindromes-one s) (λ p. omega arith, λ q. omega arith)
 
-module _ (s : ℕ) (m : Mirror) (hs : 1 < s) (he : EvenUnder s m) where
-  lowest : (n : ℕ) (w : List ℕ) → length w ≡ n → Lowest s m hs he n w
-  lowest = ends (Lowest s m hs he) (λ h g. no-letter-lowest s m) (λ a h g. one-letter-lowest s m he a (h .0)) (lowest-step s m hs he)
+-- One letter is a palindrome under reversal, and under complement where it is its own mirror.
+one-letter-lowest : (s : ℕ) (m : Mirror) (a : ℕ) → a < s → a ≤ mirrorRank s m a → Palindrome s m (a ∷ []) ↔ (codeRec s m 1 (a ∷ []) < palindromes s m 1)
+unfolding mirror mirrorRank codeRec middleOfCode palindromes isOdd halfUp
+one-letter-lowest s Reversal a h g = (λ p. omega (arith, pow-one s), λ q. refl)
+one-letter-lowest s Complement a h g =
+    let low = middle-lowest s a h g in
+    (λ p. low .0 (let e : s - 1 - a ≡ a = cc in e), λ q. ap (λ (x : ℕ). x ∷ []) (low .1 q))
+
+module _ (s : ℕ) (m : Mirror) (hs : 1 < s) where
+  lowest : (n : ℕ) (w : List ℕ) → length w ≡ n → Lowest s m hs n w
+  lowest = ends (Lowest s m hs) (λ h g. no-letter-lowest s m) (λ a h g. one-letter-lowest s m a (h .0) (canonical-one s m a g)) (lowest-step s m hs)
 
   -- ---- any word
 
@@ -108,5 +112,5 @@ module _ (s : ℕ) (m : Mirror) (hs : 1 < s) (he : EvenUnder s m) where
   palindromes-lowest n w l h =
       let c = is-canonical s m n w l h in
       let low = lowest n (canonical s m w) (c .len) (c .ranks) (c .least) in
-      rw (code-is s m hs he n (canonical s m w) (c .len) (c .ranks) (c .least))
+      rw (code-is s m hs n (canonical s m w) (c .len) (c .ranks) (c .least))
       (λ p. low .0 (canonical-palindrome n w l h p), λ q. palindrome-canonical n w l h (low .1 q))

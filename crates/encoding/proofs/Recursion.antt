@@ -11,13 +11,11 @@ use borrow.Author.Tests.{eqb-true, eq-eqb, ne-eqb}
 use lib.Dec.{eqb, eqb·suc-zero}
 use lib.ListN.{length, getD, take, drop}
 use lib.Seq.{take-at, getD-at}
-use Rattle.laws.proofs.Powers.{pow-one}
-use Rattle.settings.specs.Settings.{halfUp, isOdd, classes}
-use Rattle.settings.specs.Limits.{EvenUnder}
+use Rattle.settings.specs.Settings.{isOdd, classes}
 use Rattle.encoding.specs.Words.{Mirror, Reversal, Complement, Ranks, mirrorRank, plain}
 use Rattle.encoding.specs.Codes.{digits, differingPair, pairRank, shift, oddShift, codeOfCanonical}
 use Rattle.encoding.specs.WordsOfCodes.{middleOfCode}
-use Rattle.encoding.proofs.ClassNumbers.{shift-suc, shift-first, oddShift-suc}
+use Rattle.encoding.proofs.ClassNumbers.{shift-suc, shift-first, oddShift-suc, oddShift-reversal, oddShift-one}
 use Rattle.encoding.proofs.Ends.{ends, plain-one, plain-snoc, endDigits, digits-ends, differingPair-ends}
 use Rattle.encoding.proofs.Canonical.{IsCanonical, inner-ranks, canonical-inner, canonical-one}
 
@@ -73,7 +71,7 @@ pair-value s R p q x e = omega (arith, ap (λ (y : ℕ). y * p) (div-add-mod' R 
 value-same : (s c v x y o d r : ℕ) → v ≡ c + x + o → d ≡ v * s + r → y ≡ s * x → d ≡ s * c + r + y + s * o
 value-same s c v x y o d r e f g = omega (arith, ap (λ (z : ℕ). z * s) e)
 
-module _ (s : ℕ) (m : Mirror) (hs : 1 < s) (he : EvenUnder s m) where
+module _ (s : ℕ) (m : Mirror) (hs : 1 < s) where
   -- What is shown by induction on the outer letters: the digits' value is the code with the shifts added.
   abbrev Value : ℕ → List ℕ → Type 0
   Value n w = Ranks s w → IsCanonical s m w → plain s (digits s m n w) ≡ codeRec s m n w + shift s n (differingPair s m n w) + oddShift s m n
@@ -89,39 +87,39 @@ module _ (s : ℕ) (m : Mirror) (hs : 1 < s) (he : EvenUnder s m) where
           ≡ cond t (s * codeRec s m n u + mirrorRank s m b) (s * classes s m n + pairRank s a (mirrorRank s m b) * s ^ n + plain s u)
           + shift s (suc (suc n)) (cond t (cond (eqb (differingPair s m n u) 0) 0 (suc (differingPair s m n u))) 1) + oddShift s m (suc (suc n))
       go true e =
-          rw (oddShift-suc s m n he)
+          rw (oddShift-suc s m n)
           (value-same s (codeRec s m n u) (plain s (digits s m n u)) (shift s n (differingPair s m n u)) _ (oddShift s m n) _ (mirrorRank s m b)
           (ih (inner-ranks s m n a b u l h) (canonical-inner s m n a b u l h g (eqb-true a (mirrorRank s m b) e)))
           (omega (arith, plain-snoc s (mirrorRank s m b) (digits s m n u)))
           (shift-inner s n (differingPair s m n u) hs (differingPair-le s m n u)))
       go false e =
           rw l
-          (omega (arith, pair-value s (pairRank s a (mirrorRank s m b)) (s ^ n) (s ^ suc n) (plain s u) (pow-suc s n), shift-first s m n hs he))
+          (omega (arith, pair-value s (pairRank s a (mirrorRank s m b)) (s ^ n) (s ^ suc n) (plain s u) (pow-suc s n), shift-first s m n hs))
 
 zero-value : (s : ℕ) (m : Mirror) → 0 ≡ 0 + shift s 0 0 + oddShift s m 0
 unfolding shift oddShift isOdd
 zero-value s Reversal = refl
 zero-value s Complement = refl
 
-one-value : (s : ℕ) (m : Mirror) → EvenUnder s m → (a : ℕ) → a < s → a ≤ mirrorRank s m a → mirrorRank s m a ≡ middleOfCode s m a + shift s 1 0 + oddShift s m 1
-unfolding mirrorRank middleOfCode shift oddShift isOdd halfUp
-one-value s Reversal he a h g = omega arith
-one-value s Complement he a h g = omega (arith, pow-one s)
+one-value : (s : ℕ) (m : Mirror) (a : ℕ) → a < s → a ≤ mirrorRank s m a → mirrorRank s m a ≡ middleOfCode s m a + shift s 1 0 + oddShift s m 1
+unfolding mirrorRank middleOfCode shift
+one-value s Reversal a h g = omega (arith, oddShift-reversal s 1)
+one-value s Complement a h g = omega (arith, oddShift-one s)
 
-module _ (s : ℕ) (m : Mirror) (hs : 1 < s) (he : EvenUnder s m) where
-  value-zero : Value s m hs he 0 []
+module _ (s : ℕ) (m : Mirror) (hs : 1 < s) where
+  value-zero : Value s m hs 0 []
   unfolding digits codeRec differingPair plain
   value-zero h g = zero-value s m
 
-  value-one : (a : ℕ) → Value s m hs he 1 (a ∷ [])
+  value-one : (a : ℕ) → Value s m hs 1 (a ∷ [])
   unfolding digits codeRec differingPair
-  value-one a h g = plain-one s (mirrorRank s m a) ∙ one-value s m he a (h .0) (canonical-one s m a g)
+  value-one a h g = plain-one s (mirrorRank s m a) ∙ one-value s m a (h .0) (canonical-one s m a g)
 
   -- The value of a canonical word's digits is its code by recursion, which is its code (`code-is` below), with the shift and the odd-k subtraction
   -- added: neither subtraction is cut off.
   pub value : (n : ℕ) (w : List ℕ) → length w ≡ n → Ranks s w → IsCanonical s m w
       → plain s (digits s m n w) ≡ codeRec s m n w + shift s n (differingPair s m n w) + oddShift s m n
-  value = ends (Value s m hs he) value-zero value-one (value-step s m hs he)
+  value = ends (Value s m hs) value-zero value-one (value-step s m hs)
 
   -- The code of a canonical word is the one by recursion.
   pub code-is : (n : ℕ) (w : List ℕ) → length w ≡ n → Ranks s w → IsCanonical s m w → codeOfCanonical s m n w ≡ codeRec s m n w

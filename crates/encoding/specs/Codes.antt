@@ -18,6 +18,7 @@ pairRank s l r = l * (2 * s - 3 - l) / 2 + r - 1
 --   l < r: .. The digits are R/s rounded down plus 1, then R mod s, then the inner letters by plain rank.
 --   Scanning stops at the first pair whose digits differ.
 --   One letter left: digit r. None left: no digit."
+-- "A self-mirrored middle letter gives its rank as the digit" (document 02, K10): its r is its rank.
 unfoldable pub digits : ℕ → Mirror → ℕ → List ℕ → List ℕ
 digits s m zero w = []
 digits s m (suc zero) w = mirrorRank s m (getD w 0 0) ∷ []
@@ -41,10 +42,11 @@ unfoldable pub shift : ℕ → ℕ → ℕ → ℕ
 shift s k zero = 0
 shift s k (suc i) = (s ^ (k - suc i) - s ^ halfUp k) / 2
 
--- "Under complement with odd k, s^c / 2 is subtracted as well, always."
+-- "Under complement with odd k, s^c / 2 is subtracted as well, always." With odd s: "For odd k the extra subtraction becomes (s − 1)/2 times
+-- s^(k/2 rounded down)" (document 02, K10).
 unfoldable pub oddShift : ℕ → Mirror → ℕ → ℕ
 oddShift s Reversal k = 0
-oddShift s Complement k = cond (isOdd k) (s ^ halfUp k / 2) 0
+oddShift s Complement k = cond (isOdd k) (cond (isOdd s) ((s - 1) / 2 * s ^ (k / 2)) (s ^ halfUp k / 2)) 0
 
 -- "The k digits read in base s, less a shift, are the code", of a canonical word of k letters.
 unfoldable pub codeOfCanonical : ℕ → Mirror → ℕ → List ℕ → ℕ

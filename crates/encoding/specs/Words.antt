@@ -19,7 +19,7 @@ pub record IsWord (s k : ℕ) (w : List ℕ) : Type 0 where
   pub letters : length w ≡ k
   pub ranks : Ranks s w
 
--- "replace rank i by s − 1 − i": what the mirror makes of one rank.
+-- "replace rank i by s − 1 − i": what the mirror makes of one rank. "With odd s the middle rank is then its own mirror" (document 02, K10).
 unfoldable pub mirrorRank : ℕ → Mirror → ℕ → ℕ
 mirrorRank s Reversal i = i
 mirrorRank s Complement i = s - 1 - i

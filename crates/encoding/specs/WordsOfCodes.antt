@@ -22,7 +22,7 @@ pairOfRank (suc t) R =
 -- The canonical word of one letter with code q.
 unfoldable pub middleOfCode : ℕ → Mirror → ℕ → ℕ
 middleOfCode s Reversal q = q
-middleOfCode s Complement q = s / 2 - 1 - q
+middleOfCode s Complement q = (s - 1) / 2 - q
 
 -- The canonical word of n letters with code q. The lowest s * classes(n - 2) codes are those of words with equal outer letters.
 unfoldable pub wordOf : ℕ → Mirror → ℕ → ℕ → List ℕ

@@ -98,7 +98,7 @@ no-fault : fileFault (bytes ">*\n\nAxN\n>b 1\r\n>-\r") ≡ none
 unfolding isLetter lfNext lineItem item next itemsFrom faultFrom
 no-fault = refl
 
--- "Checks go in number order": 1 to 4, then 10 or 11. Ground 6, which comes between them, is of files too long to be written here: `long-file` in
+-- "Checks go in number order": the settings' grounds, then 10 or 11. Ground 6, which comes between them, is of files too long to be written here: `long-file` in
 -- ScanGrounds shows it.
 bad-letters : groundBeforeStray (bytes "AA") 0 2 ≡ some (1, 0)
 unfolding groundBeforeStray
@@ -108,10 +108,6 @@ bad-mirror : groundBeforeStray (bytes "ACG") 0 2 ≡ some (2, 0)
 unfolding groundBeforeStray
 bad-mirror = refl
 
-odd-complement : groundBeforeStray (bytes "ACG") 0 1 ≡ some (3, 0)
-unfolding groundBeforeStray
-odd-complement = refl
-
 bad-k : groundBeforeStray (bytes "ACGT") 32 1 ≡ some (4, 0)
 unfolding groundBeforeStray
 bad-k = refl
@@ -119,6 +115,15 @@ bad-k = refl
 bad-byte : groundBeforeStray (bytes "ACGT") 31 1 ≡ some (10, 0)
 unfolding groundBeforeStray
 bad-byte = refl
+
+-- "Refusal 3 then never occurs" (document 02, K10): an odd number of letters under complement is no ground, up to the largest k.
+odd-bad-k : groundBeforeStray (bytes "ACG") 40 1 ≡ some (4, 0)
+unfolding groundBeforeStray
+odd-bad-k = refl
+
+odd-bad-byte : groundBeforeStray (bytes "ACG") 39 1 ≡ some (10, 0)
+unfolding groundBeforeStray
+odd-bad-byte = refl
 
 -- ---- windows and numbers
 

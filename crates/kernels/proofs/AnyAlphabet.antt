@@ -9,7 +9,6 @@ use native.Mathlib.Numerals.{add-one}
 use native.Mathlib.Omega.{arith}
 use lib.Arith.{digits-div}
 use lib.ListN.{length, getD}
-use Rattle.settings.specs.Limits.{EvenUnder}
 use Rattle.laws.proofs.Powers.{pow-one, pow-fits}
 use Rattle.settings.proofs.Limits.{k-at-most, limits-less}
 use Rattle.encoding.specs.Words.{Mirror, mirrorRank, mirror, plain}
@@ -23,7 +22,7 @@ use Rattle.kernels.proofs.Parts.{ranks-at, part-cons, plain-more, plain
 use Rattle.kernels.proofs.FirstWindows.{Opened}
 use Rattle.kernels.proofs.WindowEnds.{code-lt, differ-is, same-is, forward-is, back-is, palindromes-within}
 
-module _ {s : ℕ} {m : Mirror} {k : ℕ} {pw d : List ℕ} (I : Input s m k pw d) where
+module _ {s k : ℕ} {pw d : List ℕ} (I : Input s k pw d) where
   pub k-lt : k < 64
   k-lt = omega (arith, k-at-most (I .limits))
 
@@ -34,9 +33,6 @@ module _ {s : ℕ} {m : Mirror} {k : ℕ} {pw d : List ℕ} {j : ℕ} {t : Inner
   two : 1 < s
   two = W .input .limits .two
 
-  even : EvenUnder s m
-  even = W .input .limits .even
-
   pub rank-lt : (i : ℕ) → i < length d → getD d i 0 < s
   rank-lt i h = ranks-at s d i (W .input .ranks) h
 
@@ -44,7 +40,7 @@ module _ {s : ℕ} {m : Mirror} {k : ℕ} {pw d : List ℕ} {j : ℕ} {t : Inner
   mirror-lt i h = mirrorRank-lt s m (getD d i 0) (rank-lt i h)
 
   pub code-fits : code s m k (part j k d) < 2 ^ 62
-  code-fits = lt-of-lt-of-le (code-lt s m two even d (W .input .ranks) j k (W .inside)) (W .input .limits .small)
+  code-fits = lt-of-lt-of-le (code-lt s m two d (W .input .ranks) j k (W .inside)) (W .input .limits .small)
 
   pub outer-lt : {l r : ℕ} → OuterPair s m k d j l r → (l < s) × (r < s)
   outer-lt O = (rw (O .first) (rank-lt j (omega (arith, O .two, W .inside))), rw (O .last) (mirror-lt (j + k - 1) (omega (arith, O .two, W .inside))))
@@ -57,13 +53,13 @@ module _ {s : ℕ} {m : Mirror} {k : ℕ} {pw d : List ℕ} {j : ℕ} {t : Inner
       → (top + t .palindromes) / 2 + R * low + w ≡ code s m k (part j k d)
   differing-is w R top low O ne chosen eR et el =
       rw (et, el)
-      (differ-is s m two even d (W .input .ranks) j k (j + k - 1) (t .forward) (t .back) w (t .palindromes) R (O .two) (W .inside) refl
+      (differ-is s m two d (W .input .ranks) j k (j + k - 1) (t .forward) (t .back) w (t .palindromes) R (O .two) (W .inside) refl
       (W .ahead) (W .behind) (W .count)
       (rw (O .first, O .last) at ne) (rw (O .first, O .last) at (chosen .0)) (rw (O .first, O .last) at (chosen .1)) (rw (O .first, O .last) at eR))
 
   -- ---- the window within
 
-  inner-input : 2 ≤ k → Input s m (k - 2) pw d
+  inner-input : 2 ≤ k → Input s (k - 2) pw d
   inner-input h =
       record {
         limits = limits-less (W .input .limits) (omega arith);
@@ -90,13 +86,13 @@ module _ {s : ℕ} {m : Mirror} {k : ℕ} {pw d : List ℕ} {j : ℕ} {t : Inner
   pub first-le : (x q : ℕ) → 4 ≤ k → q ≡ s ^ (k - 3) → x ≡ getD d (j + 1) 0 → (x < s) × (x * q ≤ t .forward)
   first-le x q h e g = (
     rw g (rank-lt (j + 1) (omega (arith, W .inside))),
-    rw (g, e, add-one) (forward-is s m two even d (W .input .ranks) j k (t .forward) h (W .inside) (W .ahead) .0),
+    rw (g, e, add-one) (forward-is s m two d (W .input .ranks) j k (t .forward) h (W .inside) (W .ahead) .0),
   )
 
   pub last-le : (x q : ℕ) → 4 ≤ k → q ≡ s ^ (k - 3) → x ≡ mirrorRank s m (getD d (j + k - 2) 0) → (x < s) × (x * q ≤ t .back)
   last-le x q h e g = (
     rw g (mirror-lt (j + k - 2) (omega (arith, W .inside))),
-    rw (g, e) (back-is s m two even d (W .input .ranks) j k (t .back) (j + k - 2) h (W .inside) refl (W .behind) .0),
+    rw (g, e) (back-is s m two d (W .input .ranks) j k (t .back) (j + k - 2) h (W .inside) refl (W .behind) .0),
   )
 
   pub within-long : (e f b q x y : ℕ) → 4 ≤ k → e ≡ t .palindromes / s → q ≡ s ^ (k - 3) → x ≡ getD d (j + 1) 0 → y ≡ mirrorRank s m (getD d (j + k - 2) 0)
@@ -108,14 +104,14 @@ module _ {s : ℕ} {m : Mirror} {k : ℕ} {pw d : List ℕ} {j : ℕ} {t : Inner
         input = inner-input (omega arith);
         inside = omega (arith, W .inside);
         count = ee ∙ palindromes-within s m k (t .palindromes) two (omega arith) (W .count);
-        ahead = ef ∙ rw (ex, eq, add-one) (forward-is s m two even d (W .input .ranks) j k (t .forward) h (W .inside) (W .ahead) .1);
-        behind = eb ∙ rw (ey, eq, add-one) (back-is s m two even d (W .input .ranks) j k (t .back) (j + k - 2) h (W .inside) refl (W .behind) .1);
+        ahead = ef ∙ rw (ex, eq, add-one) (forward-is s m two d (W .input .ranks) j k (t .forward) h (W .inside) (W .ahead) .1);
+        behind = eb ∙ rw (ey, eq, add-one) (back-is s m two d (W .input .ranks) j k (t .back) (j + k - 2) h (W .inside) refl (W .behind) .1);
       }
 
   equal-is : {l r : ℕ} → OuterPair s m k d j l r → l ≡ r → code s m k (part j k d) ≡ s * code s m (k - 2) (part (j + 1) (k - 2) d) + l
   equal-is O e =
       rw (O .first, add-one)
-      (same-is s m two even d (W .input .ranks) j k (j + k - 1) (O .two) (W .inside) refl (sym (O .first) ∙ e ∙ O .last))
+      (same-is s m two d (W .input .ranks) j k (j + k - 1) (O .two) (W .inside) refl (sym (O .first) ∙ e ∙ O .last))
 
 -- ---- the scan: after some equal pairs n letters are left, from place a
 
@@ -158,7 +154,7 @@ module _ {s : ℕ} {m : Mirror} {k : ℕ} {pw d : List ℕ} {j : ℕ} {t : Inner
   pub scan-none : n < 2 → n ≢ 1 → closing ≡ code s m k (part j k d)
   scan-none h g =
       let z : n ≡ 0 = omega arith in
-      let q : code s m n (part a n d) ≡ 0 = rw z (code-none s m (S .window .input .limits .two) (S .window .input .limits .even)) in
+      let q : code s m n (part a n d) ≡ 0 = rw z (code-none s m (S .window .input .limits .two)) in
       sym (S .rest ∙ rw q (omega arith))
 
 -- ---- the next window
@@ -236,7 +232,7 @@ module _ {s : ℕ} {m : Mirror} {k : ℕ} {pw d : List ℕ} {j : ℕ} {t : Inner
 
 -- ---- the first window: its inner letters, from place 1, are taken in
 
-module _ {s : ℕ} {m : Mirror} {k : ℕ} {pw d : List ℕ} (I : Input s m k pw d) {n u v i : ℕ} (en : n ≡ k - 2) (O : Opened s m d 1 n u v i) where
+module _ {s : ℕ} {m : Mirror} {k : ℕ} {pw d : List ℕ} (I : Input s k pw d) {n u v i : ℕ} (en : n ≡ k - 2) (O : Opened s m d 1 n u v i) where
   pub first-window-is : k ≤ length d → (e : ℕ) → e ≡ palindromes s m k → n ≤ i → Window s m k pw d 0 (record { palindromes = e; forward = u; back = v })
   first-window-is long e q h =
       let i-is : i ≡ k - 2 = omega (arith, O .upto) in

@@ -22,7 +22,7 @@ module _ (letters : List ℕ) (k m : ℕ) (good : settingsGround letters k m ≡
       record {
         limits = L;
         some = good-settings letters k m good .some-k;
-        count = omega (arith, twice-classes (length letters) (mirrorOf m) k (L .even));
+        count = omega (arith, twice-classes (length letters) (mirrorOf m) k);
         takes = takes;
         table = P;
       }
@@ -47,7 +47,7 @@ module _ (letters : List ℕ) (k m : ℕ) (good : settingsGround letters k m ≡
         let L = limits letters k m good in
         let c : st .classes ≡ classes (length letters) (mirrorOf m) k = ap (λ (x : Settings). x .classes) is in
         let w : st .words ≡ length letters ^ k = ap (λ (x : Settings). x .words) is in
-        let twice = twice-classes (length letters) (mirrorOf m) k (L .even) in
+        let twice = twice-classes (length letters) (mirrorOf m) k in
         let le = palindromes-le (length letters) (mirrorOf m) k (L .two) in
         (omega (arith, c, twice, le, L .small), omega (arith, c, w, twice))
 

@@ -13,7 +13,6 @@ use lib.Count.{leadingZeros, leading-length}
 use lib.Pow.{pow-add}
 use lib.ListN.{length}
 use Rattle.settings.specs.Settings.{classes}
-use Rattle.settings.specs.Limits.{EvenUnder}
 use Rattle.laws.proofs.DigitWindows.{window}
 use Rattle.encoding.specs.Words.{Mirror, Complement, Ranks, mirror, plain}
 use Rattle.encoding.specs.Codes.{pairRank, code}
@@ -102,9 +101,6 @@ differ-at a b z h e =
 four-two : 1 < 4
 four-two = omega arith
 
-four-even : EvenUnder 4 Complement
-four-even = refl
-
 by-two : (k : ℕ) (w : List ℕ) → length w ≡ k → Ranks 4 w → (p : ℕ)
     → Agree 4 k (min (plain 4 w) (plain 4 (mirror 4 Complement w))) (max (plain 4 w) (plain 4 (mirror 4 Complement w))) p
     → code 4 Complement k w ≡ byRanks 4 Complement k p (min (plain 4 w) (plain 4 (mirror 4 Complement w))) (max (plain 4 w) (plain 4 (mirror 4 Complement w)))
@@ -121,7 +117,7 @@ by-two k w l h p g =
           let b : max (plain 4 w) (plain 4 (mirror 4 Complement w)) ≡ plain 4 w = omega arith in
           let mm : mirror 4 Complement (mirror 4 Complement w) ≡ w = mirror-mirror 4 Complement k w l h in
           rw (a, b)
-          (sym (code-mirror 4 Complement four-two four-even k w l h)
+          (sym (code-mirror 4 Complement four-two k w l h)
           ∙ low (mirror 4 Complement w) (length-mirror 4 Complement w ∙ l) (Ranks-mirror 4 Complement k w l h) (rw mm (omega arith)) (rw mm (rw (a, b) at g))
           ∙ rw mm)
     ]
@@ -130,7 +126,7 @@ by-two k w l h p g =
         → code 4 Complement k v ≡ byRanks 4 Complement k p (plain 4 v) (plain 4 (mirror 4 Complement v))
     low v lv hv gv A =
         rw (canonical-low 4 Complement v gv)
-        (code-by-ranks 4 Complement four-two four-even k v lv hv gv
+        (code-by-ranks 4 Complement four-two k v lv hv gv
         ∙ rw (agree-at 4 Complement four-two k v lv hv p A))
 
 -- ---- the formulas
@@ -164,7 +160,7 @@ differing-value n p k e a b ek ee =
     (ap (λ (x : ℕ). x + (4 ^ p - 1 - a % 4 ^ p))
     (pair-total 4 (4 ^ p) (4 ^ n) (classes 4 Complement n) (palindromes 4 Complement n)
     (pairRank 4 (a / 4 ^ suc (p + n) % 4) (b / 4 ^ suc (p + n) % 4)) (a / 4 ^ suc p % 4 ^ n) (4 ^ suc (p + n)) e
-    (twice-classes 4 Complement n four-even) top E
+    (twice-classes 4 Complement n) top E
     ∙ rw (pow-add 4 p n, low) (omega arith)))
 
 middle-value : (p k a b : ℕ) → k ≡ 2 * p + 1 → byRanks 4 Complement k p a b ≡ (1 - a / 4 ^ p % 4) * 4 ^ p + (4 ^ p - 1 - a % 4 ^ p)
@@ -186,7 +182,7 @@ digit-lt A B e h = omega arith
 
 module _ {k e : ℕ} {d : List ℕ} {j x y : ℕ} (W : TwoBitWindow k e d j x y) where
   pub two-fits : code 4 Complement k (part j k d) < 2 ^ 62
-  two-fits = lt-of-lt-of-le (code-lt 4 Complement four-two four-even d (W .input .ranks) j k (W .inside)) (four-fits k (W .input .small))
+  two-fits = lt-of-lt-of-le (code-lt 4 Complement four-two d (W .input .ranks) j k (W .inside)) (four-fits k (W .input .small))
 
   x-lt : x < 4 ^ k
   x-lt = rw (W .ahead) (part-lt 4 j k d (W .input .ranks) (W .inside))

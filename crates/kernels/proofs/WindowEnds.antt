@@ -11,7 +11,6 @@ use native.Mathlib.Omega.{arith}
 use lib.ListN.{length, getD}
 use lib.Arith.{digits-div, lt-of-le-ne}
 use Rattle.settings.specs.Settings.{classes}
-use Rattle.settings.specs.Limits.{EvenUnder}
 use Rattle.encoding.specs.Words.{Mirror, Ranks, mirrorRank, mirror, plain}
 use Rattle.encoding.specs.Codes.{pairRank, code}
 use Rattle.encoding.specs.Needs.{palindromes}
@@ -37,9 +36,9 @@ peeled s f q x g u h e =
     let k : u - f * q ≡ x * s + g = omega arith in
     (omega arith, rw k (digits-div x h))
 
-module _ (s : ℕ) (m : Mirror) (hs : 1 < s) (he : EvenUnder s m) (d : List ℕ) (hd : Ranks s d) (j : ℕ) where
+module _ (s : ℕ) (m : Mirror) (hs : 1 < s) (d : List ℕ) (hd : Ranks s d) (j : ℕ) where
   pub code-lt : (k : ℕ) → j + k ≤ length d → code s m k (part j k d) < s ^ k
-  code-lt k inside = omega (arith, code-below s m hs he k (part j k d) (length-part j k d inside) (ranks-part s j k d hd), classes-le s m k hs he)
+  code-lt k inside = omega (arith, code-below s m hs k (part j k d) (length-part j k d inside) (ranks-part s j k d hd), classes-le s m k hs)
 
   module _ (n : ℕ) (inside : j + suc (suc n) ≤ length d) where
     abbrev first : ℕ
@@ -68,20 +67,20 @@ module _ (s : ℕ) (m : Mirror) (hs : 1 < s) (he : EvenUnder s m) (d : List ℕ)
         ∙ h
         ∙ omega (
           arith,
-          pair-total s 1 (s ^ n) (classes s m n) (palindromes s m n) R x (s ^ suc n) e (twice-classes s m n he)
+          pair-total s 1 (s ^ n) (classes s m n) (palindromes s m n) R x (s ^ suc n) e (twice-classes s m n)
               (omega (arith, pow-suc s n)) (omega (arith, g, palindromes-suc s m n)),
         )
 
     less : (e : ℕ) → e ≡ palindromes s m (suc (suc n)) → first < mirrorRank s m last
         → code s m (suc (suc n)) (part j (suc (suc n)) d) ≡ (s ^ suc n + e) / 2 + pairRank s first (mirrorRank s m last) * s ^ n + plain s inner
-    less e g h = differ e (pairRank s first (mirrorRank s m last)) (plain s inner) g (code-less s m hs he n first last inner len outer-ranks h)
+    less e g h = differ e (pairRank s first (mirrorRank s m last)) (plain s inner) g (code-less s m hs n first last inner len outer-ranks h)
 
     more : (e : ℕ) → e ≡ palindromes s m (suc (suc n)) → mirrorRank s m last < first
         → code s m (suc (suc n)) (part j (suc (suc n)) d) ≡ (s ^ suc n + e) / 2 + pairRank s (mirrorRank s m last) first * s ^ n + plain s (mirror s m inner)
-    more e g h = differ e (pairRank s (mirrorRank s m last) first) (plain s (mirror s m inner)) g (code-more s m hs he n first last inner len outer-ranks h)
+    more e g h = differ e (pairRank s (mirrorRank s m last) first) (plain s (mirror s m inner)) g (code-more s m hs n first last inner len outer-ranks h)
 
     same : first ≡ mirrorRank s m last → code s m (suc (suc n)) (part j (suc (suc n)) d) ≡ s * code s m n inner + first
-    same e = ap (code s m (suc (suc n))) outer ∙ code-same s m hs he n first last inner len outer-ranks e
+    same e = ap (code s m (suc (suc n))) outer ∙ code-same s m hs n first last inner len outer-ranks e
 
     forward-ends : plain s (part j (suc (suc n)) d) ≡ first * s ^ suc n + plain s inner * s + last
     forward-ends = ap (plain s) outer ∙ plain-ends s n first last inner len
@@ -91,7 +90,7 @@ module _ (s : ℕ) (m : Mirror) (hs : 1 < s) (he : EvenUnder s m) (d : List ℕ)
 
 -- ---- the same by the number k of letters, as the code has it
 
-module _ (s : ℕ) (m : Mirror) (hs : 1 < s) (he : EvenUnder s m) (d : List ℕ) (hd : Ranks s d) (j : ℕ) where
+module _ (s : ℕ) (m : Mirror) (hs : 1 < s) (d : List ℕ) (hd : Ranks s d) (j : ℕ) where
   pub differ-is : (k i u v w e R : ℕ) → 2 ≤ k → j + k ≤ length d → i ≡ j + k - 1
       → u ≡ plain s (part (suc j) (k - 2) d)
       → v ≡ plain s (mirror s m (part (suc j) (k - 2) d))
@@ -113,12 +112,12 @@ module _ (s : ℕ) (m : Mirror) (hs : 1 < s) (he : EvenUnder s m) (d : List ℕ)
         | yes p ↦
             let a : min (getD d j 0) (mirrorRank s m (getD d i 0)) ≡ getD d j 0 = omega arith in
             let b : max (getD d j 0) (mirrorRank s m (getD d i 0)) ≡ mirrorRank s m (getD d i 0) = omega arith in
-            sym (less s m hs he d hd j n inside e ee (rw i-is at p) ∙ rw (wu p, eu, k2, eR, a, b, i-is))
+            sym (less s m hs d hd j n inside e ee (rw i-is at p) ∙ rw (wu p, eu, k2, eR, a, b, i-is))
         | no np ↦
             let q : mirrorRank s m (getD d i 0) < getD d j 0 = lt-of-le-ne (omega arith) (λ same. ne (sym same)) in
             let a : min (getD d j 0) (mirrorRank s m (getD d i 0)) ≡ mirrorRank s m (getD d i 0) = omega arith in
             let b : max (getD d j 0) (mirrorRank s m (getD d i 0)) ≡ getD d j 0 = omega arith in
-            sym (more s m hs he d hd j n inside e ee (rw i-is at q) ∙ rw (wv (omega arith), ev, k2, eR, a, b, i-is))
+            sym (more s m hs d hd j n inside e ee (rw i-is at q) ∙ rw (wv (omega arith), ev, k2, eR, a, b, i-is))
       ])
 
   pub same-is : (k i : ℕ) → 2 ≤ k → j + k ≤ length d → i ≡ j + k - 1 → getD d j 0 ≡ mirrorRank s m (getD d i 0)
@@ -128,7 +127,7 @@ module _ (s : ℕ) (m : Mirror) (hs : 1 < s) (he : EvenUnder s m) (d : List ℕ)
   same-is (suc (suc n)) i h inside at e =
       let i-is : i ≡ j + suc n = omega arith in
       let k2 : suc (suc n) - 2 ≡ n = omega arith in
-      rw k2 (same s m hs he d hd j n inside (rw i-is at e))
+      rw k2 (same s m hs d hd j n inside (rw i-is at e))
 
   -- The inner window's plain ranks, from those of this one.
   pub forward-is : (k u : ℕ) → 4 ≤ k → j + k ≤ length d → u ≡ plain s (part (suc j) (k - 2) d)
@@ -141,7 +140,7 @@ module _ (s : ℕ) (m : Mirror) (hs : 1 < s) (he : EvenUnder s m) (d : List ℕ)
       rw (k4, k3)
       (peeled s (getD d (suc j) 0) (s ^ suc (k - 4)) (plain s (part (suc (suc j)) (k - 4) d)) (getD d (suc j + suc (k - 4)) 0) u
       (ranks-at s d (suc j + suc (k - 4)) hd (omega arith))
-      ((rw k2 at e) ∙ forward-ends s m hs he d hd (suc j) (k - 4) at))
+      ((rw k2 at e) ∙ forward-ends s m hs d hd (suc j) (k - 4) at))
 
   pub back-is : (k v i : ℕ) → 4 ≤ k → j + k ≤ length d → i ≡ j + k - 2 → v ≡ plain s (mirror s m (part (suc j) (k - 2) d))
       → (mirrorRank s m (getD d i 0) * s ^ (k - 3) ≤ v)
@@ -156,7 +155,7 @@ module _ (s : ℕ) (m : Mirror) (hs : 1 < s) (he : EvenUnder s m) (d : List ℕ)
       (peeled s (mirrorRank s m (getD d (suc j + suc (k - 4)) 0)) (s ^ suc (k - 4)) (plain s (mirror s m (part (suc (suc j)) (k - 4) d)))
       (mirrorRank s m (getD d (suc j) 0)) v
       (mirrorRank-lt s m (getD d (suc j) 0) (ranks-at s d (suc j) hd (omega arith)))
-      ((rw k2 at e) ∙ back-ends s m hs he d hd (suc j) (k - 4) at))
+      ((rw k2 at e) ∙ back-ends s m hs d hd (suc j) (k - 4) at))
 
 -- The number of palindromes of the inner window's length.
 pub palindromes-within : (s : ℕ) (m : Mirror) (k e : ℕ) → 1 < s → 2 ≤ k → e ≡ palindromes s m k → e / s ≡ palindromes s m (k - 2)

@@ -32,14 +32,14 @@ abbrev pub CountsPalindromes : ℕ → Mirror → ℕ → ℕ → Type 0
 CountsPalindromes s m k n = n ≡ palindromes s m k
 
 -- Settings within the limits, their powers, and a list of ranks.
-pub record Input (s : ℕ) (m : Mirror) (k : ℕ) (powers d : List ℕ) : Type 0 where
-  pub limits : Limits s m k
+pub record Input (s k : ℕ) (powers d : List ℕ) : Type 0 where
+  pub limits : Limits s k
   pub table : Powers s k powers
   pub ranks : Ranks s d
 
 -- A window of k letters at place j, with what is kept of it.
 pub record Window (s : ℕ) (m : Mirror) (k : ℕ) (powers d : List ℕ) (j : ℕ) (t : Inner) : Type 0 where
-  pub input : Input s m k powers d
+  pub input : Input s k powers d
   pub inside : j + k ≤ length d
   pub count : t .palindromes ≡ palindromes s m k
   pub ahead : t .forward ≡ plain s (part (suc j) (k - 2) d)
@@ -92,7 +92,7 @@ coderOf kernel k st = record { kernel = kernel; s = st .s; k = k; mirror = st .m
 
 -- Good settings as a kernel takes them, with the powers of s.
 pub record ReadyCoder (c : Coder) (powers : List ℕ) : Type 0 where
-  pub limits : Limits (c .s) (c .mirror) (c .k)
+  pub limits : Limits (c .s) (c .k)
   pub some : 1 ≤ c .k
   pub count : c .palindromes ≡ palindromes (c .s) (c .mirror) (c .k)
   pub takes : Takes (c .kernel) (c .s) (c .mirror)

@@ -12,7 +12,6 @@ ghost use mathlib.Core.Logic.{_≢_};
 ghost use mathlib.Core.List.{[], _∷_};
 ghost use Prim.Native.Nat.{_+_, _-_, _/_, _^_, _<_, _≤_};
 ghost use lib.ListN.{length, getD};
-ghost use Rattle.settings.specs.Limits.{EvenUnder};
 ghost use Rattle.encoding.specs.Words.{Ranks, mirrorRank};
 ghost use Rattle.encoding.specs.Codes.{code};
 ghost use Rattle.kernels.specs.Windows.{windowCodes};
@@ -69,18 +68,13 @@ fn divided(y: u64, s: u64) -> u64
 fn middle_code(s: u64, m: Mirror, x: u64) -> u64
     requires { ⌜ 1 < s ⌝ }
     requires { ⌜ x < s ⌝ }
-    requires { ⌜ EvenUnder s m ⌝ }
     ensures { λ r. ⌜ r ≡ code s m 1 (x ∷ []) ⌝ }
 {
     match m {
         Mirror::Reversal => x,
         Mirror::Complement => {
             let half = s / 2;
-            if x < half {
-                half - 1 - x
-            } else {
-                x - (s - half)
-            }
+            if x < half { (s - 1) / 2 - x } else { x - half }
         }
     }
 }
@@ -238,7 +232,7 @@ fn first_window(
     powers: &[u64; 64],
     palindromes: u64,
 ) -> Inner
-    requires { ⌜ Input s m k (now powers) (now ranks) ⌝ }
+    requires { ⌜ Input s k (now powers) (now ranks) ⌝ }
     requires { ⌜ k ≤ length (now ranks) ⌝ }
     requires { ⌜ CountsPalindromes s m k palindromes ⌝ }
     ensures { λ r. ⌜ Window s m k (now (powers .entry)) (now (ranks .entry)) 0 r ⌝ }
@@ -301,7 +295,7 @@ pub fn fill(
     palindromes: u64,
     out: &mut [u64],
 )
-    requires { ⌜ Input s m k (now powers) (now ranks) ⌝ }
+    requires { ⌜ Input s k (now powers) (now ranks) ⌝ }
     requires { ⌜ 1 ≤ k ⌝ }
     requires { ⌜ CountsPalindromes s m k palindromes ⌝ }
     requires { ⌜ length (now ranks) + 1 - k ≤ length (now out) ⌝ }

@@ -1,5 +1,6 @@
--- What the proofs of the C calls cite; last, the theorem of demand 3 of these calls.
+-- What the proofs of the C calls cite; last, the theorem of demand 3 of these calls, and which refusals each of them gives.
 pub mod Refusals
 pub mod Adding
 pub mod Listings
 pub mod DemandThree
+pub mod RefusalNumbers

@@ -12,7 +12,7 @@ use borrow.Author.Tests.{eqb-true, not-false}
 use Rattle.laws.specs.Windows.{windows}
 use Rattle.laws.proofs.Windows.{length-windows}
 use Rattle.settings.specs.declared.Refusal.{Refusal}
-use Rattle.settings.specs.declared.Refusal.the-variants.{BadLetters, BadMirror, OddComplement, BadK, WrongLength, TooLarge, ShortBuffer, NoSuchCode, ForeignByte, StrayByte, EarlyLetter, CountsFull, NoSurveyLine, LongInput}
+use Rattle.settings.specs.declared.Refusal.the-variants.{BadLetters, BadMirror, BadK, WrongLength, TooLarge, ShortBuffer, NoSuchCode, ForeignByte, StrayByte, EarlyLetter, CountsFull, NoSurveyLine, LongInput}
 use Rattle.settings.specs.Grounds.{Ground, Outcome, refused, groundOf, ground, groundAt, tooShort, outcome, _orElse_, Overwrites}
 use Rattle.settings.specs.Settings.{rankIn, settingsGround}
 use Rattle.settings.proofs.Outcomes.{refused-is, test-fails, not-too-large}
@@ -28,7 +28,6 @@ use Rattle.kmer.specs.Needs.{PlaceFits}
 pub number-small : (f : Refusal) → groundOf f .0 ≤ 14
 number-small BadLetters = omega arith
 number-small BadMirror = omega arith
-number-small OddComplement = omega arith
 number-small BadK = omega arith
 number-small WrongLength = omega arith
 number-small TooLarge = omega arith

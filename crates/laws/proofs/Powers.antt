@@ -59,6 +59,11 @@ parity s (suc n) =
 pub even-pow : (s n : ℕ) → s % 2 ≡ 0 → (t : ℕ) × (s ^ suc n ≡ 2 * t)
 even-pow s n h = let (t, e) = parity s n in (s / 2 + t, omega arith)
 
+-- A power of an odd s is odd.
+pub odd-pow : (s n : ℕ) → s % 2 ≡ 1 → (t : ℕ) × (s ^ n ≡ 1 + 2 * t)
+odd-pow s zero h = (0, omega (arith, pow-zero s))
+odd-pow s (suc n) h = let (t, e) = parity s n in (s / 2 + t, omega arith)
+
 -- Two powers, the first not below the second, differ by an even number.
 pub gap : (s a b : ℕ) → 1 < s → b ≤ a → (d : ℕ) × (s ^ suc a ≡ s ^ suc b + 2 * d)
 gap s a b h g =

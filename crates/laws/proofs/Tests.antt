@@ -1,6 +1,6 @@
--- Laws of tests: a value that a test decides, tests that are equal, the second of two that fail together, and what is so of a number past the test for 0.
+-- Laws of tests: a value that a test decides, tests that are equal, and what is so of a number past the test for 0.
 use mathlib.Core.Path.{_≡_, refl, sym}
-use mathlib.Core.Bool.{Bool, true, false, cond, _&&_, false≢true}
+use mathlib.Core.Bool.{Bool, true, false, cond}
 use Prim.Native.Nat.{ℕ, zero, suc}
 
 -- What both sides of a test have, its value has.
@@ -13,11 +13,6 @@ pub bool-ext : (x y : Bool) → (x ≡ true → y ≡ true) → (y ≡ true → 
 bool-ext true y h g = sym (h refl)
 bool-ext false true h g = g refl
 bool-ext false false h g = refl
-
--- Where it is false that both hold and the first does, the second is false.
-pub second-fails : (a b : Bool) → (a && b) ≡ false → a ≡ true → b ≡ false
-second-fails true b e f = e
-second-fails false b e f = absurd (false≢true f)
 
 -- What is so of every number that is one more than another is so of every number other than 0.
 pub past-zero : (P : ℕ → Type 0) → ((n : ℕ) → P (suc n)) → (n : ℕ) → (n ≡ 0 → ⊥) → P n

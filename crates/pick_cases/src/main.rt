@@ -39,11 +39,11 @@ fn long_words() {
     );
 }
 
-// Grounds 1 to 4: an empty part.
+// The settings' grounds, 1, 2 and 4: an empty part.
 fn bad_settings() {
     show(b"ACGA", 2, 0, b"AC", b"CA");
     show(b"ACGT", 2, 2, b"AC", b"CA");
-    show(b"ACG", 2, 1, b"AC", b"CA");
+    show(b"ACGT", 0, 1, b"", b"");
     show(
         b"ACGT",
         32,
@@ -76,6 +76,14 @@ fn drawn_words() {
     show(b"HUZYTELQWOC", 4, 0, b"LwWt", b"EThH");
 }
 
+// The same under complement with odd s.
+fn drawn_words_of_odd_alphabets() {
+    show(b"BQLMP", 4, 1, b"PQMB", b"LBLB");
+    show(b"YINXHTU", 9, 1, b"NHIHnNTNH", b"nhihNntnh");
+    show(b"MYJKLVTHW", 1, 1, b"L", b"w");
+    show(b"ABC", 2, 1, b"B", b"CA");
+}
+
 fn main() {
     equal_words();
     lower_words();
@@ -83,4 +91,5 @@ fn main() {
     bad_settings();
     bad_words();
     drawn_words();
+    drawn_words_of_odd_alphabets();
 }

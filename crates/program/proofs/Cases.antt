@@ -38,16 +38,15 @@ outputOf input = programText (bytes input)
 abbrev Gives : String → String → Type 0
 Gives input output = outputOf input ≡ bytes output
 
--- The refusals of inputs that start with no survey line (13), and of settings (1 to 4).
+-- The refusals of inputs that start with no survey line (13), and of settings (1, 2 and 4).
 refusals :
     Gives "" "(refused 13 0)\n"
     × Gives "(survey (letters ACGT) (k 2))\n>a\nAC\n" "(refused 13 0)\n"
     × Gives "(survey (letters ACCT) (k 2) (mirror complement))\n" "(refused 1 0)\n"
     × Gives "(survey (letters ACGT) (k 2) (mirror inverse))\n" "(refused 2 0)\n"
-    × Gives "(survey (letters ACGTN) (k 2) (mirror complement))\n" "(refused 3 0)\n"
     × Gives "(survey (letters ACGT) (k 0) (mirror complement))\n" "(refused 4 0)\n"
 unfolding outputOf
-refusals = (refl, refl, refl, refl, refl, refl)
+refusals = (refl, refl, refl, refl, refl)
 
 -- Too many classes for any table; too many for the program's; a stray byte and an early letter, with their offsets in the file.
 more-refusals :
@@ -65,3 +64,11 @@ worked-example :
     ++ bytes "(file (records 2) (letters 9) (foreign 1) (edge 2) (windows 6))\n"
 unfolding outputOf
 worked-example = refl
+
+-- Document 02, K10: three letters under complement. B, its own mirror, has the code 0, A and C have the code 1.
+odd-alphabet :
+    outputOf "(survey (letters ABC) (k 1) (mirror complement))\n>a\nABCB\n"
+    ≡ bytes "(survey (letters ABC) (k 1) (mirror complement))\n(count B 2)\n(count A 2)\n(total 4)\n"
+    ++ bytes "(file (records 1) (letters 4) (foreign 0) (edge 0) (windows 4))\n"
+unfolding outputOf
+odd-alphabet = refl

@@ -1,3 +1,4 @@
--- Computed cases, and laws of the program's output.
+-- Computed cases, laws of the program's output, and that it never prints refusal 3.
 pub mod Cases
 pub mod Outputs
+pub mod RefusalNumbers

@@ -49,8 +49,8 @@ no-code letters k m good word l = go (allLetters letters word)
         let n : length (ranksOf letters word) ≡ k = length-ranksOf letters word ∙ l in
         omega (
           arith,
-          code-below (length letters) (mirrorOf m) (L .two) (L .even) k (ranksOf letters word) n (ranks-below letters word (omega (arith, L .two))),
-          classes-le (length letters) (mirrorOf m) k (L .two) (L .even),
+          code-below (length letters) (mirrorOf m) (L .two) k (ranksOf letters word) n (ranks-below letters word (omega (arith, L .two))),
+          classes-le (length letters) (mirrorOf m) k (L .two),
           L .small,
         )
 

@@ -33,7 +33,7 @@ codeOrNone letters k m word = cond (allLetters letters word) (code (length lette
 unfoldable pub sequenceCodes : (letters : List ℕ) (k mirror : ℕ) (sequence : List ℕ) → List ℕ
 sequenceCodes letters k m sequence = map (codeOrNone letters k m) (windows k sequence)
 
--- The grounds 1 to 4 of the settings; 6, "plain sequence above 16,777,216 bytes"; 7, "a lent buffer too short; P is the length needed".
+-- The grounds of the settings; 6, "plain sequence above 16,777,216 bytes"; 7, "a lent buffer too short; P is the length needed".
 unfoldable pub sequenceGround : (letters : List ℕ) (k mirror : ℕ) (sequence : List ℕ) (room : ℕ) → Option Ground
 sequenceGround letters k m sequence room =
     settingsGround letters k m

@@ -1,10 +1,11 @@
 -- The number of classes as `class_count` works it out from s^k and s^(k/2), and ground 4 from the power that stops above 2^62.
-use mathlib.Core.Path.{_≡_, ap}
+use mathlib.Core.Path.{_≡_, refl, ap}
 use Prim.Native.Nat.{ℕ, suc, _+_, _*_, _/_, _%_, _^_, _<_, _≤_, min}
-use native.Mathlib.Nat.{pow-suc}
+use native.Mathlib.Nat.{pow-suc, mul-le-mul-left}
 use native.Mathlib.Omega.{arith}
-use mathlib.Core.Bool.{true, false}
-use borrow.Author.Tests.{eq-eqb, ne-eqb, lt-ltb, le-ltb}
+use mathlib.Core.Bool.{Bool, true, false, not, cond}
+use lib.Dec.{eqb}
+use borrow.Author.Tests.{eq-eqb, ne-eqb, eqb-true, eqb-false, lt-ltb, le-ltb}
 use Rattle.laws.proofs.Powers.{pow-fits}
 use Rattle.settings.proofs.Powers.{capped}
 use Rattle.settings.specs.declared.Mirror.the-variants.{Reversal, Complement}
@@ -42,9 +43,21 @@ module _ (s k words half : ℕ) (p : Powered s k words half) where
       let c : (k + 1) / 2 ≡ k / 2 = omega arith in
       rw (c, words-is, half-is)
 
-  pub odd-complement : k % 2 ≡ 1 → words / 2 ≡ classes s Complement k
+  -- Under complement they are no more than s^(k/2): s^(k/2) where s is odd, and none where s is even.
+  pub odd-complement-fits : half * (s % 2) ≤ half
+  odd-complement-fits =
+      let at-most-one : s % 2 ≤ 1 = omega arith in
+      omega (arith, mul-le-mul-left half at-most-one)
+
+  pub odd-complement : k % 2 ≡ 1 → (words + half * (s % 2)) / 2 ≡ classes s Complement k
   unfolding classes isOdd
-  odd-complement e = rw (eq-eqb (k % 2) 1 e, words-is)
+  odd-complement e = rw (eq-eqb (k % 2) 1 e, words-is, half-is) (go (eqb (s % 2) 1) refl)
+    where
+      go : (b : Bool) → eqb (s % 2) 1 ≡ b → (s ^ k + s ^ (k / 2) * (s % 2)) / 2 ≡ cond (not b) (s ^ k / 2) ((s ^ k + s ^ (k / 2)) / 2)
+      go true f = rw (eqb-true (s % 2) 1 f) (omega arith)
+      go false f =
+          let even : s % 2 ≡ 0 = omega (arith, eqb-false (s % 2) 1 f) in
+          rw even (omega arith)
 
   pub even-complement : (k % 2 ≡ 1 → ⊥) → (words + half) / 2 ≡ classes s Complement k
   unfolding classes isOdd

@@ -1,31 +1,81 @@
--- How large the P of a refusal can be: P of grounds, one after the other, is at most n where each one's is. Calls that put P into one number
--- with their answer cite this.
-use mathlib.Core.Path.{_≡_, refl, sym}
-use mathlib.Core.Bool.{Bool, true, false, not, cond, _&&_}
+-- What every ground of a call has, the first that applies has: a P of at most n, on which calls rest that put P into one number with their
+-- answer; or a number that is one of a list.
+use mathlib.Core.Path.{_≡_, refl, subst}
+use mathlib.Core.Bool.{Bool, true, false, not, cond}
 use mathlib.Core.Option.{Option, none, some}
 use mathlib.Core.List.{List}
 use Prim.Native.Nat.{ℕ, _≤_}
 use native.Mathlib.Omega.{arith}
-use lib.Dec.{eqb, ltb}
+use lib.Dec.{ltb}
 use lib.ListN.{length}
 use Rattle.settings.specs.Grounds.{Ground, ground, groundAt, tooShort, _orElse_}
-use Rattle.settings.specs.Settings.{goodLetters, isOdd, badSize, settingsGround}
+use Rattle.settings.specs.Settings.{isIn, goodLetters, badSize, settingsGround}
+
+-- The ground that applies, where one does, has the property Q.
+abbrev pub Has : (Ground → Type 0) → Option Ground → Type 0
+Has Q g = (f : Ground) → g ≡ some f → Q f
+
+module _ (Q : Ground → Type 0) where
+  pub none-has : Has Q none
+  none-has f e = absurd (let z : _≡_ {A = ℕ} 0 1 = cc in omega arith)
+
+  pub some-has : (g : Ground) → Q g → Has Q (some g)
+  some-has g h f e = let z : g ≡ f = cc in subst Q z h
+
+  pub test-has : (i : ℕ) (t : Bool) → Q (i, 0) → Has Q (ground i t)
+  test-has i true h = some-has (i, 0) h
+  test-has i false h = none-has
+
+  pub place-has : (i : ℕ) (o : Option ℕ) → ((p : ℕ) → o ≡ some p → Q (i, p)) → Has Q (groundAt i o)
+  place-has i none h = none-has
+  place-has i (some p) h = some-has (i, p) (h p refl)
+
+  -- The later grounds count only where the first does not apply.
+  pub then-has : (g later : Option Ground) → Has Q g → (g ≡ none → Has Q later) → Has Q (g orElse later)
+  then-has none later a b = b refl
+  then-has (some h) later a b = a
+
+  -- The settings' grounds are 1, 2 and 4, with the P 0.
+  pub settings-has : (letters : List ℕ) (k m : ℕ) → Q (1, 0) → Q (2, 0) → Q (4, 0) → Has Q (settingsGround letters k m)
+  unfolding settingsGround
+  settings-has letters k m one two four =
+      let g2 = ground 2 (ltb 1 m) in
+      let g4 = ground 4 (badSize (length letters) k) in
+      then-has (ground 1 (not (goodLetters letters))) (g2 orElse g4) (test-has 1 (not (goodLetters letters)) one)
+      (λ _. then-has g2 g4 (test-has 2 (ltb 1 m) two) (λ _. test-has 4 (badSize (length letters) k) four))
+
+  -- Many calls have 6 by some test and 7 for some length after these.
+  pub sizes-has : (letters : List ℕ) (k m : ℕ) (large : Bool) (room needed : ℕ) → Q (1, 0) → Q (2, 0) → Q (4, 0) → Q (6, 0) → ((p : ℕ) → Q (7, p))
+      → Has Q (settingsGround letters k m orElse ground 6 large orElse groundAt 7 (tooShort room needed))
+  sizes-has letters k m large room needed one two four six seven =
+      let g7 = groundAt 7 (tooShort room needed) in
+      then-has (settingsGround letters k m) (ground 6 large orElse g7) (settings-has letters k m one two four)
+      (λ _. then-has (ground 6 large) g7 (test-has 6 large six) (λ _. place-has 7 (tooShort room needed) (λ p _. seven p)))
+
+-- ---- a number of a list, so that `Has (NumberIn ns)` is `RefusedOnlyBy ns`
+
+abbrev pub NumberIn : List ℕ → Ground → Type 0
+NumberIn ns f = isIn (f .0) ns ≡ true
+
+-- ---- a P of at most n
+
+abbrev PlaceUpTo : ℕ → Ground → Type 0
+PlaceUpTo n f = f .1 ≤ n
 
 abbrev pub Small : ℕ → Option Ground → Type 0
-Small n g = (f : Ground) → g ≡ some f → f .1 ≤ n
+Small n g = Has (PlaceUpTo n) g
 
 pub test-small : (n i : ℕ) (t : Bool) → Small n (ground i t)
-test-small n i true f e = let z : (i, 0) ≡ f = cc in rw (sym z) (omega arith)
-test-small n i false f e = absurd (let z : _≡_ {A = ℕ} 0 1 = cc in omega arith)
+test-small n i t = test-has (PlaceUpTo n) i t (omega arith)
 
 pub place-small : (n i : ℕ) (o : Option ℕ) → ((p : ℕ) → o ≡ some p → p ≤ n) → Small n (groundAt i o)
-place-small n i none h f e = absurd (let z : _≡_ {A = ℕ} 0 1 = cc in omega arith)
-place-small n i (some p) h f e = let z : (i, p) ≡ f = cc in rw (sym z) (h p refl)
+place-small n i o h = place-has (PlaceUpTo n) i o h
 
--- The later grounds count only where the first does not apply.
 pub then-small : (n : ℕ) (g later : Option Ground) → Small n g → (g ≡ none → Small n later) → Small n (g orElse later)
-then-small n none later a b f e = b refl f e
-then-small n (some h) later a b f e = a f e
+then-small n g later a b = then-has (PlaceUpTo n) g later a b
+
+pub settings-small : (letters : List ℕ) (k m n : ℕ) → Small n (settingsGround letters k m)
+settings-small letters k m n = settings-has (PlaceUpTo n) letters k m (omega arith) (omega arith) (omega arith)
 
 -- The P of ground 7 is the length needed.
 pub room-small : (room k : ℕ) → (p : ℕ) → tooShort room k ≡ some p → p ≤ k
@@ -34,15 +84,3 @@ room-small room k p e = go (ltb room k) e
     go : (t : Bool) → cond t (some k) none ≡ some p → p ≤ k
     go true f = let z : k ≡ p = cc in omega arith
     go false f = absurd (let z : _≡_ {A = ℕ} 0 1 = cc in omega arith)
-
--- The grounds 1 to 4 have the P 0.
-pub settings-small : (letters : List ℕ) (k m n : ℕ) → Small n (settingsGround letters k m)
-unfolding settingsGround
-settings-small letters k m n =
-    let g2 = ground 2 (ltb 1 m) in
-    let g3 = ground 3 (eqb m 1 && isOdd (length letters)) in
-    let g4 = ground 4 (badSize (length letters) k) in
-    then-small n (ground 1 (not (goodLetters letters))) (g2 orElse g3 orElse g4) (test-small n 1 (not (goodLetters letters)))
-    (λ _. then-small n g2 (g3 orElse g4) (test-small n 2 (ltb 1 m))
-    (λ _. then-small n g3 g4 (test-small n 3 (eqb m 1 && isOdd (length letters)))
-    (λ _. test-small n 4 (badSize (length letters) k))))

@@ -9,17 +9,16 @@ use lib.Dec.{ltb}
 use Rattle.settings.specs.declared.Filling.{Filling}
 use Rattle.settings.specs.declared.Filling.the-variants.{Filled, Unfilled}
 use Rattle.settings.specs.declared.Refusal.{Refusal}
-use Rattle.settings.specs.declared.Refusal.the-variants.{BadLetters, BadMirror, OddComplement, BadK, WrongLength, TooLarge, ShortBuffer, NoSuchCode, ForeignByte, StrayByte, EarlyLetter, CountsFull, NoSurveyLine, LongInput}
+use Rattle.settings.specs.declared.Refusal.the-variants.{BadLetters, BadMirror, BadK, WrongLength, TooLarge, ShortBuffer, NoSuchCode, ForeignByte, StrayByte, EarlyLetter, CountsFull, NoSurveyLine, LongInput}
 
 -- "Each .. gives its number and P": the number, then P.
 abbrev pub Ground : Type 0
 Ground = ℕ × ℕ
 
--- The number and P of each refusal; P "is 0 unless stated".
+-- The number and P of each refusal; P "is 0 unless stated". The number 3 is reserved: "Refusal 3 then never occurs" (document 02, K10).
 abbrev pub groundOf : Refusal → Ground
 groundOf BadLetters = (1, 0)
 groundOf BadMirror = (2, 0)
-groundOf OddComplement = (3, 0)
 groundOf BadK = (4, 0)
 groundOf WrongLength = (5, 0)
 groundOf TooLarge = (6, 0)

@@ -1,5 +1,6 @@
--- Document 01, "Letters, k and mirror", with the grounds 1 to 4 for refusing settings.
+-- Document 01, "Letters, k and mirror", with the grounds for refusing settings, as document 02, K10 changes them.
 use Prim.Native.Nat.{ℕ, zero, suc, _+_, _-_, _/_, _%_, _^_}
+use mathlib.Core.Path.{_≡_}
 use mathlib.Core.Bool.{Bool, true, false, not, cond, _&&_, _||_}
 use mathlib.Core.Option.{Option, none, some}
 use mathlib.Core.List.{List, [], _∷_}
@@ -18,7 +19,7 @@ use Rattle.settings.specs.Grounds.{Ground, Outcome, given, refused, grou
 unfoldable pub isCapital : ℕ → Bool
 isCapital b = leb 65 b && leb b 90
 
--- Whether b is one of some bytes.
+-- Whether b is one of some bytes or numbers.
 unfoldable pub isIn : ℕ → List ℕ → Bool
 isIn b [] = false
 isIn b (c ∷ cs) = eqb c b || isIn b cs
@@ -50,7 +51,7 @@ abbrev pub mirrorOf : ℕ → Mirror
 mirrorOf zero = Reversal
 mirrorOf (suc n) = Complement
 
--- "odd k"
+-- "odd k", "odd s"
 unfoldable pub isOdd : ℕ → Bool
 isOdd n = eqb (n % 2) 1
 
@@ -58,22 +59,26 @@ isOdd n = eqb (n % 2) 1
 unfoldable pub halfUp : ℕ → ℕ
 halfUp k = (k + 1) / 2
 
--- "Number of classes: reversal, (s^k + s^c) / 2 with c = k/2 rounded up; complement, s^k / 2 for odd k and (s^k + s^(k/2)) / 2 for even k."
+-- "Number of classes: reversal, (s^k + s^c) / 2 with c = k/2 rounded up; complement, s^k / 2 for odd k and (s^k + s^(k/2)) / 2 for even k." Under
+-- complement with odd s, for odd and even k: "The number of classes is (s^k + s^(k/2 rounded down)) / 2" (document 02, K10).
 unfoldable pub classes : ℕ → Mirror → ℕ → ℕ
 classes s Reversal k = (s ^ k + s ^ halfUp k) / 2
-classes s Complement k = cond (isOdd k) (s ^ k / 2) ((s ^ k + s ^ (k / 2)) / 2)
+classes s Complement k = cond (isOdd k && not (isOdd s)) (s ^ k / 2) ((s ^ k + s ^ (k / 2)) / 2)
 
 -- Ground 4: "k is 0 or s^k above 2^62"
 unfoldable pub badSize : ℕ → ℕ → Bool
 badSize s k = eqb k 0 || ltb (2 ^ 62) (s ^ k)
 
--- The first of the grounds 1 to 4 that applies to the letters, k and the mirror's number.
+-- The first of the grounds 1, 2 and 4 that applies to the letters, k and the mirror's number. "Refusal 3 then never occurs" (document 02, K10).
 unfoldable pub settingsGround : List ℕ → ℕ → ℕ → Option Ground
 settingsGround letters k mirror =
     ground 1 (not (goodLetters letters))
     orElse ground 2 (ltb 1 mirror)
-    orElse ground 3 (eqb mirror 1 && isOdd (length letters))
     orElse ground 4 (badSize (length letters) k)
+
+-- The refusals on these grounds have no other numbers than those in a list.
+abbrev pub RefusedOnlyBy : (numbers : List ℕ) → Option Ground → Type 0
+RefusedOnlyBy numbers g = (f : Ground) → g ≡ some f → isIn (f .0) numbers ≡ true
 
 -- What later calls need of good settings with s letters: s, k, the mirror, s^k and the number of classes.
 abbrev pub settingsFor : ℕ → ℕ → Mirror → Settings

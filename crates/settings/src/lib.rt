@@ -13,11 +13,10 @@ pub enum Mirror {
     Complement,
 }
 
-// The grounds for refusing, in the order of their numbers 1 to 14. One that has a P other than 0 holds it.
+// The grounds for refusing, in the order of their numbers 1 to 14, of which 3 is reserved. One that has a P other than 0 holds it.
 pub enum Refusal {
     BadLetters,
     BadMirror,
-    OddComplement,
     BadK,
     WrongLength,
     TooLarge,
@@ -44,7 +43,6 @@ pub fn number_of(f: Refusal) -> u64
     match f {
         Refusal::BadLetters => 1,
         Refusal::BadMirror => 2,
-        Refusal::OddComplement => 3,
         Refusal::BadK => 4,
         Refusal::WrongLength => 5,
         Refusal::TooLarge => 6,
@@ -66,7 +64,6 @@ pub fn place_of(f: Refusal) -> u64
     match f {
         Refusal::BadLetters => 0,
         Refusal::BadMirror => 0,
-        Refusal::OddComplement => 0,
         Refusal::BadK => 0,
         Refusal::WrongLength => 0,
         Refusal::TooLarge => 0,
@@ -222,7 +219,8 @@ pub fn power(s: u64, k: usize) -> u64
     p
 }
 
-// The number of classes. Words that fit 62 bits are asked, so that no product and no sum wraps.
+// The number of classes: half of the words and the palindromes. A palindrome is its first k/2 letters and for odd k a middle letter that is its own
+// mirror: under reversal any, under complement the middle one of an odd s. Words that fit 62 bits are asked, so that no product and no sum wraps.
 pub fn class_count(s: u64, m: Mirror, k: usize) -> u64
     requires { ⌜ (1 < s) × (s ^ k ≤ 2 ^ 62) ⌝ }
     ensures { λ r. ⌜ r ≡ classes s m k ⌝ }
@@ -239,7 +237,7 @@ pub fn class_count(s: u64, m: Mirror, k: usize) -> u64
         }
         Mirror::Complement => {
             if k % 2 == 1 {
-                words / 2
+                (words + half * (s % 2)) / 2
             } else {
                 (words + half) / 2
             }
@@ -270,7 +268,7 @@ fn sized(n: usize, k: usize, m: Mirror) -> Checked
     })
 }
 
-// The settings, or the first of the grounds 1 to 4 that applies.
+// The settings, or the first of the grounds 1, 2 and 4 that applies.
 pub fn check(letters: &[u8], k: usize, mirror: u64) -> Checked
     ensures { λ r.
         ⌜ ofChecked r ≡ outcome (settingsGround (now (letters .entry)) k mirror) (settingsOf (now (letters .entry)) k mirror) ⌝ }
@@ -281,13 +279,7 @@ pub fn check(letters: &[u8], k: usize, mirror: u64) -> Checked
     let n = letters.len();
     match mirror {
         0 => sized(n, k, Mirror::Reversal),
-        1 => {
-            if n % 2 == 1 {
-                Checked::Bad(Refusal::OddComplement)
-            } else {
-                sized(n, k, Mirror::Complement)
-            }
-        }
+        1 => sized(n, k, Mirror::Complement),
         _ => Checked::Bad(Refusal::BadMirror),
     }
 }

@@ -26,11 +26,11 @@ use Rattle.tally.proofs.WordLists.{class-same, same-class}
 use Rattle.tally.proofs.FileWords.{windows-are-words}
 
 -- The codes of some words are below the number of classes.
-pub codes-below : {s : ℕ} {m : Mirror} {k : ℕ} → Limits s m k → (ws : List (List ℕ)) → Each (IsWord s k) ws → Each (Below (classes s m k)) (map (code s m k) ws)
-codes-below {s} {m} {k} within ws words = each-map (IsWord s k) (Below (classes s m k)) (code s m k) ws (code-below-classes s m k within) words
+pub codes-below : {s k : ℕ} (m : Mirror) → Limits s k → (ws : List (List ℕ)) → Each (IsWord s k) ws → Each (Below (classes s m k)) (map (code s m k) ws)
+codes-below {s} {k} m within ws words = each-map (IsWord s k) (Below (classes s m k)) (code s m k) ws (code-below-classes s m k within) words
 
 module _ (letters : List ℕ) (k m : ℕ) (good : settingsGround letters k m ≡ none) where
-  within : Limits (length letters) (mirrorOf m) k
+  within : Limits (length letters) k
   within = limits letters k m good
 
   -- The place of a word is below the number of classes.
@@ -71,7 +71,7 @@ module _ (letters : List ℕ) (k m : ℕ) (good : settingsGround letters k m ≡
 
   -- The places of a file's windows are below the number of classes.
   pub places-below : (file : List ℕ) → Each (Below (classCount letters k m)) (places letters k m file)
-  places-below file = codes-below within (windowsOfFile letters k file) (windows-are-words letters k file)
+  places-below file = codes-below (mirrorOf m) within (windowsOfFile letters k file) (windows-are-words letters k file)
 
   -- The canonical word of a word, and its place.
   pub canonical-word : (w : List ℕ) → IsWord (length letters) k w → CanonicalWord (length letters) (mirrorOf m) k (canonical (length letters) (mirrorOf m) w)

@@ -31,7 +31,7 @@ module _ (letters : List ℕ) (k m : ℕ) (word : List ℕ) where
     unfolding coding
     bad-byte h i f = refused-by (9, i) _ (codeGround letters k m word) (code-foreign letters k m none-yet word h (some i) f)
 
-    pub word-within : length word ≡ k → Limits (length letters) (st .mirror) (length word)
+    pub word-within : length word ≡ k → Limits (length letters) (length word)
     word-within h = rw h (known letters k m st e .within)
 
     pub coded-word : length word ≡ k → foreignFrom letters 0 word ≡ none → (q : ℕ) → q ≡ code (length letters) (st .mirror) (length word) (ranksOf letters word)

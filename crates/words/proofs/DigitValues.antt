@@ -111,7 +111,6 @@ module _ {s : ℕ} {m : Mirror} {w : List ℕ} (L : LongCanonical s m w) where
       record {
         word = inner-of s w (L .fits .word .two) (L .fits .word .ranks) (L .fits .word .small) (length w - 1 - 1) (omega arith);
         few = L .fits .few;
-        even = L .fits .even;
         least =
             canonical-inner s m (length w - 1 - 1) (getD w 0 0) (getD w (length w - 1) 0) (take (length w - 1 - 1) (drop 1 w)) in-len whole-ranks
             whole-least e;

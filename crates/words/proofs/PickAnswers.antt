@@ -16,7 +16,7 @@ use Rattle.settings.proofs.SettingsGrounds.{limits}
 use Rattle.words.specs.Answers.{Picked}
 use Rattle.encoding.specs.Calls.{coding, codeGround, wrongLength, pickGround, ranksOf, firstPicked}
 use Rattle.words.specs.Needs.{noneApplies}
-use Rattle.encoding.specs.Words.{Reversal, plain}
+use Rattle.encoding.specs.Words.{plain}
 
 -- ---- whether a word can be coded
 
@@ -38,14 +38,13 @@ some-is none e = absurd (let z : _≡_ {A = ℕ} 0 1 = cc in omega arith)
 some-is (some f) e = (f, refl)
 
 -- A word that can be coded has a plain rank that fits.
-pub within-of : (letters : List ℕ) (k m : ℕ) (w : List ℕ) → true ≡ noneApplies (codeGround letters k m w) → Limits (length letters) Reversal (length w)
+pub within-of : (letters : List ℕ) (k m : ℕ) (w : List ℕ) → true ≡ noneApplies (codeGround letters k m w) → Limits (length letters) (length w)
 unfolding codeGround
 within-of letters k m w e =
     let n = none-is _ e in
     let long-enough = test-fails 5 (wrongLength k w) (first-none _ _ (later-none (settingsGround letters k m) _ n)) in
     let l : length w ≡ k = eqb-true (length w) k (not-false _ long-enough) in
-    let s = limits letters k m (first-none _ _ n) in
-    rw l (record { two = s .two; few = s .few; even = tt; small = s .small })
+    rw l (limits letters k m (first-none _ _ n))
 
 -- ---- the part that is handed back
 

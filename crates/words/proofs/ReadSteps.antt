@@ -8,14 +8,14 @@ use borrow.Rule.Slice.PartMut.{putMid}
 use lib.ListN.{set, length, take, drop, length-append, length-set, replicate}
 use lib.Seq.{set-split, drop-length, drop-cons, getD-set-same, drop-set-lt, length-take-le, drop-at}
 use Rattle.settings.specs.Limits.{Limits}
-use Rattle.settings.specs.Settings.{classes, isOdd}
+use Rattle.settings.specs.Settings.{classes}
 use Rattle.settings.proofs.Limits.{k-at-most, limits-less}
 use Rattle.laws.proofs.Each.{each-append}
-use Rattle.laws.proofs.Powers.{pairCount, square, pow-one, pow-pos, pow-two-more}
+use Rattle.laws.proofs.Powers.{pairCount, square, pow-pos, pow-two-more}
 use Rattle.laws.proofs.Buffers.{front-is, front-fits, front-length}
 use Rattle.encoding.specs.Calls.{inCapitals}
 use Rattle.words.specs.Needs.{RankOfPair, FitHighCode}
-use Rattle.encoding.specs.Words.{plain, Ranks, Complement, Mirror, mirrorRank}
+use Rattle.encoding.specs.Words.{plain, Ranks, Mirror, mirrorRank}
 use Rattle.encoding.specs.WordsOfCodes.{wordOf, wordOfPlain, pairOfRank, middleOfCode}
 use Rattle.encoding.proofs.Bijection.{word-low, word-high}
 use Rattle.encoding.proofs.ClassNumbers.{classes-le, classes-suc}
@@ -97,12 +97,6 @@ unfolding pairCount
 rank-less zero R h g = absurd (omega arith)
 rank-less (suc t) R h g = let e : suc t - 1 ≡ t = omega arith in rw e (omega arith)
 
--- ---- the middle
-
-pub middle-lt : (s q : ℕ) → q < classes s Complement 1 → q < s / 2
-unfolding classes isOdd
-middle-lt s q h = omega (arith, ap (λ (x : ℕ). x / 2) (pow-one s))
-
 -- ---- the word with its ends set and its inside written
 
 -- X is the word with its ends set.
@@ -146,7 +140,7 @@ module _ (s : ℕ) (m : Mirror) (out : List ℕ) (h : 2 ≤ length out) where
       ∙ rw (et, el, er, z) (sym (word-high s m (length out - 2) q))
       ∙ ap (λ (n : ℕ). wordOf s m n (s * classes s m (length out - 2) + q)) (sym two-more)
 
-  module _ (f : Limits s m (length out)) where
+  module _ (f : Limits s (length out)) where
     pow-le : s ^ (length out - 2) * s * s ≤ 2 ^ 62
     pow-le =
         let g : s ^ suc (suc (length out - 2)) ≤ 2 ^ 62 = subst (λ (n : ℕ). s ^ n ≤ 2 ^ 62) two-more (f .small) in
@@ -154,10 +148,10 @@ module _ (s : ℕ) (m : Mirror) (out : List ℕ) (h : 2 ≤ length out) where
 
     pub low-small : s * classes s m (length out - 2) ≤ 2 ^ 62
     low-small =
-        let g : classes s m (length out - 2) ≤ s ^ (length out - 2) = classes-le s m (length out - 2) (f .two) (f .even) in
+        let g : classes s m (length out - 2) ≤ s ^ (length out - 2) = classes-le s m (length out - 2) (f .two) in
         omega (arith, mul-le-mul-left s g, pow-le, mul-le-mul-left (s ^ (length out - 2) * s) (f .two))
 
-    pub inner-limits : (n : ℕ) → n ≡ length out - 2 → Limits s m n
+    pub inner-limits : (n : ℕ) → n ≡ length out - 2 → Limits s n
     inner-limits n e = limits-less f (omega arith)
 
     pub inner-lt : (q : ℕ) → q < s * classes s m (length out - 2) → (n : ℕ) → n ≡ length out - 2 → q / s < classes s m n
@@ -167,7 +161,7 @@ module _ (s : ℕ) (m : Mirror) (out : List ℕ) (h : 2 ≤ length out) where
         rw e (div-lt-iff-lt-mul pos .1 k)
 
     all-classes : classes s m (length out) ≡ s * classes s m (length out - 2) + pairCount s * s ^ (length out - 2)
-    all-classes = ap (classes s m) two-more ∙ classes-suc s m (length out - 2) (f .even)
+    all-classes = ap (classes s m) two-more ∙ classes-suc s m (length out - 2)
 
 -- A code that is q above those of equal outer letters, and p as `power` gives it.
 module _ {s : ℕ} {m : Mirror} {out : List ℕ} {q : ℕ} (F : FitHighCode s m out q) {p : ℕ} (z : p ≡ s ^ (length out - 2)) where
@@ -200,7 +194,7 @@ one-word s m q (a ∷ []) e x f = ap (λ (y : ℕ). y ∷ []) f
 one-word s m q (a ∷ (b ∷ out)) e x f = absurd (omega arith)
 
 -- A code that is not below those of equal outer pairs.
-module _ (s : ℕ) (m : Mirror) (out : List ℕ) (two : 2 ≤ length out) (f : Limits s m (length out)) (q : ℕ)
+module _ (s : ℕ) (m : Mirror) (out : List ℕ) (two : 2 ≤ length out) (f : Limits s (length out)) (q : ℕ)
     (g : q < classes s m (length out)) (n : ℕ) (e : n ≡ classes s m (length out - 2)) (h : s * n ≤ q) where
   pub upper : FitHighCode s m out (q - s * n)
   upper = record { limits = f; long = two; below = omega (arith, ap (λ (x : ℕ). s * x) e) }
@@ -217,19 +211,19 @@ module _ (s : ℕ) (m : Mirror) (out : List ℕ) (two : 2 ≤ length out) (f : L
 abbrev pub zeros : List ℕ
 zeros = replicate 64 0
 
-pub zeros-length : {s : ℕ} {m : Mirror} {k : ℕ} → Limits s m k → length (take k zeros) ≡ k
-zeros-length {s} {m} {k} f = length-take-le k zeros (omega (arith, k-at-most f))
+pub zeros-length : {s k : ℕ} → Limits s k → length (take k zeros) ≡ k
+zeros-length {s} {k} f = length-take-le k zeros (omega (arith, k-at-most f))
 
-module _ (letters : List ℕ) (k : ℕ) (m : Mirror) (q : ℕ) (f : Limits (length letters) m k) (g : q < classes (length letters) m k) where
+module _ (letters : List ℕ) (k : ℕ) (m : Mirror) (q : ℕ) (f : Limits (length letters) k) (g : q < classes (length letters) m k) where
   pub word-length : length (wordOf (length letters) m k q) ≡ k
-  word-length = length-wordOf (length letters) m (f .two) (f .even) k q g
+  word-length = length-wordOf (length letters) m (f .two) k q g
 
   word-ranks : Ranks (length letters) (wordOf (length letters) m k q)
-  word-ranks = ranks-wordOf (length letters) m (f .two) (f .even) k q g
+  word-ranks = ranks-wordOf (length letters) m (f .two) k q g
 
 -- The places w that `fill_word` wrote over the first k zeros.
 pub record FilledWord (letters : List ℕ) (k : ℕ) (m : Mirror) (q : ℕ) (w : List ℕ) : Type 0 where
-  pub within : Limits (length letters) m k
+  pub within : Limits (length letters) k
   pub below : q < classes (length letters) m k
   pub holds : w ≡ wordOf (length letters) m (length (take k zeros)) q
 

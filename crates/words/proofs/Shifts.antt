@@ -2,10 +2,11 @@
 use mathlib.Core.Path.{ap, _≡_, refl, _∙_, sym}
 use mathlib.Core.List.{List}
 use Prim.Native.Nat.{ℕ, _<_, _≤_, _^_, min, _-_, _*_, _+_, suc, _/_, _%_}
-use native.Mathlib.Nat.{pow-le-pow-right}
+use native.Mathlib.Nat.{pow-suc, pow-le-pow-right, mul-le-mul-right}
 use native.Mathlib.Omega.{arith}
 use borrow.Author.Tests.{lt-leb, le-leb, ne-eqb, eq-eqb}
 use lib.ListN.{length}
+use Rattle.laws.proofs.Powers.{pow-fits}
 use Rattle.settings.specs.Settings.{halfUp, isOdd}
 use Rattle.settings.proofs.Powers.{capped}
 use Rattle.encoding.specs.Codes.{shift, oddShift, digits, differingPair, codeOfCanonical}
@@ -13,6 +14,7 @@ use Rattle.encoding.specs.Needs.{equalPairs}
 use Rattle.words.specs.Needs.{pairAfter, FitCanonical}
 use Rattle.encoding.specs.Words.{Reversal, Complement, Mirror, plain}
 use Rattle.encoding.proofs.ByRanks.{equalPairs-le}
+use Rattle.encoding.proofs.ClassNumbers.{oddShift-reversal, oddShift-odd, oddShift-even}
 use Rattle.encoding.proofs.Recursion.{value}
 use Rattle.words.proofs.Scan.{differingPair-is}
 
@@ -37,18 +39,26 @@ module _ (s k p : ℕ) (fits : 2 * p ≤ k) where
 
 module _ (s k : ℕ) where
   pub odd-reversal : 0 ≡ oddShift s Reversal k
-  unfolding oddShift
-  odd-reversal = refl
+  odd-reversal = sym (oddShift-reversal s k)
 
   pub even-complement : (k % 2 ≡ 1 → ⊥) → 0 ≡ oddShift s Complement k
-  unfolding oddShift isOdd
-  even-complement h = rw (ne-eqb (k % 2) 1 h)
+  unfolding isOdd
+  even-complement h = sym (oddShift-even s k (ne-eqb (k % 2) 1 h))
 
-  pub odd-complement : 1 < s → s ^ k ≤ 2 ^ 62 → k % 2 ≡ 1 → (p : ℕ) → p ≡ min (s ^ (k - k / 2)) 4611686018427387905 → p / 2 ≡ oddShift s Complement k
-  unfolding oddShift isOdd halfUp
-  odd-complement hs hk h p e =
-      let f : k - k / 2 ≡ (k + 1) / 2 = omega arith in
-      rw (eq-eqb (k % 2) 1 h, capped s k (k - k / 2) p hs (omega arith) hk e, f)
+  -- p is s^(k/2 rounded down) as `power` gives it.
+  module _ (hs : 1 < s) (hk : s ^ k ≤ 2 ^ 62) (odd : k % 2 ≡ 1) (p : ℕ) (e : p ≡ min (s ^ (k / 2)) 4611686018427387905) where
+    p-is : p ≡ s ^ (k / 2)
+    p-is = capped s k (k / 2) p hs (omega arith) hk e
+
+    pub odd-complement : s / 2 * p ≡ oddShift s Complement k
+    unfolding isOdd
+    odd-complement = rw p-is (sym (oddShift-odd s k (eq-eqb (k % 2) 1 odd)))
+
+    pub odd-fits : s / 2 * p ≤ 2 ^ 62
+    odd-fits =
+        let fits : s ^ suc (k / 2) ≤ 2 ^ 62 = pow-fits s (suc (k / 2)) k hs (omega arith) hk in
+        let half : s / 2 ≤ s = omega arith in
+        rw p-is (omega (arith, pow-suc s (k / 2), mul-le-mul-right (s ^ (k / 2)) half))
 
 -- ---- the code of a canonical word
 
@@ -61,7 +71,7 @@ module _ {s : ℕ} {m : Mirror} {w : List ℕ} (c : FitCanonical s m w) {at sh o
   shift-is = f ∙ ap (λ (p : ℕ). shift s (length w) (pairAfter (length w) p)) e ∙ ap (shift s (length w)) (sym (differingPair-is s m (length w) w refl))
 
   pub enough : sh + odd ≤ v
-  enough = omega (arith, value s m (c .word .two) (c .even) (length w) w refl (c .word .ranks) (c .least), shift-is)
+  enough = omega (arith, value s m (c .word .two) (length w) w refl (c .word .ranks) (c .least), shift-is)
 
   pub code-is-this : v - sh - odd ≡ codeOfCanonical s m (length w) w
   unfolding codeOfCanonical

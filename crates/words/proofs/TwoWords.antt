@@ -17,12 +17,16 @@ use Rattle.encoding.proofs.Codes.{canonical-low, canonical-high}
 use Rattle.encoding.proofs.Ends.{length-mirror}
 use Rattle.words.proofs.LetterLoops.{ranks-below, length-ranksOf}
 
-module _ (letters word : List ℕ) (m : Mirror) (f : Limits (length letters) m (length word)) where
-  as-word : FitWord (length letters) (ranksOf letters word)
-  as-word = record { two = f .two; ranks = ranks-below letters word (omega (arith, f .two)); small = rw (length-ranksOf letters word) (f .small) }
+as-word : (letters word : List ℕ) → Limits (length letters) (length word) → FitWord (length letters) (ranksOf letters word)
+as-word letters word f =
+    record { two = f .two; ranks = ranks-below letters word (omega (arith, f .two)); small = rw (length-ranksOf letters word) (f .small) }
+
+module _ (letters word : List ℕ) (m : Mirror) (f : Limits (length letters) (length word)) where
+  own-ranks : Ranks (length letters) (ranksOf letters word)
+  own-ranks = as-word letters word f .ranks
 
   mirror-ranks : Ranks (length letters) (mirror (length letters) m (ranksOf letters word))
-  mirror-ranks = Ranks-mirror (length letters) m (length (ranksOf letters word)) (ranksOf letters word) refl (as-word .ranks)
+  mirror-ranks = Ranks-mirror (length letters) m (length (ranksOf letters word)) (ranksOf letters word) refl own-ranks
 
   mirror-len : length (mirror (length letters) m (ranksOf letters word)) ≡ length word
   mirror-len = length-mirror (length letters) m (ranksOf letters word) ∙ length-ranksOf letters word
@@ -32,7 +36,7 @@ module _ (letters word : List ℕ) (m : Mirror) (f : Limits (length letters) m (
 
   own-canonical : plain (length letters) (ranksOf letters word) ≤ plain (length letters) (mirror (length letters) m (ranksOf letters word))
       → FitCanonical (length letters) m (ranksOf letters word)
-  own-canonical h = record { word = as-word; few = f .few; even = f .even; least = h }
+  own-canonical h = record { word = as-word letters word f; few = f .few; least = h }
 
   other-canonical : plain (length letters) (mirror (length letters) m (ranksOf letters word)) < plain (length letters) (ranksOf letters word)
       → FitCanonical (length letters) m (mirror (length letters) m (ranksOf letters word))
@@ -40,8 +44,7 @@ module _ (letters word : List ℕ) (m : Mirror) (f : Limits (length letters) m (
       record {
         word = as-mirror;
         few = f .few;
-        even = f .even;
-        least = rw (mirror-mirror (length letters) m (length (ranksOf letters word)) (ranksOf letters word) refl (as-word .ranks)) (omega arith);
+        least = rw (mirror-mirror (length letters) m (length (ranksOf letters word)) (ranksOf letters word) refl own-ranks) (omega arith);
       }
 
   own-code : plain (length letters) (ranksOf letters word) ≤ plain (length letters) (mirror (length letters) m (ranksOf letters word))
@@ -57,16 +60,16 @@ module _ (letters word : List ℕ) (m : Mirror) (f : Limits (length letters) m (
 
 -- ---- the array own
 
-pub record OwnArray (letters word : List ℕ) (m : Mirror) (own : List ℕ) : Type 0 where
-  pub within : Limits (length letters) m (length word)
+pub record OwnArray (letters word own : List ℕ) : Type 0 where
+  pub within : Limits (length letters) (length word)
   pub rest : List ℕ
   pub holds : own ≡ ranksOf letters word ++ rest
 
-pub as-own : (letters word : List ℕ) (m : Mirror) → Limits (length letters) m (length word) → (own d : List ℕ) → own ≡ ranksOf letters word ++ d
-    → OwnArray letters word m own
-as-own letters word m f own d e = record { within = f; rest = d; holds = e }
+pub as-own : (letters word : List ℕ) → Limits (length letters) (length word) → (own d : List ℕ) → own ≡ ranksOf letters word ++ d
+    → OwnArray letters word own
+as-own letters word f own d e = record { within = f; rest = d; holds = e }
 
-module _ {letters word : List ℕ} {m : Mirror} {own : List ℕ} (A : OwnArray letters word m own) where
+module _ {letters word own : List ℕ} (A : OwnArray letters word own) where
   pub own-is : take (length word) own ≡ ranksOf letters word
   own-is = front-is (ranksOf letters word) (A .rest) (A .holds) (length-ranksOf letters word)
 
@@ -77,7 +80,7 @@ module _ {letters word : List ℕ} {m : Mirror} {own : List ℕ} (A : OwnArray l
   own-length = front-length (ranksOf letters word) (A .rest) (A .holds) (length-ranksOf letters word)
 
   pub own-word : FitWord (length letters) (take (length word) own)
-  own-word = subst⁻¹ (FitWord (length letters)) own-is (as-word letters word m (A .within))
+  own-word = subst⁻¹ (FitWord (length letters)) own-is (as-word letters word (A .within))
 
   pub own-short : length (take (length word) own) ≤ 64
   own-short = omega (arith, own-length, k-at-most (A .within))
@@ -85,11 +88,11 @@ module _ {letters word : List ℕ} {m : Mirror} {own : List ℕ} (A : OwnArray l
 -- ---- the array other beside it
 
 pub record BothArrays (letters word : List ℕ) (m : Mirror) (own other : List ℕ) : Type 0 where
-  pub own-array : OwnArray letters word m own
+  pub own-array : OwnArray letters word own
   pub rest : List ℕ
   pub holds : other ≡ mirror (length letters) m (take (length word) own) ++ rest
 
-pub as-both : {letters word : List ℕ} {m : Mirror} {own : List ℕ} → OwnArray letters word m own → (other d : List ℕ)
+pub as-both : {letters word : List ℕ} {m : Mirror} {own : List ℕ} → OwnArray letters word own → (other d : List ℕ)
     → other ≡ mirror (length letters) m (take (length word) own) ++ d → BothArrays letters word m own other
 as-both A other d e = record { own-array = A; rest = d; holds = e }
 
@@ -128,7 +131,7 @@ pub record RankedArrays (letters word : List ℕ) (m : Mirror) (own other : List
   pub other-plain : q ≡ plain (length letters) (take (length word) other)
 
 module _ {letters word : List ℕ} {m : Mirror} {own other : List ℕ} {p q : ℕ} (R : RankedArrays letters word m own other p q) where
-  within : Limits (length letters) m (length word)
+  within : Limits (length letters) (length word)
   within = R .arrays .own-array .within
 
   p-is : p ≡ plain (length letters) (ranksOf letters word)

@@ -8,7 +8,7 @@ use lib.ListN.{length, take, drop}
 use lib.Dec.{leb}
 use Rattle.settings.specs.Grounds.{Ground}
 use Rattle.settings.specs.Settings.{classes}
-use Rattle.settings.specs.Limits.{EvenUnder, Limits}
+use Rattle.settings.specs.Limits.{Limits}
 use Rattle.encoding.specs.Words.{Mirror, Ranks, mirror, plain}
 
 -- ---- parts of a word
@@ -35,7 +35,6 @@ pub record FitWord (s : ℕ) (w : List ℕ) : Type 0 where
 pub record FitCanonical (s : ℕ) (m : Mirror) (w : List ℕ) : Type 0 where
   pub word : FitWord s w
   pub few : s ≤ 16
-  pub even : EvenUnder s m
   pub least : plain s w ≤ plain s (mirror s m w)
 
 -- A word of two letters or more, with a pair of ranks l < r for its ends.
@@ -52,7 +51,7 @@ RankOfPair s R = (1 < s) × (2 * R + s < s * s) × (s ≤ 16)
 
 -- A code of a word as long as w that is q above those of the words with equal outer letters.
 pub record FitHighCode (s : ℕ) (m : Mirror) (w : List ℕ) (q : ℕ) : Type 0 where
-  pub limits : Limits s m (length w)
+  pub limits : Limits s (length w)
   pub long : 2 ≤ length w
   pub below : s * classes s m (length w - 2) + q < classes s m (length w)
 

@@ -4,7 +4,7 @@ ghost use mathlib.Core.List.{_++_};
 ghost use Prim.Native.Nat.{_≤_};
 ghost use lib.ListN.{length, drop};
 ghost use Rattle.settings.specs.Limits.{Limits};
-ghost use Rattle.encoding.specs.Words.{Ranks, Reversal, mirror, plain};
+ghost use Rattle.encoding.specs.Words.{Ranks, mirror, plain};
 ghost use Rattle.encoding.specs.Calls.{rankAt, ranksOf, inCapitals, foreignFrom};
 ghost use Rattle.words.specs.Answers.{ofPlace};
 use crate::PlainRank;
@@ -70,7 +70,7 @@ pub fn write_letters(letters: &[u8], w: &[u64], out: &mut [u8])
 
 // Writes the mirror of a word of letters in capitals to the start of out.
 pub fn write_mirror(letters: &[u8], word: &[u8], m: Mirror, out: &mut [u8])
-    requires { ⌜ Limits (length (now letters)) m (length (now word)) × (length (now word) ≤ length (now out)) ⌝ }
+    requires { ⌜ Limits (length (now letters)) (length (now word)) × (length (now word) ≤ length (now out)) ⌝ }
     ensures { λ _.
         ⌜ now (out .exit)
         ≡ inCapitals (now (letters .entry)) (mirror (length (now (letters .entry))) m (ranksOf (now (letters .entry)) (now (word .entry))))
@@ -85,9 +85,9 @@ pub fn write_mirror(letters: &[u8], word: &[u8], m: Mirror, out: &mut [u8])
     write_letters(letters, &other[..k], out);
 }
 
-// The plain rank of a word of letters. It is the same under either mirror: so it asks for the limits of reversal, under which s may be odd.
+// The plain rank of a word of letters.
 pub fn plain_of(letters: &[u8], word: &[u8]) -> PlainRank
-    requires { ⌜ Limits (length (now letters)) Reversal (length (now word)) ⌝ }
+    requires { ⌜ Limits (length (now letters)) (length (now word)) ⌝ }
     ensures { λ r. ⌜ r .0 ≡ plain (length (now (letters .entry))) (ranksOf (now (letters .entry)) (now (word .entry))) ⌝ }
 {
     let k = word.len();

@@ -86,7 +86,7 @@ fn odd_shift(s: u64, m: Mirror, k: usize) -> u64
         Mirror::Reversal => 0,
         Mirror::Complement => {
             if k % 2 == 1 {
-                settings::power(s, k - k / 2) / 2
+                s / 2 * settings::power(s, k / 2)
             } else {
                 0
             }
@@ -109,7 +109,7 @@ fn canonical_code(w: &[u64], s: u64, m: Mirror) -> Code
 
 // The code of a word of letters: that of the word or of its mirror, whichever has the lower plain rank.
 pub fn word_code(letters: &[u8], word: &[u8], m: Mirror) -> Code
-    requires { ⌜ Limits (length (now letters)) m (length (now word)) ⌝ }
+    requires { ⌜ Limits (length (now letters)) (length (now word)) ⌝ }
     ensures { λ r.
         ⌜ r .0 ≡ code (length (now (letters .entry))) m (length (now (word .entry))) (ranksOf (now (letters .entry)) (now (word .entry))) ⌝ }
 {

@@ -63,7 +63,7 @@ fn middle_of(s: u64, m: Mirror, q: u64) -> u64
 {
     match m {
         Mirror::Reversal => q,
-        Mirror::Complement => s / 2 - 1 - q,
+        Mirror::Complement => (s - 1) / 2 - q,
     }
 }
 
@@ -81,7 +81,7 @@ fn fill_differing(out: &mut [u64], s: u64, m: Mirror, q: u64)
 
 // Writes the canonical word with code q.
 fn fill_word(out: &mut [u64], s: u64, m: Mirror, q: u64)
-    requires { ⌜ Limits s m (length (now out)) × (q < classes s m (length (now out))) ⌝ }
+    requires { ⌜ Limits s (length (now out)) × (q < classes s m (length (now out))) ⌝ }
     ensures { λ _. ⌜ now (out .exit) ≡ wordOf s m (length (now (out .entry))) q ⌝ }
 {
     let n = out.len();
@@ -104,7 +104,7 @@ fn fill_word(out: &mut [u64], s: u64, m: Mirror, q: u64)
 
 // Writes the canonical word with code q in capitals to the start of out.
 pub fn write_word(letters: &[u8], k: usize, m: Mirror, q: u64, out: &mut [u8])
-    requires { ⌜ Limits (length (now letters)) m k × (q < classes (length (now letters)) m k) × (k ≤ length (now out)) ⌝ }
+    requires { ⌜ Limits (length (now letters)) k × (q < classes (length (now letters)) m k) × (k ≤ length (now out)) ⌝ }
     ensures { λ _.
         ⌜ now (out .exit) ≡ inCapitals (now (letters .entry)) (wordOf (length (now (letters .entry))) m k q) ++ drop k (now (out .entry)) ⌝ }
 {

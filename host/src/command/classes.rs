@@ -25,7 +25,7 @@ pub fn run(arguments: &Arguments) -> Outcome {
         let line = sizes(&settings).map_err(refused)?;
         return print(&format!("{line}\n"));
     }
-    // Letters and mirror are no K's fault: they are judged once, with k = 1, which ground 4 never refuses.
+    // Letters are no K's fault: they are judged once, with k = 1, which ground 4 never refuses.
     sizes(&Settings { k: 1, ..settings }).map_err(refused)?;
     translate(arguments, |item| {
         let k = number(item).ok_or("not a k: a number below 2^64 in decimal digits")?;

@@ -13,7 +13,8 @@ wontirje counts canonical k-mers: a word of k letters and its reverse complement
 Settings of all but histogram, and what they are when not given:
   --letters ACGT        2 to 16 different capitals, in the order of their ranks
   --k 11                letters in a word (-k 11 will do too)
-  --mirror complement   or reversal: what a word is one class with
+  --mirror complement   or reversal: what a word is one class with; under complement the first letter pairs
+                        with the last, and so on inwards, a middle one with itself (DNA with N: ACNGT)
 
 Example:
   wontirje count reads.fa > counts.txt && wontirje histogram counts.txt

@@ -6,7 +6,7 @@ use denote.Ref.{now}
 use Rattle.settings.specs.Settings.{goodLetters}
 use borrow.Author.Tests.{not-true, not-false}
 use Rattle.settings.proofs.Letters.{good-at-least, good-at-most}
-use Rattle.settings.proofs.SettingsGrounds.{ground-1, ground-2, ground-3, rest-0, rest-1}
+use Rattle.settings.proofs.SettingsGrounds.{ground-1, ground-2, rest-0, rest-1}
 use borrow.Author.Needs.{needs}
 use Rattle.settings.proofs.check.Statement.{statement}
 use Rattle.settings.proofs.check.Tie as tie
@@ -28,21 +28,16 @@ sized-requires : tie.Need-sized-requires
 sized-requires c κs = (good-at-least _ (good (c .before)), good-at-most _ (good (c .before)))
 
 sized-requires-2 : tie.Need-sized-requires-2
-sized-requires-2 c κs = (good-at-least _ (good (c .before .before)), good-at-most _ (good (c .before .before)))
+sized-requires-2 c κs = (good-at-least _ (good (c .before)), good-at-most _ (good (c .before)))
 
 returns-2 : tie.Need-returns-2
 returns-2 c = c .sized .ensures ∙ rest-0 _ _ _ (good (c .before .before)) (c .before .match .keys1)
 
 returns-3 : tie.Need-returns-3
-returns-3 c = ground-3 _ _ _ (good (c .before .before)) (c .before .match .keys2) (c .if2 .taken)
+returns-3 c = c .sized2 .ensures ∙ rest-1 _ _ _ (good (c .before .before)) (c .before .match .keys2)
 
 returns-4 : tie.Need-returns-4
-returns-4 c =
-    let match = c .before .before in
-    c .sized2 .ensures ∙ rest-1 _ _ _ (good (match .before)) (match .match .keys2) (c .before .if2 .left)
-
-returns-5 : tie.Need-returns-5
-returns-5 c = ground-2 _ _ _ (good (c .before)) (omega (arith, c .match .rest))
+returns-4 c = ground-2 _ _ _ (good (c .before)) (omega (arith, c .match .rest))
 
 pub check-spec : {M : Type 1} → statement M
 check-spec =
@@ -54,5 +49,4 @@ check-spec =
     sized-requires-2
     returns-2
     returns-3
-    returns-4
-    returns-5)
+    returns-4)

@@ -4,7 +4,7 @@ use mathlib.Core.Path.{_≡_, sym, ap, _∙_}
 use Prim.Native.Nat.{ℕ}
 use Rattle.settings.specs.declared.Mirror.{Mirror}
 use Rattle.settings.specs.Settings.{classes}
-use Rattle.settings.proofs.ClassCount.{Powered, odd-fits, odd-reversal, even-reversal, odd-complement, even-complement}
+use Rattle.settings.proofs.ClassCount.{Powered, odd-fits, odd-reversal, even-reversal, odd-complement-fits, odd-complement, even-complement}
 use borrow.Author.Needs.{needs}
 use Rattle.settings.proofs.class_count.Statement.{statement}
 use Rattle.settings.proofs.class_count.Tie as tie
@@ -45,7 +45,13 @@ enum-told-2 : tie.Need-enum-told-2
 enum-told-2 c = search needs
 
 add-result-3 : tie.Need-add-result-3
-add-result-3 c = search needs
+add-result-3 c = omega (arith, odd-complement-fits _ _ _ _ (powered (c .before .before .before)))
+
+mul-result-2 : tie.Need-mul-result-2
+mul-result-2 c = omega (arith, add-result-3 c)
+
+add-result-4 : tie.Need-add-result-4
+add-result-4 c = search needs
 
 returns : tie.Need-returns
 returns c =
@@ -78,7 +84,9 @@ class-count-spec =
     add-result
     add-result-2
     enum-told-2
+    mul-result-2
     add-result-3
+    add-result-4
     returns
     returns-2
     returns-3

@@ -1,7 +1,6 @@
 -- `kernels::general::middle_code` meets its contract. A case for each mirror and, under complement, for each half of the ranks (OneLetter).
-use native.Mathlib.Omega.{arith}
 use borrow.Author.Needs.{needs}
-use Rattle.kernels.proofs.OneLetter.{one-reversed, even-number, one-low, one-high}
+use Rattle.kernels.proofs.OneLetter.{one-reversed, one-low, one-high}
 use Rattle.kernels.proofs.general.middle_code.Statement.{statement}
 use Rattle.kernels.proofs.general.middle_code.Tie as tie
 
@@ -17,28 +16,20 @@ sub-result c = search needs
 sub-result-2 : tie.Need-sub-result-2
 sub-result-2 c = search needs
 
-sub-result-3 : tie.Need-sub-result-3
-sub-result-3 c = search needs
-
-sub-result-4 : tie.Need-sub-result-4
-sub-result-4 c =
-    let a = c .before .before .before in
-    omega (arith, even-number (a .args .s) (a .args .x) (a .pre .0) (a .pre .1 .0) (a .pre .1 .1) (c .before .enum-told2 .given .1))
-
 returns : tie.Need-returns
 returns c =
     let a = c .before .before in
-    one-reversed (a .args .s) (a .args .x) (a .pre .0) (a .pre .1 .0) (a .pre .1 .1) (c .enum-told .given .1)
+    one-reversed (a .args .s) (a .args .x) (a .pre .0) (a .pre .1) (c .enum-told .given .1)
 
 returns-2 : tie.Need-returns-2
 returns-2 c =
     let a = c .before .before .before in
-    one-low (a .args .s) (a .args .x) (a .pre .0) (a .pre .1 .0) (a .pre .1 .1) (c .before .enum-told2 .given .1) (c .if1 .taken)
+    one-low (a .args .s) (a .args .x) (a .pre .0) (a .pre .1) (c .before .enum-told2 .given .1) (c .if1 .taken)
 
 returns-3 : tie.Need-returns-3
 returns-3 c =
     let a = c .before .before .before in
-    one-high (a .args .s) (a .args .x) (a .pre .0) (a .pre .1 .0) (a .pre .1 .1) (c .before .enum-told2 .given .1) (c .if1 .left)
+    one-high (a .args .s) (a .args .x) (a .pre .0) (a .pre .1) (c .before .enum-told2 .given .1) (c .if1 .left)
 
 pub middle-code-spec : {M : Type 1} → statement M
 middle-code-spec =
@@ -48,8 +39,6 @@ middle-code-spec =
     enum-told-2
     sub-result
     sub-result-2
-    sub-result-3
-    sub-result-4
     returns
     returns-2
     returns-3)

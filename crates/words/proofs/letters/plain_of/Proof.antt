@@ -5,7 +5,7 @@ use borrow.Author.Needs.{needs}
 use denote.Ref.{now}
 use lib.ListN.{length}
 use Rattle.settings.proofs.Limits.{k-at-most}
-use Rattle.encoding.specs.Words.{Reversal, plain}
+use Rattle.encoding.specs.Words.{plain}
 use Rattle.words.proofs.TwoWords.{OwnArray, as-own, own-fits, own-length, own-word, own-is}
 use Rattle.words.proofs.letters.plain_of.Statement.{statement}
 use Rattle.words.proofs.letters.plain_of.Tie as tie
@@ -15,10 +15,10 @@ abbrev start : tie.After-fill-ranks → tie.Start
 start c = c .before .before .before .before
 
 abbrev OwnFrom : tie.After-fill-ranks → Type 0
-OwnFrom c = let a = start c .args in OwnArray (now (a .letters)) (now (a .word)) Reversal (c .fill-ranks .last .1 .1 .0)
+OwnFrom c = let a = start c .args in OwnArray (now (a .letters)) (now (a .word)) (c .fill-ranks .last .1 .1 .0)
 
 own-array : (c : tie.After-fill-ranks) → OwnFrom c
-own-array c = let a = start c .args in as-own (now (a .letters)) (now (a .word)) Reversal (start c .pre) _ _ (c .fill-ranks .ensures)
+own-array c = let a = start c .args in as-own (now (a .letters)) (now (a .word)) (start c .pre) _ _ (c .fill-ranks .ensures)
 
 slice-aggregate-fill-ranks : tie.Need-slice-aggregate-fill-ranks
 slice-aggregate-fill-ranks c = search needs

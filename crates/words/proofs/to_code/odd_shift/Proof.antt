@@ -1,6 +1,7 @@
 -- `words::to_code::odd_shift` meets its contract. A case for each mirror and, under complement, for odd and even k (Shifts).
+use native.Mathlib.Omega.{arith}
 use borrow.Author.Needs.{needs}
-use Rattle.words.proofs.Shifts.{odd-reversal, odd-complement, even-complement}
+use Rattle.words.proofs.Shifts.{odd-reversal, odd-complement, odd-fits, even-complement}
 use Rattle.words.proofs.to_code.odd_shift.Statement.{statement}
 use Rattle.words.proofs.to_code.odd_shift.Tie as tie
 
@@ -10,8 +11,10 @@ enum-told c = search needs
 enum-told-2 : tie.Need-enum-told-2
 enum-told-2 c = search needs
 
-sub-power : tie.Need-sub-power
-sub-power c = search needs
+mul-result : tie.Need-mul-result
+mul-result c =
+    let start = c .before .before .before .before in
+    omega (arith, odd-fits (start .args .s) (start .args .k) (start .pre .0) (start .pre .1) (c .before .if1 .taken) _ (c .power .ensures))
 
 power-requires : tie.Need-power-requires
 power-requires c κs = search needs
@@ -32,4 +35,4 @@ returns-3 c =
 
 pub odd-shift-spec : {M : Type 1} → statement M
 odd-shift-spec =
-    tie.close (tie.spec enum-told enum-told-2 sub-power power-requires returns returns-2 returns-3)
+    tie.close (tie.spec enum-told enum-told-2 power-requires mul-result returns returns-2 returns-3)

@@ -13,10 +13,10 @@ abbrev start : tie.After-fill-ranks → tie.Start
 start c = c .before .before .before .before
 
 abbrev OwnFrom : tie.After-fill-ranks → Type 0
-OwnFrom c = let a = start c .args in OwnArray (now (a .letters)) (now (a .word)) (a .m) (c .fill-ranks .last .1 .1 .0)
+OwnFrom c = let a = start c .args in OwnArray (now (a .letters)) (now (a .word)) (c .fill-ranks .last .1 .1 .0)
 
 own-array : (c : tie.After-fill-ranks) → OwnFrom c
-own-array c = let a = start c .args in as-own (now (a .letters)) (now (a .word)) (a .m) (start c .pre) _ _ (c .fill-ranks .ensures)
+own-array c = let a = start c .args in as-own (now (a .letters)) (now (a .word)) (start c .pre) _ _ (c .fill-ranks .ensures)
 
 -- The place past `fill_ranks`, from the one past `fill_mirror`; and both arrays there.
 abbrev filled : tie.After-fill-mirror → tie.After-fill-ranks

@@ -1,11 +1,11 @@
--- `words::to_word::middle_of` meets its contract. A case for each mirror; under complement a code is below s / 2 (ReadSteps).
-use mathlib.Core.Path.{subst, ap, sym}
-use Prim.Native.Nat.{_<_, _/_}
+-- `words::to_word::middle_of` meets its contract. A case for each mirror; under complement there are s/2 rounded up codes of one letter.
+use mathlib.Core.Path.{ap, sym, subst}
+use Prim.Native.Nat.{_+_, _<_, _/_}
 use native.Mathlib.Omega.{arith}
 use borrow.Author.Needs.{needs}
 use Rattle.settings.specs.Settings.{classes}
 use Rattle.encoding.specs.WordsOfCodes.{middleOfCode}
-use Rattle.words.proofs.ReadSteps.{middle-lt}
+use Rattle.encoding.proofs.ClassNumbers.{classes-one-complement}
 use Rattle.words.proofs.to_word.middle_of.Statement.{statement}
 use Rattle.words.proofs.to_word.middle_of.Tie as tie
 
@@ -15,13 +15,13 @@ enum-told c = search needs
 enum-told-2 : tie.Need-enum-told-2
 enum-told-2 c = search needs
 
--- Under complement the code is below s / 2.
-low-code : (c : tie.After-enum-told2) → let a = c .before .before .args in a .q < a .s / 2
+-- Under complement the code is below s/2 rounded up.
+low-code : (c : tie.After-enum-told2) → let a = c .before .before .args in a .q < (a .s + 1) / 2
 low-code c =
     let start = c .before .before in
     let s = start .args .s in
-    let q = start .args .q in
-    middle-lt s q (subst (λ m. q < classes s m 1) (c .enum-told2 .given .1) (start .pre .0))
+    let below = subst (λ m. start .args .q < classes s m 1) (c .enum-told2 .given .1) (start .pre .0) in
+    omega (arith, classes-one-complement s, below)
 
 sub-result : tie.Need-sub-result
 sub-result c = omega (arith, low-code c)

@@ -33,7 +33,7 @@ fill-word-requires c κs =
     let a = start c .args in
     let s = length (now (a .letters)) in
     let k-places = zeros-length (start c .pre .0) in
-    (subst⁻¹ (λ (n : ℕ). Limits s (a .m) n) k-places (start c .pre .0), subst⁻¹ (λ (n : ℕ). a .q < classes s (a .m) n) k-places (start c .pre .1))
+    (subst⁻¹ (λ (n : ℕ). Limits s n) k-places (start c .pre .0), subst⁻¹ (λ (n : ℕ). a .q < classes s (a .m) n) k-places (start c .pre .1))
 
 array-share-prefix-ranks : tie.Need-array-share-prefix-ranks
 array-share-prefix-ranks c = filled-fits (filled (c .before)) _

@@ -1,0 +1,78 @@
+-- The numbers of the refusals that each C call gives, as include/kmer.h lists them: 3 is none of them. "Refusal 3 then never occurs" (document 02,
+-- K10). From the definitions of the calls' grounds; kmer_clear's are `clear-numbers` of tally.
+use mathlib.Core.Path.{refl}
+use mathlib.Core.Bool.{not}
+use mathlib.Core.List.{List, [], _∷_}
+use Prim.Native.Nat.{ℕ}
+use lib.Dec.{ltb}
+use lib.ListN.{length}
+use Rattle.laws.specs.Windows.{windows}
+use Rattle.settings.specs.Grounds.{ground, groundAt, tooShort, _orElse_}
+use Rattle.settings.specs.Settings.{isIn, mirrorOf, classes, settingsGround, RefusedOnlyBy}
+use Rattle.settings.proofs.Places.{NumberIn, test-has, place-has, then-has, settings-has, sizes-has}
+use Rattle.encoding.specs.Calls.{wrongLength, foreignFrom, codeGround, readGround, mirrorGround}
+use Rattle.sequence.specs.Sequences.{sequenceGround}
+use Rattle.fasta.specs.File.{fileFault}
+use Rattle.tally.specs.Table.{readyGround, clearGround, tableFull}
+use Rattle.tally.proofs.RefusalNumbers.{clearNumbers, clear-numbers, addNumbers, ready-numbers, file-numbers}
+use Rattle.listing.specs.Listing.{listing, listingGround}
+use Rattle.kmer.specs.Adding.{addIntoGround}
+
+-- kmer_code: 1, 2, 4, 5 or 9.
+pub code-numbers : (letters : List ℕ) (k m : ℕ) (word : List ℕ) → RefusedOnlyBy (1 ∷ 2 ∷ 4 ∷ 5 ∷ 9 ∷ []) (codeGround letters k m word)
+unfolding isIn codeGround
+code-numbers letters k m word =
+    let Q = NumberIn (1 ∷ 2 ∷ 4 ∷ 5 ∷ 9 ∷ []) in
+    let g5 = ground 5 (wrongLength k word) in
+    let g9 = groundAt 9 (foreignFrom letters 0 word) in
+    then-has Q (settingsGround letters k m) (g5 orElse g9) (settings-has Q letters k m refl refl refl)
+    (λ _. then-has Q g5 g9 (test-has Q 5 (wrongLength k word) refl) (λ _. place-has Q 9 (foreignFrom letters 0 word) (λ _ _. refl)))
+
+-- kmer_word: 1, 2, 4, 7 or 8.
+pub read-numbers : (letters : List ℕ) (k m q room : ℕ) → RefusedOnlyBy (1 ∷ 2 ∷ 4 ∷ 7 ∷ 8 ∷ []) (readGround letters k m q room)
+unfolding isIn readGround
+read-numbers letters k m q room =
+    let Q = NumberIn (1 ∷ 2 ∷ 4 ∷ 7 ∷ 8 ∷ []) in
+    let no-class = not (ltb q (classes (length letters) (mirrorOf m) k)) in
+    let g7 = groundAt 7 (tooShort room k) in
+    then-has Q (settingsGround letters k m) (g7 orElse ground 8 no-class) (settings-has Q letters k m refl refl refl)
+    (λ _. then-has Q g7 (ground 8 no-class) (place-has Q 7 (tooShort room k) (λ _ _. refl)) (λ _. test-has Q 8 no-class refl))
+
+-- kmer_mirror: 1, 2, 4, 5, 7 or 9.
+pub mirror-numbers : (letters : List ℕ) (k m : ℕ) (word : List ℕ) (room : ℕ)
+    → RefusedOnlyBy (1 ∷ 2 ∷ 4 ∷ 5 ∷ 7 ∷ 9 ∷ []) (mirrorGround letters k m word room)
+unfolding isIn mirrorGround
+mirror-numbers letters k m word room =
+    let Q = NumberIn (1 ∷ 2 ∷ 4 ∷ 5 ∷ 7 ∷ 9 ∷ []) in
+    let g5 = ground 5 (wrongLength k word) in
+    let g7 = groundAt 7 (tooShort room k) in
+    let g9 = groundAt 9 (foreignFrom letters 0 word) in
+    then-has Q (settingsGround letters k m) (g5 orElse g7 orElse g9) (settings-has Q letters k m refl refl refl)
+    (λ _. then-has Q g5 (g7 orElse g9) (test-has Q 5 (wrongLength k word) refl)
+    (λ _. then-has Q g7 g9 (place-has Q 7 (tooShort room k) (λ _ _. refl)) (λ _. place-has Q 9 (foreignFrom letters 0 word) (λ _ _. refl))))
+
+-- kmer_codes and kmer_codes_two_bit: 1, 2, 4, 6 or 7.
+pub sequence-numbers : (letters : List ℕ) (k m : ℕ) (sequence : List ℕ) (room : ℕ)
+    → RefusedOnlyBy (1 ∷ 2 ∷ 4 ∷ 6 ∷ 7 ∷ []) (sequenceGround letters k m sequence room)
+unfolding isIn sequenceGround
+sequence-numbers letters k m sequence room =
+    sizes-has (NumberIn (1 ∷ 2 ∷ 4 ∷ 6 ∷ 7 ∷ [])) letters k m (ltb 16777216 (length sequence)) room (length (windows k sequence)) refl refl refl refl
+    (λ _. refl)
+
+-- kmer_add: 1, 2, 4, 6, 7, 10, 11 or 12.
+pub add-into-numbers : (letters : List ℕ) (k m : ℕ) (t file : List ℕ) (room : ℕ) → RefusedOnlyBy addNumbers (addIntoGround letters k m t file room)
+unfolding isIn addIntoGround
+add-into-numbers letters k m t file room =
+    let Q = NumberIn addNumbers in
+    let g7 = groundAt 7 (tooShort room 5) in
+    let rest = fileFault file orElse ground 12 (tableFull letters k m t file) in
+    then-has Q (readyGround letters k m (length t) file) (g7 orElse rest) (ready-numbers letters k m (length t) file)
+    (λ _. then-has Q g7 rest (place-has Q 7 (tooShort room 5) (λ _ _. refl)) (λ _. file-numbers (tableFull letters k m t file) file))
+
+-- kmer_listing: 1, 2, 4, 6 or 7.
+pub listing-numbers : (letters : List ℕ) (k m : ℕ) (table : List ℕ) (room : ℕ) → RefusedOnlyBy clearNumbers (listingGround letters k m table room)
+unfolding isIn listingGround
+listing-numbers letters k m table room =
+    let Q = NumberIn clearNumbers in
+    let needed = tooShort room (length (listing letters k m table)) in
+    then-has Q (clearGround letters k m (length table)) (groundAt 7 needed) (clear-numbers letters k m (length table)) (λ _. place-has Q 7 needed (λ _ _. refl))
