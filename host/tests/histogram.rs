@@ -41,6 +41,17 @@ fn bars_by_hand() {
     assert_eq!((run.status, run.text()), (0, none));
 }
 
+/// A listing with an odd number of letters under complement (document 02, K10).
+#[test]
+fn bars_of_an_odd_alphabet() {
+    let listing = "(survey (letters ABC) (k 1) (mirror complement))\n(count B 1)\n(count A 2)\n(total 3)\n";
+    let right = "ABC, k 1, complement: 2 of 2 classes have a count, total 3\ncount  classes\n    \
+        1        1  ██████████████████████████████████████████████████\n    \
+        2        1  ██████████████████████████████████████████████████\n";
+    let run = run_with(&["histogram", "-"], listing.as_bytes());
+    assert_eq!((run.status, run.text(), &run.err[..]), (0, right, ""));
+}
+
 /// A bar of few classes beside a long one is still seen; one of none is not.
 #[test]
 fn the_shortest_bar() {

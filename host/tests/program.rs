@@ -99,8 +99,8 @@ fn stored_runs() {
     check_each(&cases, |case| check(&case.input, &case.output, &compared));
     let [counted, file_refused, settings_refused, out_of_reach] = compared.numbers();
     assert_eq!(counted + file_refused + settings_refused + out_of_reach, 548);
-    assert!(counted > 100 && file_refused > 20 && settings_refused > 20, "{:?}", compared.numbers());
-    assert!(out_of_reach < 170, "{:?}", compared.numbers());
+    assert!(counted > 200 && file_refused > 120 && settings_refused > 60, "{:?}", compared.numbers());
+    assert!(out_of_reach < 120, "{:?}", compared.numbers());
 }
 
 #[test]

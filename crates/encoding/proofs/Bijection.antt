@@ -61,11 +61,11 @@ unfolding middleOfCode mirrorRank
 middle-middle s Reversal a h g = refl
 middle-middle s Complement a h g = omega arith
 
-middle-of : (s : ℕ) (m : Mirror) → 1 < s → (q : ℕ) → q < classes s m 1
+middle-of : (s : ℕ) (m : Mirror) (q : ℕ) → q < classes s m 1
     → (middleOfCode s m q < s) × (middleOfCode s m q ≤ mirrorRank s m (middleOfCode s m q)) × (middleOfCode s m (middleOfCode s m q) ≡ q)
 unfolding middleOfCode mirrorRank
-middle-of s Reversal hs q h = omega (arith, classes-one-reversal s)
-middle-of s Complement hs q h = omega (arith, classes-one-complement s)
+middle-of s Reversal q h = omega (arith, classes-one-reversal s)
+middle-of s Complement q h = omega (arith, classes-one-complement s)
 
 -- ---- from the word to the code and back
 
@@ -197,7 +197,7 @@ module _ (s : ℕ) (m : Mirror) (hs : 1 < s) where
   unfolding codeRec wordOf
   worded zero q h = record { len = refl; ranks = tt; least = nil-canonical s m; back = omega (arith, classes-zero s m) }
   worded (suc zero) q h =
-      let g = middle-of s m hs q h in
+      let g = middle-of s m q h in
       record { len = refl; ranks = (g .0, tt); least = one-canonical s m (middleOfCode s m q) (g .1); back = g .2 }
   worded (suc (suc n)) q h =
       elim (decLt q (s * classes s m n)) as (λ d. Worded s m (suc (suc n)) q (wordOf s m (suc (suc n)) q)) [

@@ -1,19 +1,20 @@
 -- The number of classes, the number of palindromes and the shift, each from those of the word two letters shorter. With s^n written out,
--- classes(n + 2) = s * classes(n) + s(s - 1)/2 * s^n: the words with equal outer letters, and those with a pair l < r.
+-- classes(n + 2) = s * classes(n) + s(s - 1)/2 * s^n: the words with equal outer letters, and those with a pair l < r. And those
+-- of one letter. In this crate odd and even s are told apart here alone: the laws that others cite hold for both.
 use mathlib.Core.Path.{_≡_, refl, ap}
 use mathlib.Core.Bool.{Bool, true, false, not, cond, _&&_, false≢true}
 use Prim.Native.Nat.{ℕ, zero, suc, _+_, _-_, _*_, _/_, _%_, _^_, _<_, _≤_}
 use native.Mathlib.Nat.{pow-zero, pow-suc, pow-le-pow-right, div-eq-of-eq-mul-right}
 use native.Mathlib.Omega.{arith}
 use lib.Dec.{eqb}
-use borrow.Author.Tests.{eqb-true, eqb-false}
 use Rattle.settings.specs.Settings.{halfUp, isOdd, classes}
+use Rattle.settings.proofs.Parity.{odd-is, even-is}
 use Rattle.laws.proofs.Powers.{pairCount, square, parity, even-pow, odd-pow, gap, pow-one, pow-two-more}
 use Rattle.encoding.specs.Words.{Mirror, Reversal, Complement}
 use Rattle.encoding.specs.Codes.{shift, oddShift}
 use Rattle.encoding.specs.Needs.{palindromes}
 
--- Halves of k, by recursion in steps of two; and odd and even numbers.
+-- Halves of k, by recursion in steps of two, and of odd and even k.
 halfUp-suc : (n : ℕ) → halfUp (suc (suc n)) ≡ suc (halfUp n)
 unfolding halfUp
 halfUp-suc n = omega arith
@@ -24,14 +25,6 @@ isOdd-suc n = let e : suc (suc n) % 2 ≡ n % 2 = omega arith in ap (λ (x : ℕ
 
 half-suc : (n : ℕ) → suc (suc n) / 2 ≡ suc (n / 2)
 half-suc n = omega arith
-
-odd-is : (n : ℕ) → isOdd n ≡ true → n % 2 ≡ 1
-unfolding isOdd
-odd-is n e = eqb-true (n % 2) 1 e
-
-even-is : (n : ℕ) → isOdd n ≡ false → n % 2 ≡ 0
-unfolding isOdd
-even-is n e = omega (arith, eqb-false (n % 2) 1 e)
 
 even-half : (n : ℕ) → isOdd n ≡ false → n / 2 ≡ halfUp n
 unfolding halfUp
@@ -210,8 +203,8 @@ unfolding palindromes isOdd
 palindromes-one s = go (eqb (s % 2) 1) refl
   where
     go : (b : Bool) → eqb (s % 2) 1 ≡ b → cond (not b) 0 (s ^ (1 / 2)) ≡ s % 2
-    go true e = omega (arith, eqb-true (s % 2) 1 e, pow-zero s)
-    go false e = omega (arith, eqb-false (s % 2) 1 e)
+    go true e = omega (arith, odd-is s e, pow-zero s)
+    go false e = omega (arith, even-is s e)
 
 pub classes-one-reversal : (s : ℕ) → classes s Reversal 1 ≡ s
 unfolding classes halfUp

@@ -85,7 +85,7 @@ middle-lowest s a h g = rw (palindromes-one s) (λ p. omega arith, λ q. omega a
 
 -- One letter is a palindrome under reversal, and under complement where it is its own mirror.
 one-letter-lowest : (s : ℕ) (m : Mirror) (a : ℕ) → a < s → a ≤ mirrorRank s m a → Palindrome s m (a ∷ []) ↔ (codeRec s m 1 (a ∷ []) < palindromes s m 1)
-unfolding mirror mirrorRank codeRec middleOfCode palindromes isOdd halfUp
+unfolding mirror mirrorRank codeRec middleOfCode palindromes halfUp
 one-letter-lowest s Reversal a h g = (λ p. omega (arith, pow-one s), λ q. refl)
 one-letter-lowest s Complement a h g =
     let low = middle-lowest s a h g in

@@ -92,7 +92,7 @@ pub own-mirror : (s a : ℕ) → a < s → (mirrorRank s Complement a ≡ a) ↔
 unfolding mirrorRank
 own-mirror s a below = (λ e. omega arith, λ e. omega arith)
 
--- The digit of a middle letter that is its own mirror is its rank.
+-- Where one letter is left and it is its own mirror, its digit is its rank.
 pub own-digit : (s : ℕ) (m : Mirror) (a : ℕ) → mirrorRank s m a ≡ a → digits s m 1 (a ∷ []) ≡ a ∷ []
 unfolding digits
 own-digit s m a own = ap (λ (x : ℕ). x ∷ []) own

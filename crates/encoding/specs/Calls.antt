@@ -46,21 +46,21 @@ unfoldable pub foreignFrom : List ℕ → ℕ → List ℕ → Option ℕ
 foreignFrom letters n [] = none
 foreignFrom letters n (b ∷ bs) = hereOr (rankIn letters b) n (foreignFrom letters (suc n) bs)
 
--- Coding a word: the settings' grounds, 5 and 9.
+-- Coding a word: the grounds 1, 2, 4, 5 and 9.
 unfoldable pub codeGround : (letters : List ℕ) (k mirror : ℕ) (word : List ℕ) → Option Ground
 codeGround letters k mirror word =
     settingsGround letters k mirror
     orElse ground 5 (wrongLength k word)
     orElse groundAt 9 (foreignFrom letters 0 word)
 
--- Reading a code: the settings' grounds, 7 and 8.
+-- Reading a code: the grounds 1, 2, 4, 7 and 8.
 unfoldable pub readGround : (letters : List ℕ) (k mirror q room : ℕ) → Option Ground
 readGround letters k mirror q room =
     settingsGround letters k mirror
     orElse groundAt 7 (tooShort room k)
     orElse ground 8 (not (ltb q (classes (length letters) (mirrorOf mirror) k)))
 
--- Mirroring a word: the settings' grounds, 5, 7 and 9.
+-- Mirroring a word: the grounds 1, 2, 4, 5, 7 and 9.
 unfoldable pub mirrorGround : (letters : List ℕ) (k mirror : ℕ) (word : List ℕ) (room : ℕ) → Option Ground
 mirrorGround letters k mirror word room =
     settingsGround letters k mirror

@@ -6,7 +6,7 @@ use mathlib.Core.Option.{Option, none, some}
 use mathlib.Core.List.{List, [], _∷_}
 use Rattle.laws.specs.Text.{bytes}
 use Rattle.settings.specs.Grounds.{Ground}
-use Rattle.settings.specs.Settings.{isCapital, isIn, differentCapitals, goodLetters, capitalOf, placeFrom, rankIn, isOdd, badSize, settingsGround}
+use Rattle.settings.specs.Settings.{isCapital, isIn, differentCapitals, goodLetters, capitalOf, placeFrom, rankIn, badSize, settingsGround}
 use Rattle.fasta.specs.declared.Item.the-variants.{Opens, Skip, Stray, Letter}
 use Rattle.fasta.specs.declared.Numbers.{Numbers}
 use Rattle.fasta.specs.Items.{recordsIn, lettersIn, oneIfForeign, foreignIn, marks, onFirst, runs, edge, windows, edgesOf, windowsOf}
@@ -24,7 +24,7 @@ numbersOfFile file = fileNumbers (rankIn (bytes "ACGT")) 2 file
 
 -- The grounds of a scan under some settings, of a file with a stray byte.
 unfoldable groundBeforeStray : (letters : List ℕ) (k mirror : ℕ) → Option Ground
-unfolding isLetter lfNext lineItem item next itemsFrom faultFrom isCapital isIn differentCapitals goodLetters isOdd badSize settingsGround tooLong scanGround
+unfolding isLetter lfNext lineItem item next itemsFrom faultFrom isCapital isIn differentCapitals goodLetters badSize settingsGround tooLong scanGround
 groundBeforeStray letters k mirror = scanGround letters k mirror (bytes "*")
 
 abbrev five : ℕ → ℕ → ℕ → ℕ → ℕ → Numbers
@@ -98,8 +98,8 @@ no-fault : fileFault (bytes ">*\n\nAxN\n>b 1\r\n>-\r") ≡ none
 unfolding isLetter lfNext lineItem item next itemsFrom faultFrom
 no-fault = refl
 
--- "Checks go in number order": the settings' grounds, then 10 or 11. Ground 6, which comes between them, is of files too long to be written here: `long-file` in
--- ScanGrounds shows it.
+-- "Checks go in number order": the settings' grounds, then 10 or 11. Ground 6, which comes between them, is of files too long to be written here:
+-- `long-file` in ScanGrounds shows it.
 bad-letters : groundBeforeStray (bytes "AA") 0 2 ≡ some (1, 0)
 unfolding groundBeforeStray
 bad-letters = refl

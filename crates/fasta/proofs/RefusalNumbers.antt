@@ -6,7 +6,7 @@ use mathlib.Core.List.{List, [], _∷_}
 use Prim.Native.Nat.{ℕ, suc}
 use Rattle.settings.specs.Grounds.{Ground, ground, _orElse_}
 use Rattle.settings.specs.Settings.{isIn, settingsGround, RefusedOnlyBy}
-use Rattle.settings.proofs.Places.{Has, NumberIn, none-has, some-has, test-has, then-has, settings-has}
+use Rattle.settings.proofs.FirstGround.{Has, NumberIn, none-has, some-has, test-has, then-has, settings-has}
 use Rattle.fasta.specs.declared.Item.{Item}
 use Rattle.fasta.specs.declared.Item.the-variants.{Opens, Skip, Stray, Letter}
 use Rattle.fasta.specs.File.{items, faultFrom, fileFault}

@@ -224,7 +224,7 @@ pub fn scan_file(file: &[u8], ranks: &[u8; 256], k: usize) -> Answer
     })
 }
 
-// A file's five numbers, or the first ground that applies: the settings', then 6, then 10 or 11.
+// A file's five numbers, or the first ground that applies: 1, 2, 4, then 6, then 10 or 11.
 pub fn scan(file: &[u8], letters: &[u8], k: usize, mirror: u64) -> Answer
     ensures { λ r.
         ⌜ ofAnswer r

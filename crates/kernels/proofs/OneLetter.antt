@@ -15,7 +15,7 @@ module _ (s x : ℕ) {m : Mirror} (two : 1 < s) (low : x < s) where
   unfolding middleCode
   one-reversed e = by-mirror Reversal e
 
-  -- Under complement: the number of letters between it and the middle.
+  -- Under complement: how far it is from the middle letter, or with even s from the nearer one of the two.
   module _ (e : m ≡ Complement) where
     from-middle : (s - 1) / 2 - min x (s - 1 - x) ≡ code s m 1 (x ∷ [])
     unfolding middleCode

@@ -64,7 +64,7 @@ fn divided(y: u64, s: u64) -> u64
     }
 }
 
-// The code of a word of one letter.
+// The code of a word of one letter: under complement its place, counted outwards from the middle of the letters, for odd and even s alike.
 fn middle_code(s: u64, m: Mirror, x: u64) -> u64
     requires { ⌜ 1 < s ⌝ }
     requires { ⌜ x < s ⌝ }

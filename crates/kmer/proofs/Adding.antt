@@ -14,7 +14,7 @@ use Rattle.settings.specs.declared.Checked.the-variants.{Bad}
 use Rattle.settings.specs.Grounds.{Ground, Outcome, given, refused, groundOf, ground, outcome, _orElse_}
 use Rattle.settings.specs.Settings.{rankIn, settingsOf, ofChecked}
 use Rattle.settings.proofs.Outcomes.{refused-is, passed}
-use Rattle.settings.proofs.Places.{Small, test-small, then-small}
+use Rattle.settings.proofs.FirstGround.{Small, test-small, then-small}
 use Rattle.fasta.specs.declared.Item.{Item}
 use Rattle.fasta.specs.declared.Item.the-variants.{Opens, Skip, Stray, Letter}
 use Rattle.fasta.specs.declared.Numbers.{Numbers}

@@ -4,7 +4,7 @@ use Prim.Native.Nat.{ℕ}
 use native.Mathlib.Omega.{arith}
 use lib.ListN.{length}
 use Rattle.settings.specs.Grounds.{groundAt, tooShort}
-use Rattle.settings.proofs.Places.{Small, place-small, then-small, room-small}
+use Rattle.settings.proofs.FirstGround.{Small, place-small, then-small, room-small}
 use Rattle.tally.specs.Table.{clearGround}
 use Rattle.listing.specs.Listing.{listing, listingGround}
 use Rattle.listing.proofs.Lengths.{SmallCounts}

@@ -9,7 +9,7 @@ use lib.ListN.{length}
 use Rattle.laws.specs.Windows.{windows}
 use Rattle.settings.specs.Grounds.{ground, groundAt, tooShort, _orElse_}
 use Rattle.settings.specs.Settings.{isIn, mirrorOf, classes, settingsGround, RefusedOnlyBy}
-use Rattle.settings.proofs.Places.{NumberIn, test-has, place-has, then-has, settings-has, sizes-has}
+use Rattle.settings.proofs.FirstGround.{NumberIn, test-has, place-has, then-has, settings-has, sizes-has}
 use Rattle.encoding.specs.Calls.{wrongLength, foreignFrom, codeGround, readGround, mirrorGround}
 use Rattle.sequence.specs.Sequences.{sequenceGround}
 use Rattle.fasta.specs.File.{fileFault}
@@ -57,7 +57,7 @@ pub sequence-numbers : (letters : List ℕ) (k m : ℕ) (sequence : List ℕ) (r
 unfolding isIn sequenceGround
 sequence-numbers letters k m sequence room =
     sizes-has (NumberIn (1 ∷ 2 ∷ 4 ∷ 6 ∷ 7 ∷ [])) letters k m (ltb 16777216 (length sequence)) room (length (windows k sequence)) refl refl refl refl
-    (λ _. refl)
+    (λ _ _ _ _. refl)
 
 -- kmer_add: 1, 2, 4, 6, 7, 10, 11 or 12.
 pub add-into-numbers : (letters : List ℕ) (k m : ℕ) (t file : List ℕ) (room : ℕ) → RefusedOnlyBy addNumbers (addIntoGround letters k m t file room)

@@ -17,7 +17,7 @@ use Rattle.settings.specs.Grounds.{Ground, Outcome, refused, groundOf, ground, 
 use Rattle.settings.specs.Settings.{rankIn, settingsGround}
 use Rattle.settings.proofs.Outcomes.{refused-is, test-fails, not-too-large}
 use Rattle.settings.proofs.SettingsGrounds.{good-settings}
-use Rattle.settings.proofs.Places.{Small, test-small, place-small, then-small, room-small, settings-small}
+use Rattle.settings.proofs.FirstGround.{PlaceUpTo, Small, test-small, place-small, then-small, room-small, settings-small, sizes-has}
 use Rattle.encoding.specs.Calls.{hereOr, foreignFrom, wrongLength, mirrorGround}
 use Rattle.sequence.specs.Sequences.{sequenceGround}
 use Rattle.tally.specs.Table.{classCount, tooMany, clearGround}
@@ -95,10 +95,8 @@ pub sizes-small : (letters : List ℕ) (k m : ℕ) (large : Bool) (room needed :
     → (settingsGround letters k m ≡ none → ground 6 large ≡ none → needed ≤ 16777216)
     → Small 16777216 (settingsGround letters k m orElse ground 6 large orElse groundAt 7 (tooShort room needed))
 sizes-small letters k m large room needed fits =
-    let g7 = groundAt 7 (tooShort room needed) in
-    then-small 16777216 (settingsGround letters k m) (ground 6 large orElse g7) (settings-small letters k m 16777216)
-    (λ passed. then-small 16777216 (ground 6 large) g7 (test-small 16777216 6 large)
-    (λ few. place-small 16777216 7 (tooShort room needed) (λ p e. omega (arith, room-small room needed p e, fits passed few))))
+    sizes-has (PlaceUpTo 16777216) letters k m large room needed (omega arith) (omega arith) (omega arith) (omega arith)
+    (λ passed few p e. omega (arith, room-small room needed p e, fits passed few))
 
 pub sequence-small : (letters : List ℕ) (k m : ℕ) (sequence : List ℕ) (room : ℕ) → Small 16777216 (sequenceGround letters k m sequence room)
 unfolding sequenceGround

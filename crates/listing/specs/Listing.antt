@@ -38,7 +38,7 @@ listingOf letters k m cs = surveyLine letters k m ++ (countLines (wordBytes lett
 abbrev pub listing : (letters : List ℕ) (k mirror : ℕ) (table : List ℕ) → List ℕ
 listing letters k m table = listingOf letters k m (counts letters k m table)
 
--- The grounds for refusing a listing: the settings', 6 and the table's 7, which are those of a clearing; "the table before others", then the 7 of the
+-- The grounds for refusing a listing: 1, 2, 4, 6 and the table's 7, which are those of a clearing; "the table before others", then the 7 of the
 -- text's buffer.
 unfoldable pub listingGround : (letters : List ℕ) (k mirror : ℕ) (table : List ℕ) (room : ℕ) → Option Ground
 listingGround letters k m table room =

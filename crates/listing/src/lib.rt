@@ -179,7 +179,7 @@ fn list_counts(letters: &[u8], k: usize, mirror: u64, counts: &[u32], text: &mut
     Filling::Filled(needed)
 }
 
-// Writes the listing of a table to the start of the text's buffer. Refused by the first of the settings' grounds, 6 and 7.
+// Writes the listing of a table to the start of the text's buffer. Refused by the first of the grounds 1, 2, 4, 6 and 7.
 pub fn list(letters: &[u8], k: usize, mirror: u64, table: &[u32], text: &mut [u8]) -> Filling
     ensures { λ r.
         ⌜ Lists (now (letters .entry)) k mirror (now (table .entry)) (now (text .entry)) (ofFilling r) (now (text .exit)) ⌝ }

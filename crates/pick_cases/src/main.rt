@@ -39,7 +39,7 @@ fn long_words() {
     );
 }
 
-// The settings' grounds, 1, 2 and 4: an empty part.
+// Grounds 1, 2 and 4: an empty part.
 fn bad_settings() {
     show(b"ACGA", 2, 0, b"AC", b"CA");
     show(b"ACGT", 2, 2, b"AC", b"CA");
@@ -84,6 +84,38 @@ fn drawn_words_of_odd_alphabets() {
     show(b"ABC", 2, 1, b"B", b"CA");
 }
 
+// And with the longest words of odd s, the last one with a byte that is no letter.
+fn longest_words_of_odd_alphabets() {
+    show(
+        b"AZVITEBDN",
+        19,
+        1,
+        b"TZBVETBABEBEVTIBVDT",
+        b"INZZANNEZAEtEZInbTB",
+    );
+    show(
+        b"LFZBHTSXUAP",
+        17,
+        1,
+        b"TPLHTLHZLPXTXHHUL",
+        b"TPLHTLHZLPXTXHHUX",
+    );
+    show(
+        b"DOFBREQVWUTCX",
+        16,
+        1,
+        b"BQXBUfEXrFWBWEET",
+        b"OUDTTUOVRDoXFXBC",
+    );
+    show(
+        b"TBPIM",
+        26,
+        1,
+        b"PpITIBMMPBIPBBPIIuPTTPPTPM",
+        b"PpITIBMMPBIPBBPIIuPTTPPTPI",
+    );
+}
+
 fn main() {
     equal_words();
     lower_words();
@@ -92,4 +124,5 @@ fn main() {
     bad_words();
     drawn_words();
     drawn_words_of_odd_alphabets();
+    longest_words_of_odd_alphabets();
 }

@@ -1,4 +1,4 @@
--- Computed checks of the program's definition: the worked example of document 01 from input to output, and refusals.
+-- Computed checks of the program's definition: the worked example of document 01 and a case of document 02, K10, from input to output, and refusals.
 use mathlib.Core.Path.{_≡_, refl}
 use mathlib.Core.List.{List, _++_}
 use Prim.Native.Nat.{ℕ}

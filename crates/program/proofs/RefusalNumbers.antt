@@ -1,5 +1,5 @@
--- The program never prints refusal 3: "Refusal 3 then never occurs" (document 02, K10). From the numbers of an add's refusals, by a test that only the
--- line of refusal 3 passes.
+-- The program never prints refusal 3: "Refusal 3 then never occurs" (document 02, K10). From the numbers of an add's refusals, by a test that the line of
+-- refusal 3 passes and no output of the program does.
 use mathlib.Core.Path.{_≡_, refl, sym, ap, _∙_, subst}
 use mathlib.Core.Bool.{Bool, true, false, _&&_, false≢true}
 use mathlib.Core.Option.{Option, none, some}
@@ -13,7 +13,7 @@ use Rattle.laws.specs.Each.{Each}
 use Rattle.laws.proofs.Tests.{by-test}
 use Rattle.settings.specs.Grounds.{Ground, outcome}
 use Rattle.settings.specs.Settings.{isIn, rankIn, RefusedOnlyBy}
-use Rattle.settings.proofs.Places.{NumberIn}
+use Rattle.settings.proofs.FirstGround.{NumberIn}
 use Rattle.fasta.specs.File.{fileNumbers}
 use Rattle.tally.specs.Table.{tableFull, addGround}
 use Rattle.tally.proofs.RefusalNumbers.{addNumbers, add-numbers}

@@ -5,9 +5,10 @@ use native.Mathlib.Nat.{pow-suc, mul-le-mul-left}
 use native.Mathlib.Omega.{arith}
 use mathlib.Core.Bool.{Bool, true, false, not, cond}
 use lib.Dec.{eqb}
-use borrow.Author.Tests.{eq-eqb, ne-eqb, eqb-true, eqb-false, lt-ltb, le-ltb}
+use borrow.Author.Tests.{eq-eqb, ne-eqb, lt-ltb, le-ltb}
 use Rattle.laws.proofs.Powers.{pow-fits}
 use Rattle.settings.proofs.Powers.{capped}
+use Rattle.settings.proofs.Parity.{odd-is, even-is}
 use Rattle.settings.specs.declared.Mirror.the-variants.{Reversal, Complement}
 use Rattle.settings.specs.Settings.{classes, halfUp, isOdd, badSize}
 
@@ -43,7 +44,7 @@ module _ (s k words half : ℕ) (p : Powered s k words half) where
       let c : (k + 1) / 2 ≡ k / 2 = omega arith in
       rw (c, words-is, half-is)
 
-  -- Under complement they are no more than s^(k/2): s^(k/2) where s is odd, and none where s is even.
+  -- For odd k the palindromes under complement are s^(k/2) many where s is odd, and none where s is even.
   pub odd-complement-fits : half * (s % 2) ≤ half
   odd-complement-fits =
       let at-most-one : s % 2 ≤ 1 = omega arith in
@@ -54,10 +55,8 @@ module _ (s k words half : ℕ) (p : Powered s k words half) where
   odd-complement e = rw (eq-eqb (k % 2) 1 e, words-is, half-is) (go (eqb (s % 2) 1) refl)
     where
       go : (b : Bool) → eqb (s % 2) 1 ≡ b → (s ^ k + s ^ (k / 2) * (s % 2)) / 2 ≡ cond (not b) (s ^ k / 2) ((s ^ k + s ^ (k / 2)) / 2)
-      go true f = rw (eqb-true (s % 2) 1 f) (omega arith)
-      go false f =
-          let even : s % 2 ≡ 0 = omega (arith, eqb-false (s % 2) 1 f) in
-          rw even (omega arith)
+      go true f = rw (odd-is s f) (omega arith)
+      go false f = rw (even-is s f) (omega arith)
 
   pub even-complement : (k % 2 ≡ 1 → ⊥) → (words + half) / 2 ≡ classes s Complement k
   unfolding classes isOdd

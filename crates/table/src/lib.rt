@@ -48,7 +48,7 @@ fn clear_places(table: &mut [u32], classes: u64) -> Filling
     Filling::Filled(n)
 }
 
-// Sets the first places, one a class, to 0. Refused on the settings' grounds, 6 and 7.
+// Sets the first places, one a class, to 0. Refused on the grounds 1, 2, 4, 6 and 7.
 pub fn clear(letters: &[u8], k: usize, mirror: u64, table: &mut [u32]) -> Filling
     ensures { λ r. ⌜ Clears (now (letters .entry)) k mirror (now (table .entry)) (ofFilling r) (now (table .exit)) ⌝ }
 {
@@ -123,7 +123,7 @@ fn add_scanned(
     count_unless_full(&mut table[..classes], file, ranks, c, &powers, n)
 }
 
-// Whether a file may be read for an add: the settings, where none of the settings' grounds, 6 and 7 applies.
+// Whether a file may be read for an add: the settings, where no ground among 1, 2, 4, 6 and 7 applies.
 pub fn ready(letters: &[u8], k: usize, mirror: u64, room: usize, file: &[u8]) -> Checked
     ensures { λ r.
         ⌜ ofChecked r ≡ outcome (readyGround (now (letters .entry)) k mirror room (now (file .entry))) (settingsOf (now (letters .entry)) k mirror) ⌝ }
@@ -166,7 +166,7 @@ fn add_checked(
     }
 }
 
-// Adds 1 for each window of a file, or refuses the file on the settings' grounds, 6, 7, 10, 11 or 12 and changes no count.
+// Adds 1 for each window of a file, or refuses the file on the grounds 1, 2, 4, 6, 7, 10, 11 or 12 and changes no count.
 pub fn add(letters: &[u8], k: usize, mirror: u64, table: &mut [u32], file: &[u8]) -> Answer
     ensures { λ r. ⌜ Added (now (letters .entry)) k mirror (now (table .entry)) (now (file .entry)) (ofAnswer r) (now (table .exit)) ⌝ }
 {

@@ -5,7 +5,7 @@ use mathlib.Core.List.{List, [], _∷_}
 use Prim.Native.Nat.{ℕ}
 use Rattle.settings.specs.Grounds.{ground, _orElse_}
 use Rattle.settings.specs.Settings.{isIn, RefusedOnlyBy}
-use Rattle.settings.proofs.Places.{NumberIn, test-has, then-has, sizes-has}
+use Rattle.settings.proofs.FirstGround.{NumberIn, test-has, then-has, sizes-has}
 use Rattle.fasta.specs.File.{fileFault}
 use Rattle.fasta.specs.Scan.{tooLong}
 use Rattle.fasta.proofs.RefusalNumbers.{fault-has}
@@ -18,16 +18,19 @@ clearNumbers = 1 ∷ 2 ∷ 4 ∷ 6 ∷ 7 ∷ []
 pub clear-numbers : (letters : List ℕ) (k m room : ℕ) → RefusedOnlyBy clearNumbers (clearGround letters k m room)
 unfolding isIn clearGround
 clear-numbers letters k m room =
-    sizes-has (NumberIn clearNumbers) letters k m (tooMany (classCount letters k m)) room (classCount letters k m) refl refl refl refl (λ _. refl)
+    sizes-has (NumberIn clearNumbers) letters k m (tooMany (classCount letters k m)) room (classCount letters k m) refl refl refl refl
+    (λ _ _ _ _. refl)
 
 -- An add is refused 1, 2, 4, 6, 7, 10, 11 or 12.
 abbrev pub addNumbers : List ℕ
 addNumbers = 1 ∷ 2 ∷ 4 ∷ 6 ∷ 7 ∷ 10 ∷ 11 ∷ 12 ∷ []
 
+-- So are the grounds before the file is read.
 pub ready-numbers : (letters : List ℕ) (k m room : ℕ) (file : List ℕ) → RefusedOnlyBy addNumbers (readyGround letters k m room file)
 unfolding isIn readyGround
 ready-numbers letters k m room file =
-    sizes-has (NumberIn addNumbers) letters k m (tooLong file || tooMany (classCount letters k m)) room (classCount letters k m) refl refl refl refl (λ _. refl)
+    sizes-has (NumberIn addNumbers) letters k m (tooLong file || tooMany (classCount letters k m)) room (classCount letters k m) refl refl refl refl
+    (λ _ _ _ _. refl)
 
 -- After 7 comes the file's fault, then 12.
 pub file-numbers : (isFull : Bool) (file : List ℕ) → RefusedOnlyBy addNumbers (fileFault file orElse ground 12 isFull)

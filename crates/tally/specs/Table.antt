@@ -55,7 +55,7 @@ full n (c ∷ cs) = ltb (4294967295 - n) c || full n cs
 unfoldable pub tooMany : (classes : ℕ) → Bool
 tooMany n = ltb 16777216 n
 
--- The grounds for refusing an add before its file is read: the settings'; 6, of the file or of the classes; 7, the table's room being shorter than
+-- The grounds for refusing an add before its file is read: 1, 2 and 4; 6, of the file or of the classes; 7, the table's room being shorter than
 -- the classes.
 unfoldable pub readyGround : (letters : List ℕ) (k mirror room : ℕ) (file : List ℕ) → Option Ground
 readyGround letters k m room file =
@@ -68,7 +68,7 @@ readyGround letters k m room file =
 unfoldable pub addGround : (letters : List ℕ) (k mirror room : ℕ) (isFull : Bool) (file : List ℕ) → Option Ground
 addGround letters k m room isFull file = readyGround letters k m room file orElse fileFault file orElse ground 12 isFull
 
--- The grounds for refusing a clearing: the settings', 6 and 7.
+-- The grounds for refusing a clearing: 1, 2, 4, 6 and 7.
 unfoldable pub clearGround : (letters : List ℕ) (k mirror room : ℕ) → Option Ground
 clearGround letters k m room =
     settingsGround letters k m

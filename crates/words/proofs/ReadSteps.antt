@@ -140,6 +140,9 @@ module _ (s : ℕ) (m : Mirror) (out : List ℕ) (h : 2 ≤ length out) where
       ∙ rw (et, el, er, z) (sym (word-high s m (length out - 2) q))
       ∙ ap (λ (n : ℕ). wordOf s m n (s * classes s m (length out - 2) + q)) (sym two-more)
 
+  all-classes : classes s m (length out) ≡ s * classes s m (length out - 2) + pairCount s * s ^ (length out - 2)
+  all-classes = ap (classes s m) two-more ∙ classes-suc s m (length out - 2)
+
   module _ (f : Limits s (length out)) where
     pow-le : s ^ (length out - 2) * s * s ≤ 2 ^ 62
     pow-le =
@@ -160,9 +163,6 @@ module _ (s : ℕ) (m : Mirror) (out : List ℕ) (h : 2 ≤ length out) where
         let k : q < classes s m (length out - 2) * s = omega arith in
         rw e (div-lt-iff-lt-mul pos .1 k)
 
-    all-classes : classes s m (length out) ≡ s * classes s m (length out - 2) + pairCount s * s ^ (length out - 2)
-    all-classes = ap (classes s m) two-more ∙ classes-suc s m (length out - 2)
-
 -- A code that is q above those of equal outer letters, and p as `power` gives it.
 module _ {s : ℕ} {m : Mirror} {out : List ℕ} {q : ℕ} (F : FitHighCode s m out q) {p : ℕ} (z : p ≡ s ^ (length out - 2)) where
   pub p-pos : 0 < p
@@ -170,7 +170,7 @@ module _ {s : ℕ} {m : Mirror} {out : List ℕ} {q : ℕ} (F : FitHighCode s m 
 
   rank-lt : q / p < pairCount s
   rank-lt =
-      let k : q < pairCount s * p = rw z (omega (arith, F .below, all-classes s m out (F .long) (F .limits))) in
+      let k : q < pairCount s * p = rw z (omega (arith, F .below, all-classes s m out (F .long))) in
       div-lt-iff-lt-mul p-pos .1 k
 
   pub rank-below : RankOfPair s (q / p)

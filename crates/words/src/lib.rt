@@ -28,7 +28,7 @@ pub enum Coding {
     Refused(Refusal),
 }
 
-// The code of a word. Refused by the first of the settings' grounds, 5 and 9.
+// The code of a word. Refused by the first of the grounds 1, 2, 4, 5 and 9.
 pub fn code_of(letters: &[u8], k: usize, mirror: u64, word: &[u8]) -> Coding
     ensures { λ r. ⌜ ofCoding r ≡ coding (now (letters .entry)) k mirror (now (word .entry)) ⌝ }
 {
@@ -47,7 +47,7 @@ pub fn code_of(letters: &[u8], k: usize, mirror: u64, word: &[u8]) -> Coding
     }
 }
 
-// Writes the canonical word with a code, in capitals, to the first k bytes of out. Refused by the first of the settings' grounds, 7 and 8.
+// Writes the canonical word with a code, in capitals, to the first k bytes of out. Refused by the first of the grounds 1, 2, 4, 7 and 8.
 pub fn word_of(letters: &[u8], k: usize, mirror: u64, q: Code, out: &mut [u8]) -> Filling
     ensures { λ r.
         ⌜ Overwrites (readGround (now (letters .entry)) k mirror (q .0) (length (now (out .entry)))) k
@@ -69,7 +69,7 @@ pub fn word_of(letters: &[u8], k: usize, mirror: u64, q: Code, out: &mut [u8]) -
     }
 }
 
-// Writes a word's mirror, in capitals, to the first k bytes of out. Refused by the first of the settings' grounds, 5, 7 and 9.
+// Writes a word's mirror, in capitals, to the first k bytes of out. Refused by the first of the grounds 1, 2, 4, 5, 7 and 9.
 pub fn mirror_of(letters: &[u8], k: usize, mirror: u64, word: &[u8], out: &mut [u8]) -> Filling
     ensures { λ r.
         ⌜ Overwrites (mirrorGround (now (letters .entry)) k mirror (now (word .entry)) (length (now (out .entry)))) k

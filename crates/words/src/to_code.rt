@@ -77,7 +77,7 @@ fn shift_of(s: u64, k: usize, p: usize) -> u64
     (settings::power(s, k - p - 1) - settings::power(s, k - k / 2)) / 2
 }
 
-// What is subtracted besides the shift, under complement with odd k.
+// What is subtracted besides the shift, under complement with odd k: s/2 rounded down times s^(k/2 rounded down), for odd and even s alike.
 fn odd_shift(s: u64, m: Mirror, k: usize) -> u64
     requires { ⌜ (1 < s) × (s ^ k ≤ 2 ^ 62) ⌝ }
     ensures { λ r. ⌜ r ≡ oddShift s m k ⌝ }

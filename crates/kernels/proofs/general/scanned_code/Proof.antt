@@ -77,7 +77,7 @@ middle-code-requires : tie.Need-middle-code-requires Inv-loop μ-loop
 middle-code-requires c κs =
     let at-loop = c .before .before .before in
     let W = at-loop .loop .inv .window in
-    (W .input .limits .two, (rw (c .rank-at2 .ensures) (rank-lt W (at-loop .loop .a) (omega (arith, W .inside)))))
+    (W .input .limits .two, rw (c .rank-at2 .ensures) (rank-lt W (at-loop .loop .a) (omega (arith, W .inside))))
 
 returns-2 : tie.Need-returns-2 Inv-loop μ-loop
 returns-2 c =

@@ -3,13 +3,13 @@
 use mathlib.Core.Path.{_≡_, refl, subst}
 use mathlib.Core.Bool.{Bool, true, false, not, cond}
 use mathlib.Core.Option.{Option, none, some}
-use mathlib.Core.List.{List}
+use mathlib.Core.List.{List, [], _∷_}
 use Prim.Native.Nat.{ℕ, _≤_}
 use native.Mathlib.Omega.{arith}
 use lib.Dec.{ltb}
 use lib.ListN.{length}
 use Rattle.settings.specs.Grounds.{Ground, ground, groundAt, tooShort, _orElse_}
-use Rattle.settings.specs.Settings.{isIn, goodLetters, badSize, settingsGround}
+use Rattle.settings.specs.Settings.{isIn, goodLetters, badSize, settingsGround, RefusedOnlyBy}
 
 -- The ground that applies, where one does, has the property Q.
 abbrev pub Has : (Ground → Type 0) → Option Ground → Type 0
@@ -44,22 +44,28 @@ module _ (Q : Ground → Type 0) where
       then-has (ground 1 (not (goodLetters letters))) (g2 orElse g4) (test-has 1 (not (goodLetters letters)) one)
       (λ _. then-has g2 g4 (test-has 2 (ltb 1 m) two) (λ _. test-has 4 (badSize (length letters) k) four))
 
-  -- Many calls have 6 by some test and 7 for some length after these.
-  pub sizes-has : (letters : List ℕ) (k m : ℕ) (large : Bool) (room needed : ℕ) → Q (1, 0) → Q (2, 0) → Q (4, 0) → Q (6, 0) → ((p : ℕ) → Q (7, p))
+  -- After these many calls have 6 by some test, then 7 for some length.
+  pub sizes-has : (letters : List ℕ) (k m : ℕ) (large : Bool) (room needed : ℕ) → Q (1, 0) → Q (2, 0) → Q (4, 0) → Q (6, 0)
+      → (settingsGround letters k m ≡ none → ground 6 large ≡ none → (p : ℕ) → tooShort room needed ≡ some p → Q (7, p))
       → Has Q (settingsGround letters k m orElse ground 6 large orElse groundAt 7 (tooShort room needed))
   sizes-has letters k m large room needed one two four six seven =
       let g7 = groundAt 7 (tooShort room needed) in
       then-has (settingsGround letters k m) (ground 6 large orElse g7) (settings-has letters k m one two four)
-      (λ _. then-has (ground 6 large) g7 (test-has 6 large six) (λ _. place-has 7 (tooShort room needed) (λ p _. seven p)))
+      (λ passed. then-has (ground 6 large) g7 (test-has 6 large six) (λ few. place-has 7 (tooShort room needed) (seven passed few)))
 
 -- ---- a number of a list, so that `Has (NumberIn ns)` is `RefusedOnlyBy ns`
 
 abbrev pub NumberIn : List ℕ → Ground → Type 0
 NumberIn ns f = isIn (f .0) ns ≡ true
 
+-- Settings are refused 1, 2 or 4: "Refusal 3 then never occurs" (document 02, K10).
+pub settings-numbers : (letters : List ℕ) (k m : ℕ) → RefusedOnlyBy (1 ∷ 2 ∷ 4 ∷ []) (settingsGround letters k m)
+unfolding isIn
+settings-numbers letters k m = settings-has (NumberIn (1 ∷ 2 ∷ 4 ∷ [])) letters k m refl refl refl
+
 -- ---- a P of at most n
 
-abbrev PlaceUpTo : ℕ → Ground → Type 0
+abbrev pub PlaceUpTo : ℕ → Ground → Type 0
 PlaceUpTo n f = f .1 ≤ n
 
 abbrev pub Small : ℕ → Option Ground → Type 0
