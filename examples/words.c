@@ -1,7 +1,7 @@
 /*
  * words.c: how a C program codes k-mers, reads codes back and handles a refusal, with kmer.h.
- * Prints the starred cases of document 01 (AACTT as the word of code 0), those of document 02, K10, and some
- * refused calls; words.expected has what it must print.
+ * Prints the starred cases of document 01 (AACTT as the word of code 0), words of an odd alphabet (document 02,
+ * K10), and some refused calls; words.expected has what it must print.
  *
  *   rt staticlib kmer
  *   cc -std=c11 -Iinclude examples/words.c target/staticlib/libkmer.a -o target/words && target/words

@@ -48,7 +48,7 @@ enum kmer_mirrors {
 enum kmer_grounds {
     KMER_BAD_LETTERS = 1,    /* letters are not 2 to 16 different capitals */
     KMER_BAD_MIRROR = 2,     /* mirror is neither 0 nor 1 */
-    KMER_ODD_COMPLEMENT = 3, /* reserved, never returned: an odd number of letters may be complemented */
+    KMER_ODD_COMPLEMENT = 3, /* reserved, never returned: complement takes an odd number of letters too */
     KMER_BAD_K = 4,          /* k is 0, or s^k is above 2^62 */
     KMER_BAD_LENGTH = 5,     /* word_len is not k */
     KMER_TOO_LARGE = 6,      /* the sequence or file is above 16,777,216 bytes; in table calls also:

@@ -99,7 +99,7 @@ fn refused_settings() {
         (
             &["count", "--k", "13", "-"],
             "refused 6: more than 16,777,216 classes, too many for a table (letters ACGT, k 13, mirror complement); \
-             give a smaller --k (at most 12 for ACGT under complement); wontirje classes tells the sizes",
+             give a smaller --k (under complement at most 12 for 4 letters, 10 for 5); wontirje classes tells the sizes",
         ),
         (
             &["code", "--letters", "acgt", "ACGT"],
@@ -124,7 +124,7 @@ fn refused_settings() {
         (
             &["word", "--k", "32", "0"],
             "refused 4: k is 0, or there are more than 2^62 words of k letters (letters ACGT, k 32, mirror \
-             complement); give a k from 1 to 31 for 4 letters (62 for 2, 39 for 3, 15 for 16)",
+             complement); give a k from 1 to 31 for 4 letters (62 for 2, 39 for 3, 26 for 5, 15 for 16)",
         ),
     ];
     for (arguments, right) in cases {

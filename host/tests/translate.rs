@@ -22,7 +22,7 @@ fn codes_and_words_of_document_01() {
     assert_eq!(run_text(&["word", "--k", "31", "2305843009213693951"]), last);
 }
 
-/// The cases of document 02, K10: an odd number of letters under complement.
+/// The case of document 02, K10, and more of its kind: an odd number of letters under complement.
 #[test]
 fn codes_and_words_of_odd_alphabets() {
     let run_text = |arguments: &[&str]| run(arguments).text().to_string();

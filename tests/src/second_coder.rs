@@ -190,7 +190,7 @@ impl Coder {
 
 #[cfg(test)]
 mod tests {
-    //! The paper's own examples, as document 01 corrects them, and the cases of document 02, K10.
+    //! The paper's own examples, as document 01 corrects them, the case of document 02, K10, and more of its kind.
     use super::Coder;
 
     #[test]

@@ -1,4 +1,5 @@
-//! The cases of documents 01 and 02 that concern words, with their own numbers and no second coder.
+//! The cases of documents 01 and 02 that concern words, with their own numbers, and more of the kind of K10's, with
+//! numbers worked out by hand; no second coder.
 
 use kmer_tests::calls;
 use kmer_tests::calls::REFUSED;

@@ -1,4 +1,4 @@
--- The starred cases of document 01, all of them, and those of document 02, K10, as one check of the definitions by computing.
+-- The starred cases of document 01, all of them, and the case of document 02, K10, with more of its kind, as one check of the definitions by computing.
 use mathlib.Core.Path.{_≡_, refl}
 use mathlib.Core.List.{List, [], _∷_, map}
 use Prim.Native.Nat.{ℕ, zero, suc}
@@ -49,7 +49,7 @@ pub starred-cases : record {
   complement-31-code : codeOf "ACGT" 31 1 "GTTTTTTTTTTTTTTTTTTTTTTTTTTTTTA" ≡ given 2305843009213693951;
   complement-31-read : reading (bytes "ACGT") 31 1 2305843009213693951 31 ≡ given 31;
   complement-31-next : reading (bytes "ACGT") 31 1 2305843009213693952 31 ≡ refused (8, 0);
-  -- Document 02, K10. ABC, complement, k 1: B 0, A and C 1.
+  -- Document 02, K10: "ABC, k 1: B 0, A and C 1".
   odd-1 : codesOf "ABC" 1 1 ("B" ∷ "A" ∷ "C" ∷ []) ≡ (given 0 ∷ given 1 ∷ given 1 ∷ []);
   -- ABC, complement, k 3: 15 codes, each read and coded back, the three palindromes first; the next is refused 8.
   odd-3 :

@@ -1,6 +1,6 @@
 -- The number of classes, the number of palindromes and the shift, each from those of the word two letters shorter. With s^n written out,
 -- classes(n + 2) = s * classes(n) + s(s - 1)/2 * s^n: the words with equal outer letters, and those with a pair l < r. And those
--- of one letter. In this crate odd and even s are told apart here alone: the laws that others cite hold for both.
+-- of one letter. In this crate proofs split on odd and even s only here: save those on palindromes, the laws that others cite hold for both.
 use mathlib.Core.Path.{_≡_, refl, ap}
 use mathlib.Core.Bool.{Bool, true, false, not, cond, _&&_, false≢true}
 use Prim.Native.Nat.{ℕ, zero, suc, _+_, _-_, _*_, _/_, _%_, _^_, _<_, _≤_}

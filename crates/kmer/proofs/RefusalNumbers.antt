@@ -14,7 +14,7 @@ use Rattle.encoding.specs.Calls.{wrongLength, foreignFrom, codeGround, readGrou
 use Rattle.sequence.specs.Sequences.{sequenceGround}
 use Rattle.fasta.specs.File.{fileFault}
 use Rattle.tally.specs.Table.{readyGround, clearGround, tableFull}
-use Rattle.tally.proofs.RefusalNumbers.{clearNumbers, clear-numbers, addNumbers, ready-numbers, file-numbers}
+use Rattle.tally.proofs.RefusalNumbers.{clearNumbers, clear-numbers, addNumbers, ready-has, file-numbers}
 use Rattle.listing.specs.Listing.{listing, listingGround}
 use Rattle.kmer.specs.Adding.{addIntoGround}
 
@@ -66,7 +66,7 @@ add-into-numbers letters k m t file room =
     let Q = NumberIn addNumbers in
     let g7 = groundAt 7 (tooShort room 5) in
     let rest = fileFault file orElse ground 12 (tableFull letters k m t file) in
-    then-has Q (readyGround letters k m (length t) file) (g7 orElse rest) (ready-numbers letters k m (length t) file)
+    then-has Q (readyGround letters k m (length t) file) (g7 orElse rest) (ready-has Q letters k m (length t) file refl refl refl refl (λ _. refl))
     (λ _. then-has Q g7 rest (place-has Q 7 (tooShort room 5) (λ _ _. refl)) (λ _. file-numbers (tableFull letters k m t file) file))
 
 -- kmer_listing: 1, 2, 4, 6 or 7.

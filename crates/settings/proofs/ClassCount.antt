@@ -19,6 +19,12 @@ pub record Powered (s k words half : ℕ) : Type 0 where
   pub words-by : words ≡ min (s ^ k) 4611686018427387905
   pub half-by : half ≡ min (s ^ (k / 2)) 4611686018427387905
 
+-- The number of palindromes for odd k under complement, s^(k/2) or none, is at most s^(k/2).
+pub odd-complement-fits : (s half : ℕ) → half * (s % 2) ≤ half
+odd-complement-fits s half =
+    let at-most-one : s % 2 ≤ 1 = omega arith in
+    omega (arith, mul-le-mul-left half at-most-one)
+
 module _ (s k words half : ℕ) (p : Powered s k words half) where
   words-is : words ≡ s ^ k
   words-is = capped s k k words (p .two) (omega arith) (p .small) (p .words-by)
@@ -44,12 +50,7 @@ module _ (s k words half : ℕ) (p : Powered s k words half) where
       let c : (k + 1) / 2 ≡ k / 2 = omega arith in
       rw (c, words-is, half-is)
 
-  -- For odd k the palindromes under complement are s^(k/2) many where s is odd, and none where s is even.
-  pub odd-complement-fits : half * (s % 2) ≤ half
-  odd-complement-fits =
-      let at-most-one : s % 2 ≤ 1 = omega arith in
-      omega (arith, mul-le-mul-left half at-most-one)
-
+  -- For odd k there are s^(k/2) palindromes under complement where s is odd, and none where s is even.
   pub odd-complement : k % 2 ≡ 1 → (words + half * (s % 2)) / 2 ≡ classes s Complement k
   unfolding classes isOdd
   odd-complement e = rw (eq-eqb (k % 2) 1 e, words-is, half-is) (go (eqb (s % 2) 1) refl)

@@ -219,7 +219,7 @@ pub fn power(s: u64, k: usize) -> u64
     p
 }
 
-// The number of classes: half of the words and the palindromes. A palindrome is its first k/2 letters and for odd k a middle letter that is its own
+// The number of classes: half the sum of the words and the palindromes. A palindrome is its first k/2 letters and for odd k a middle letter that is its own
 // mirror: under reversal any, under complement the middle one of an odd s. Words that fit 62 bits are asked, so that no product and no sum wraps.
 pub fn class_count(s: u64, m: Mirror, k: usize) -> u64
     requires { ⌜ (1 < s) × (s ^ k ≤ 2 ^ 62) ⌝ }

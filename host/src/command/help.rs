@@ -14,7 +14,7 @@ Settings of all but histogram, and what they are when not given:
   --letters ACGT        2 to 16 different capitals, in the order of their ranks
   --k 11                letters in a word (-k 11 will do too)
   --mirror complement   or reversal: what a word is one class with; under complement the first letter pairs
-                        with the last, and so on inwards, a middle one with itself (DNA with N: ACNGT)
+                        with the last, and so on inwards, a middle one with itself (with N: ACNGT, k to 10)
 
 Example:
   wontirje count reads.fa > counts.txt && wontirje histogram counts.txt

@@ -27,8 +27,11 @@ pub fn settings(arguments: &Arguments) -> Result<Settings<'_>, Failure> {
 pub fn refused(settings: &Settings, refusal: Refusal) -> Failure {
     let advice = match refusal.number {
         1 => "give --letters in capitals, each once, as in --letters ACGT",
-        4 => "give a k from 1 to 31 for 4 letters (62 for 2, 39 for 3, 15 for 16)",
-        6 => "give a smaller --k (at most 12 for ACGT under complement); wontirje classes tells the sizes",
+        4 => "give a k from 1 to 31 for 4 letters (62 for 2, 39 for 3, 26 for 5, 15 for 16)",
+        6 => {
+            "give a smaller --k (under complement at most 12 for 4 letters, 10 for 5); \
+             wontirje classes tells the sizes"
+        }
         _ => "see wontirje --help",
     };
     let what = match refusal.number {

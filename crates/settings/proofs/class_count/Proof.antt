@@ -45,7 +45,9 @@ enum-told-2 : tie.Need-enum-told-2
 enum-told-2 c = search needs
 
 add-result-3 : tie.Need-add-result-3
-add-result-3 c = omega (arith, odd-complement-fits _ _ _ _ (powered (c .before .before .before)))
+add-result-3 c =
+    let powers = c .before .before .before in
+    omega (arith, odd-complement-fits (powers .before .before .args .s) (powers .power2 .result))
 
 mul-result-2 : tie.Need-mul-result-2
 mul-result-2 c = omega (arith, add-result-3 c)
