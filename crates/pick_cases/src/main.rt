@@ -76,16 +76,31 @@ fn drawn_words() {
     show(b"HUZYTELQWOC", 4, 0, b"LwWt", b"EThH");
 }
 
-// The same under complement with odd s.
-fn drawn_words_of_odd_alphabets() {
-    show(b"BQLMP", 4, 1, b"PQMB", b"LBLB");
+// An independent reference's answers under complement with odd s, all of them (document 02, K10).
+
+// Equal words.
+fn equal_words_of_odd_alphabets() {
     show(b"YINXHTU", 9, 1, b"NHIHnNTNH", b"nhihNntnh");
-    show(b"MYJKLVTHW", 1, 1, b"L", b"w");
-    show(b"ABC", 2, 1, b"B", b"CA");
+    show(
+        b"BWYATLZEKOJDVQI",
+        15,
+        1,
+        b"OKKETYYQIWTDTBI",
+        b"okketyyqiwtdtbi",
+    );
+    show(
+        b"RBACWUHONKETIMJ",
+        15,
+        1,
+        b"BMOWWAMOKMAJKRK",
+        b"bmowwamokmajkrk",
+    );
+    show(b"ABCDEFGHIJKLM", 6, 1, b"ILDKMC", b"ildkmc");
 }
 
-// And with the longest words of odd s, the last one with a byte that is no letter.
-fn longest_words_of_odd_alphabets() {
+// The second is lower.
+fn lower_second_words_of_odd_alphabets() {
+    show(b"BQLMP", 4, 1, b"PQMB", b"LBLB");
     show(
         b"AZVITEBDN",
         19,
@@ -94,11 +109,11 @@ fn longest_words_of_odd_alphabets() {
         b"INZZANNEZAEtEZInbTB",
     );
     show(
-        b"LFZBHTSXUAP",
-        17,
+        b"YJGFZEUPVKXLSIB",
+        15,
         1,
-        b"TPLHTLHZLPXTXHHUL",
-        b"TPLHTLHZLPXTXHHUX",
+        b"BJZPxJEIIUXlXIY",
+        b"VEUKZFLYBLXEVKu",
     );
     show(
         b"DOFBREQVWUTCX",
@@ -107,12 +122,81 @@ fn longest_words_of_odd_alphabets() {
         b"BQXBUfEXrFWBWEET",
         b"OUDTTUOVRDoXFXBC",
     );
+}
+
+// The first is lower: short words.
+fn lower_first_words_of_odd_alphabets() {
+    show(b"MYJKLVTHW", 1, 1, b"L", b"w");
+    show(b"TPLWJXZKSYF", 2, 1, b"Kt", b"KJ");
+    show(b"TZFMVNB", 3, 1, b"BZV", b"BZN");
+    show(b"UTAPJNSQHGCYZ", 4, 1, b"HNQA", b"HNQQ");
+    show(b"ABCDEFGHI", 4, 1, b"IGAa", b"IGAC");
+}
+
+// The first is lower: longer words.
+fn lower_first_long_words_of_odd_alphabets() {
+    show(b"MDVTYBP", 7, 1, b"BMBBMYd", b"BMBBMYV");
+    show(b"XYZ", 9, 1, b"yYZYYZZZX", b"yYZYYZZZY");
+    show(b"HMSOU", 10, 1, b"MoHOSOMSSH", b"MoHOSOMSSO");
+    show(b"DOYZSFPVU", 15, 1, b"FOODVPPZVuZFDFF", b"uFOOyPOPUYPVVZD");
+    show(
+        b"LFZBHTSXUAP",
+        17,
+        1,
+        b"TPLHTLHZLPXTXHHUL",
+        b"TPLHTLHZLPXTXHHUX",
+    );
+}
+
+// Refused: words of another length, or with a byte that is no letter.
+fn bad_words_of_odd_alphabets() {
+    show(b"ABC", 2, 1, b"B", b"CA");
+    show(b"LMNOPQRSTUVWXYZ", 4, 1, b"XtYVA", b"TRVR");
+    show(
+        b"LPNKFAGSIVQDB",
+        16,
+        1,
+        b"FDBFDvKVPPSgLBpUA",
+        b"VAISQGDSpVKQFAIA",
+    );
+    show(
+        b"ABCDEFGHIJK",
+        17,
+        1,
+        b"IFBJHBdEIUfKIjKBIA",
+        b"IFBJHBdEIUfKIjKBIF",
+    );
+}
+
+// Refused: longer words.
+fn bad_long_words_of_odd_alphabets() {
+    show(
+        b"WALTOIX",
+        19,
+        1,
+        b"XIALLTioWlWATIwOIoA",
+        b"ILIaLOTTLTONTLOIAOA",
+    );
     show(
         b"TBPIM",
         26,
         1,
         b"PpITIBMMPBIPBBPIIuPTTPPTPM",
         b"PpITIBMMPBIPBBPIIuPTTPPTPI",
+    );
+    show(
+        b"JSP",
+        39,
+        1,
+        b"SPSJpSPSsSJPJPJpJjSJJJSJPJJPJJ\nsJSJPSJS",
+        b"SPSJpSPSsSJPJPJpJjSJJJSJPJJPJJ\nsJSJPSJS",
+    );
+    show(
+        b"ABC",
+        39,
+        1,
+        b"AACBCBCCAAACBAAAAtCCBCBcCABAAcABUBABACC",
+        b"AACBCBCCAAACBAAAAtCCBCBcCABAAcABUBABACC",
     );
 }
 
@@ -123,6 +207,10 @@ fn main() {
     bad_settings();
     bad_words();
     drawn_words();
-    drawn_words_of_odd_alphabets();
-    longest_words_of_odd_alphabets();
+    equal_words_of_odd_alphabets();
+    lower_second_words_of_odd_alphabets();
+    lower_first_words_of_odd_alphabets();
+    lower_first_long_words_of_odd_alphabets();
+    bad_words_of_odd_alphabets();
+    bad_long_words_of_odd_alphabets();
 }
