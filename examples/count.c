@@ -1,6 +1,7 @@
 /*
- * Counts the 2-mers of two small sequence files under reverse complement, as the lab would: clear a table,
- * add the files, print the listing. The second file is damaged and is refused whole.
+ * Counts the 2-mers of small sequence files under reverse complement, as the lab would: clear a table, add the
+ * files, print the listing. The first two are a FASTA and a FASTQ file; the others, one of each kind, are
+ * damaged and are refused whole.
  */
 #include <stdio.h>
 #include <stdlib.h>
@@ -11,11 +12,11 @@
 static const uint8_t letters[] = { 'A', 'C', 'G', 'T' };
 enum { K = 2, CLASSES = 10 };
 
-/* Adds a file and prints its five numbers, or why it was refused. */
-static void add(uint32_t *table, const char *file)
+/* Adds a file of a kind and prints its five numbers, or why it was refused. */
+static void add(uint32_t *table, enum kmer_kinds kind, const char *file)
 {
     uint64_t numbers[KMER_NUMBERS];
-    uint64_t answer = kmer_add(letters, sizeof letters, K, KMER_COMPLEMENT, table, CLASSES,
+    uint64_t answer = kmer_add(letters, sizeof letters, K, KMER_COMPLEMENT, table, CLASSES, kind,
                                (const uint8_t *)file, strlen(file), numbers, KMER_NUMBERS);
     if (kmer_is_refused(answer)) {
         printf("refused %u %llu\n", kmer_refusal(answer), (unsigned long long)kmer_refusal_p(answer));
@@ -45,7 +46,10 @@ int main(void)
     uint32_t table[CLASSES];
 
     printf("%llu classes\n", (unsigned long long)kmer_clear(letters, sizeof letters, K, KMER_COMPLEMENT, table, CLASSES));
-    add(table, ">a\nACGTN\n>b\nAG\nCT\n");
-    add(table, ">c\nAC-GT\n");
+    add(table, KMER_FASTA, ">a\nACGTN\n>b\nAG\nCT\n");
+    add(table, KMER_FASTQ, "@c\nCCGA\n+\nII#I\n");
+    add(table, KMER_FASTA, ">d\nAC-GT\n");
+    /* Cut off: the quality line, at offset 10, is one byte shorter than the sequence line. */
+    add(table, KMER_FASTQ, "@e\nACGT\n+\nIII");
     return list(table);
 }

@@ -1,6 +1,6 @@
 /*
  * kmer.h: the C calls of libkmer.a, which code k-mers, read codes back, mirror k-mers, code all k-mers
- * along a sequence, count the k-mers of sequence files in a table, and list the table.
+ * along a sequence, count the k-mers of sequence files (FASTA or FASTQ) in a table, and list the table.
  *
  * A class is a word of k letters together with its mirror. The calls work with the minimal encoding
  * of canonical k-mers (Wittler 2023): each class has one code, from 0 to the number of classes less 1.
@@ -25,8 +25,9 @@
  * it writes.
  *
  * An answer below 2^63 is a result. An answer from 2^63 on is a refusal: see kmer_is_refused below.
- * Of several grounds for refusing that apply, the one with the lowest number is returned; of 10 and 11 the
- * one at the earlier byte.
+ * Of several grounds for refusing that apply, the one with the lowest number is returned, save that those of
+ * a file's bytes all come after 7 and before 12: in FASTA of 10 and 11 the one at the earlier byte; in FASTQ
+ * that of the earliest record at fault, and within the record the first that applies of 15, 10, 16, 17.
  */
 #ifndef KMER_H
 #define KMER_H
@@ -44,22 +45,46 @@ enum kmer_mirrors {
     KMER_COMPLEMENT = 1 /* the word reversed, with s - 1 - i for each rank i: the reverse complement */
 };
 
+/*
+ * The kinds of sequence file. In both, lines end in LF or CR LF, and the last may have no end; a CR without LF
+ * is a byte of its line. What follows the last line end is a line only where it has bytes. Letters are A to Z
+ * and a to z.
+ *   FASTA  a line that begins with > is a header: it opens a record, and its other bytes are free. All other
+ *          lines hold letters and nothing else; empty lines are skipped.
+ *   FASTQ  four lines a record: one that begins with @; the sequence line, of letters and nothing else; one
+ *          that begins with +; the quality line, of bytes from 33 to 126, as many as the sequence line has, line
+ *          ends not counted. No line is skipped, not even an empty one at the end. The other bytes of the first
+ *          and third lines are free. Only the sequence line counts; it may be empty.
+ */
+enum kmer_kinds {
+    KMER_FASTA = 0,
+    KMER_FASTQ = 1
+};
+
 /* The grounds for refusing a call, by number. Other numbers are never returned, and 3 is reserved. */
 enum kmer_grounds {
-    KMER_BAD_LETTERS = 1,    /* letters are not 2 to 16 different capitals */
-    KMER_BAD_MIRROR = 2,     /* mirror is neither 0 nor 1 */
-    KMER_ODD_COMPLEMENT = 3, /* reserved, never returned: complement takes an odd number of letters too */
-    KMER_BAD_K = 4,          /* k is 0, or s^k is above 2^62 */
-    KMER_BAD_LENGTH = 5,     /* word_len is not k */
-    KMER_TOO_LARGE = 6,      /* the sequence or file is above 16,777,216 bytes; in table calls also:
-                                there are more than 16,777,216 classes */
-    KMER_SHORT_BUFFER = 7,   /* a lent buffer is too short; P is the length needed */
-    KMER_BAD_CODE = 8,       /* code is not below the number of classes */
-    KMER_FOREIGN_BYTE = 9,   /* a byte of word is no letter of the settings; P is the first such place */
-    KMER_STRAY_BYTE = 10,    /* a byte outside of header lines is neither a letter nor part of a line end (LF
-                                or CR LF); P is the offset of the first */
-    KMER_EARLY_LETTER = 11,  /* a letter stands before the file's first header; P is the offset of the first */
-    KMER_COUNTS_FULL = 12    /* some count is above 4,294,967,295 less the file's windows */
+    KMER_BAD_LETTERS = 1,     /* letters are not 2 to 16 different capitals */
+    KMER_BAD_MIRROR = 2,      /* mirror is neither 0 nor 1 */
+    KMER_ODD_COMPLEMENT = 3,  /* reserved, never returned: complement takes an odd number of letters too */
+    KMER_BAD_K = 4,           /* k is 0, or s^k is above 2^62 */
+    KMER_BAD_LENGTH = 5,      /* word_len is not k */
+    KMER_TOO_LARGE = 6,       /* the sequence or file is above 16,777,216 bytes; in table calls also:
+                                 there are more than 16,777,216 classes */
+    KMER_SHORT_BUFFER = 7,    /* a lent buffer is too short; P is the length needed */
+    KMER_BAD_CODE = 8,        /* code is not below the number of classes */
+    KMER_FOREIGN_BYTE = 9,    /* a byte of word is no letter of the settings; P is the first such place */
+    KMER_STRAY_BYTE = 10,     /* a byte outside of header lines (FASTA) or in a sequence line (FASTQ) is neither
+                                 a letter nor part of a line end (LF or CR LF); P is the offset of the first */
+    KMER_EARLY_LETTER = 11,   /* FASTA only: a letter stands before the file's first header; P is the offset of
+                                 the first */
+    KMER_COUNTS_FULL = 12,    /* some count is above 4,294,967,295 less the file's windows */
+    KMER_BAD_RECORD = 15,     /* FASTQ only: a record's first line does not begin with @, its third not with +,
+                                 or the file ends before its fourth; P is the offset of the first line at fault,
+                                 for a missing line the file's length */
+    KMER_QUALITY_LENGTH = 16, /* FASTQ only: a quality line has more or fewer bytes than its sequence line; P
+                                 is the offset of the quality line */
+    KMER_QUALITY_BYTE = 17    /* FASTQ only: a quality byte is not from 33 to 126; P is the offset of the
+                                 first */
 };
 
 /*
@@ -130,19 +155,24 @@ uint64_t kmer_clear(const uint8_t *letters, size_t letters_len, size_t k, uint64
                     uint32_t *table, size_t table_len);
 
 /*
- * Adds a sequence file (FASTA) to a table: 1 at the place of its class for each window of k letters.
- *   table, table_len    a table that was cleared, and perhaps added to, with the same settings.
- *   file, file_len      the bytes of the file, at most 16,777,216.
+ * Adds a sequence file to a table: 1 at the place of its class for each window of k letters.
+ *   table, table_len    a table that was cleared, and perhaps added to, with the same settings. Files of both
+ *                       kinds may be added to one table.
+ *   fastq               the file's kind, which the call does not guess: KMER_FASTA (0) or KMER_FASTQ; any
+ *                       number but 0 is taken for KMER_FASTQ. A FASTQ file that is not empty begins with @,
+ *                       and no FASTA file that is taken in does.
+ *   file, file_len      the bytes of the file, at most 16,777,216. An empty file of either kind has no record.
  *   answer, answer_len  a list of at least KMER_NUMBERS numbers. Its first five places receive the file's
- *                       records (header lines), letters (foreign ones too), foreign letters, edge letters
- *                       and windows; later places keep what they held.
+ *                       records (in FASTA: header lines), letters (foreign ones too), foreign letters, edge
+ *                       letters and windows; later places keep what they held.
  * Returns 5, or 2^63 + P * 256 + the number of the first ground that applies of 1, 2, 4, 6, 7 (of the
- * table, then of answer), 10 or 11 (the earlier byte), 12, where P is the length needed for 7, the offset of
- * the byte for 10 and 11, else 0. A refused call writes nothing to table or answer: no part of a refused
- * file is counted.
+ * table, then of answer), those of the file's bytes (FASTA: 10 or 11, the earlier byte; FASTQ: 15, 10, 16, 17
+ * in this order, of the earliest record to which one applies), 12, where P is the length needed for 7, the
+ * offset that the ground states for 10, 11, 15, 16 and 17, else 0. A refused call writes nothing to table or
+ * answer: no part of a refused file is counted.
  */
 uint64_t kmer_add(const uint8_t *letters, size_t letters_len, size_t k, uint64_t mirror,
-                  uint32_t *table, size_t table_len, const uint8_t *file, size_t file_len,
+                  uint32_t *table, size_t table_len, uint64_t fastq, const uint8_t *file, size_t file_len,
                   uint64_t *answer, size_t answer_len);
 
 /*
@@ -181,8 +211,9 @@ static inline unsigned kmer_refusal(uint64_t answer)
 
 /*
  * P of a refusal by any call but kmer_code and kmer_word: the length needed for KMER_SHORT_BUFFER, the place
- * or offset from 0 for KMER_FOREIGN_BYTE, KMER_STRAY_BYTE and KMER_EARLY_LETTER, else 0. kmer_code and
- * kmer_word return no P, so for these it is always 0.
+ * or offset from 0 for KMER_FOREIGN_BYTE, KMER_STRAY_BYTE, KMER_EARLY_LETTER, KMER_BAD_RECORD,
+ * KMER_QUALITY_LENGTH and KMER_QUALITY_BYTE, else 0. kmer_code and kmer_word return no P, so for these it is
+ * always 0.
  */
 static inline uint64_t kmer_refusal_p(uint64_t answer)
 {

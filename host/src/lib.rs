@@ -14,22 +14,24 @@
 //! A call that cannot do what it is asked gives a [`Refusal`] and changes no byte of any slice lent to it.
 //!
 //! ```
-//! use wontirje::Settings;
+//! use wontirje::{Kind, Settings};
 //!
 //! let settings = Settings::dna(2);
 //! let mut table = vec![0; settings.table_places()?];
 //! settings.clear(&mut table)?;
-//! let numbers = settings.add(&mut table, b">a\nACGTN\n>b\nAG\nCT\n")?;
+//! let numbers = settings.add(&mut table, Kind::Fasta, b">a\nACGTN\n>b\nAG\nCT\n")?;
 //! assert_eq!(numbers.windows, 6);
+//! settings.add(&mut table, Kind::Fastq, b"@c\nAC\n+\nII\n")?;
 //! // AC and its reverse complement GT are one class.
 //! let code = settings.code(b"GT")?;
-//! assert_eq!(table[code.0 as usize], 2);
+//! assert_eq!(table[code.0 as usize], 3);
 //! # Ok::<(), wontirje::Refusal>(())
 //! ```
 
 // The declarations of the C calls, by their path from the tests, so that they are written once.
 #[path = "../../tests/src/c_calls.rs"]
 mod c_calls;
+mod kind;
 mod lines;
 mod refusal;
 mod sequences;
@@ -37,6 +39,7 @@ mod settings;
 mod tables;
 mod words;
 
+pub use kind::Kind;
 pub use refusal::Refusal;
 pub use sequences::{codes_two_bit, MOST_BYTES, NO_CODE};
 pub use settings::{Mirror, Settings};

@@ -1,4 +1,5 @@
-//! Why the library refused a call: the number of the ground in document 01 and the place that goes with it.
+//! Why the library refused a call: the number of the ground in documents 01 and 02 and the place that goes with
+//! it.
 
 use std::error::Error;
 use std::fmt;
@@ -9,18 +10,19 @@ const REFUSED: u64 = 1 << 63;
 /// Why a call was refused. No byte of any slice lent to it was changed.
 ///
 /// ```
-/// use wontirje::{Refusal, Settings};
+/// use wontirje::{Kind, Refusal, Settings};
 /// let mut table = vec![0; 10];
-/// let refusal = Settings::dna(2).add(&mut table, b">a\nAC*GT\n").unwrap_err();
+/// let refusal = Settings::dna(2).add(&mut table, Kind::Fasta, b">a\nAC*GT\n").unwrap_err();
 /// assert_eq!(refusal, Refusal { number: 10, place: 5 });
 /// assert_eq!(refusal.to_string(), "refused 10: a byte of a sequence line is no letter");
 /// ```
 #[derive(Clone, Copy, Debug, PartialEq, Eq)]
 pub struct Refusal {
-    /// The ground, from 1 to 12. It is never 3, which is reserved.
+    /// The ground, from 1 to 12 or 15 to 17. It is never 3, which is reserved.
     pub number: u64,
-    /// The length needed for 7; the place or offset, from 0, for 9, 10 and 11; else 0.
-    /// [`crate::Settings::code`] and [`crate::Settings::word`] always give 0.
+    /// The length needed for 7; the place or offset, from 0, of the byte for 9, 10, 11 and 17, of the line for 15
+    /// and 16 (the file's length for a missing line); else 0. [`crate::Settings::code`] and
+    /// [`crate::Settings::word`] always give 0.
     pub place: u64,
 }
 
@@ -44,6 +46,9 @@ impl Refusal {
             10 => "a byte of a sequence line is no letter",
             11 => "a letter stands before the first header",
             12 => "a count could exceed 4,294,967,295",
+            15 => "a record lacks its @ or its +, or the file ends before its fourth line",
+            16 => "a quality line is longer or shorter than its sequence line",
+            17 => "a quality byte is not from 33 to 126",
             _ => "a ground that the library's header does not name",
         }
     }

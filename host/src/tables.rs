@@ -1,20 +1,22 @@
 //! Tables of counts: kmer_clear, kmer_add and kmer_listing, and the number of places that kmer_clear tells.
 
 use crate::c_calls::{kmer_add, kmer_clear, kmer_listing};
+use crate::kind::Kind;
 use crate::refusal::{judged, Refusal};
 use crate::settings::Settings;
 
 /// The five numbers of a file. Its letters are windows + foreign + edge.
 ///
 /// ```
+/// use wontirje::{Kind, Settings};
 /// let mut table = vec![0; 10];
-/// let numbers = wontirje::Settings::dna(2).add(&mut table, b">a\nACGTN\n")?;
+/// let numbers = Settings::dna(2).add(&mut table, Kind::Fasta, b">a\nACGTN\n")?;
 /// assert_eq!(numbers.letters, numbers.windows + numbers.foreign + numbers.edge);
 /// # Ok::<(), wontirje::Refusal>(())
 /// ```
 #[derive(Clone, Copy, Debug, Default, PartialEq, Eq)]
 pub struct Numbers {
-    /// Header lines.
+    /// Records: in FASTA header lines, in FASTQ four lines each.
     pub records: u64,
     /// Letters, foreign ones too.
     pub letters: u64,
@@ -62,20 +64,26 @@ impl Settings<'_> {
         judged(answer).map(|places| places as usize)
     }
 
-    /// Adds a sequence file to a table that was cleared with the same settings: 1 for each window at the
-    /// place of its class. Refused on the grounds 1, 4, 6, 7 (the place is the length needed), 10 and 11
-    /// (the offset of the byte), and 12; a refused file changes no count.
+    /// Adds a sequence file of a kind to a table that was cleared with the same settings: 1 for each window at
+    /// the place of its class. Files of both kinds may be added to one table. Refused on the grounds 1, 4, 6, 7
+    /// (the place is the length needed), those of the file's bytes (the place is an offset), and 12; a refused
+    /// file changes no count. The bytes of FASTA are refused with 10 or 11, whichever byte is earlier; those of
+    /// FASTQ with 15, 10, 16 or 17, in this order within the earliest record at fault.
     ///
     /// ```
-    /// use wontirje::{Refusal, Settings};
+    /// use wontirje::{Kind, Refusal, Settings};
     /// let settings = Settings::dna(2);
     /// let mut table = vec![0; 10];
-    /// assert_eq!(settings.add(&mut table, b">a\nAC\nGT")?.windows, 3);
-    /// assert_eq!(settings.add(&mut table, b"AC\n>a\n"), Err(Refusal { number: 11, place: 0 }));
-    /// assert_eq!(table.iter().sum::<u32>(), 3);
+    /// assert_eq!(settings.add(&mut table, Kind::Fasta, b">a\nAC\nGT")?.windows, 3);
+    /// let early = Refusal { number: 11, place: 0 };
+    /// assert_eq!(settings.add(&mut table, Kind::Fasta, b"AC\n>a\n"), Err(early));
+    /// assert_eq!(settings.add(&mut table, Kind::Fastq, b"@a\nACGT\n+\nIIII\n")?.windows, 3);
+    /// let cut_off = Refusal { number: 15, place: 6 };
+    /// assert_eq!(settings.add(&mut table, Kind::Fastq, b"@a\nAC\n"), Err(cut_off));
+    /// assert_eq!(table.iter().sum::<u32>(), 6);
     /// # Ok::<(), Refusal>(())
     /// ```
-    pub fn add(&self, table: &mut [u32], file: &[u8]) -> Result<Numbers, Refusal> {
+    pub fn add(&self, table: &mut [u32], kind: Kind, file: &[u8]) -> Result<Numbers, Refusal> {
         let (letters, k, mirror) = (self.letters, self.k, self.mirror as u64);
         let mut list = [0; 5];
         // SAFETY: each pointer comes with the length of its slice; `table` and `list` are borrowed for
@@ -89,6 +97,7 @@ impl Settings<'_> {
                 mirror,
                 to,
                 table.len(),
+                kind as u64,
                 from,
                 file.len(),
                 numbers,

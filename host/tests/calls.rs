@@ -5,14 +5,14 @@ mod run;
 
 use kmer_tests::book::{class_count, table_ground, Book};
 use kmer_tests::draw::*;
-use kmer_tests::draw_files::{damaged, drawn_file, drawn_sequence};
+use kmer_tests::draw_files::drawn_sequence;
 use kmer_tests::expected::{self, coding, mirroring, reading, settings_ground};
 use kmer_tests::lent::filled;
 use kmer_tests::sequences::along;
 use kmer_tests::settings::*;
 use kmer_tests::tables::sizes_up_to;
-use run::{lent, whole_listing};
-use wontirje::{codes_two_bit, Code, Numbers, Refusal};
+use run::{drawn_of_either_kind, lent, lent_kind, whole_listing};
+use wontirje::{codes_two_bit, Code, Kind, Numbers, Refusal};
 
 fn refusal(expected: expected::Refusal) -> Refusal {
     Refusal { number: expected.number, place: expected.p }
@@ -121,44 +121,51 @@ fn codes_along_sequences() {
     }
 }
 
-/// Lists of adds, damaged files among them, beside the tally book.
+/// Lists of adds of both kinds of file, damaged ones among them, beside the tally book.
 #[test]
 fn tables_beside_the_tally_book() {
     let mut random = Random::new(104);
-    let mut refused = 0;
+    let mut refused = [0; 18];
     for (s, mirror, k) in sizes_up_to(5000) {
         let settings = Settings::new(&drawn_capitals(&mut random, s), k, mirror);
         let (mut book, places) = (Book::new(&settings), class_count(&settings) as usize);
         let mut table: Vec<u32> = filled(places + 2);
         let mut right = table.clone();
         assert_eq!(lent(&settings).clear(&mut table), Ok(places), "{settings}");
-        for _ in 0..8 {
-            let mut file = drawn_file(&mut random, &settings, 300);
-            if random.below(3) == 0 {
-                file = damaged(&mut random, &settings, file);
-            }
-            let due = book.add(table.len(), &file, 5).map(|[records, letters, foreign, edge, windows]| {
-                Numbers { records, letters, foreign, edge, windows }
-            });
-            refused += due.is_err() as usize;
-            assert_eq!(lent(&settings).add(&mut table, &file), due.map_err(refusal), "{settings}");
+        for _ in 0..12 {
+            let (kind, file) = drawn_of_either_kind(&mut random, &settings, 300);
+            let due =
+                book.add(table.len(), kind, &file, 5).map(|[records, letters, foreign, edge, windows]| {
+                    Numbers { records, letters, foreign, edge, windows }
+                });
+            refused[due.map_or_else(|refusal| refusal.number as usize, |_| 0)] += 1;
+            let answer = lent(&settings).add(&mut table, lent_kind(kind), &file);
+            assert_eq!(answer, due.map_err(refusal), "{settings}: {kind:?}");
             book.write_counts(&mut right);
             assert!(table == right, "{settings}: a count differs");
         }
         let short = Err(Refusal { number: 7, place: places as u64 });
         assert_eq!(lent(&settings).clear(&mut table[..places - 1]), short, "{settings}");
-        assert_eq!(lent(&settings).add(&mut table[..places - 1], b"").map(|_| 0), short, "{settings}");
+        for kind in [Kind::Fasta, Kind::Fastq] {
+            let answer = lent(&settings).add(&mut table[..places - 1], kind, b"x");
+            assert_eq!(answer.map(|_| 0), short, "{settings}");
+        }
         assert!(table == right, "{settings}: a refused call changed a count");
     }
-    assert!(refused > 100, "{refused} files refused");
+    assert!([10, 11, 15, 16, 17].iter().all(|&number| refused[number] > 8), "{refused:?} files refused");
 }
 
 #[test]
 fn a_full_table_is_refused_12() {
     let settings = wontirje::Settings::dna(1);
     let mut table = [u32::MAX - 2, 0];
-    assert_eq!(settings.add(&mut table, b">\nACG"), Err(Refusal { number: 12, place: 0 }));
-    assert_eq!(settings.add(&mut table, b">\nAC").map(|numbers| numbers.windows), Ok(2));
+    let full = Err(Refusal { number: 12, place: 0 });
+    assert_eq!(settings.add(&mut table, Kind::Fasta, b">\nACG"), full);
+    assert_eq!(settings.add(&mut table, Kind::Fastq, b"@\nACG\n+\nIII"), full);
+    // The bytes of a file are judged before the counts.
+    let byte = Err(Refusal { number: 17, place: 9 });
+    assert_eq!(settings.add(&mut table, Kind::Fastq, b"@\nACG\n+\nI I"), byte);
+    assert_eq!(settings.add(&mut table, Kind::Fasta, b">\nAC").map(|numbers| numbers.windows), Ok(2));
     assert_eq!(table, [u32::MAX - 1, 1]);
     let text = whole_listing(&settings, &table);
     assert!(text.ends_with(b"(count C 4294967294)\n(count A 1)\n(total 4294967295)\n"));

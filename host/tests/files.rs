@@ -4,9 +4,8 @@
 mod run;
 
 use kmer_tests::draw::Random;
-use kmer_tests::draw_files::{damaged, drawn_file};
 use kmer_tests::settings::{Settings, COMPLEMENT};
-use run::{lent, run, run_as, run_with, whole_listing, Folder, Run, WONTIRJE};
+use run::{drawn_of_either_kind, lent, run, run_as, run_with, whole_listing, Folder, Run, WONTIRJE};
 use std::ffi::{OsStr, OsString};
 use std::fs::{self, Permissions};
 use std::os::unix::ffi::OsStrExt;
@@ -14,6 +13,7 @@ use std::os::unix::fs::{MetadataExt, PermissionsExt};
 use std::os::unix::process::CommandExt;
 use std::path::{Path, PathBuf};
 use std::process::Command;
+use wontirje::Kind;
 
 const EXAMPLE: &[u8] = b">a\nACGTN\n>b\nAG\nCT\n";
 const NUMBERS: &str = "records 2, letters 9, foreign 1, edge 2, windows 6";
@@ -103,7 +103,7 @@ fn refusals_tell_place_and_remedy() {
     let no_letter = "a byte of a sequence line is no letter";
     let mend = "take the byte out, or mend the line, and count the file again";
     let early = "a letter stands before the first header; \
-        put a header line that begins with > before it, and count the file again";
+        put a header line before it, one that begins with > (with @ if it is FASTQ), and count the file again";
     let cases: [(&[u8], String); 7] = [
         (b">a\r\nAC\r\n-", format!("10 at offset 8 (line 3, column 1): '-': {no_letter}; {mend}")),
         (b">a\nAC\n\nA C", format!("10 at offset 8 (line 4, column 2): a space: {no_letter}; {mend}")),
@@ -125,22 +125,22 @@ fn check_refused(file: &[u8], right: &str) {
     assert_eq!(run.complaints(), [format!("standard input: refused {right}")]);
 }
 
-/// Files that are no FASTA from their first byte on, short ones and too long ones: what they are decides what
-/// to do.
+/// Files that are neither FASTA nor FASTQ from their first byte on, short ones and too long ones: what they are
+/// decides what to do.
 #[test]
-fn files_of_another_kind() {
+fn files_of_neither_kind() {
     let compressed = |program: &str| {
         format!("it is compressed: give - for it, with {program} -dc FILE | before the command")
     };
-    let fastq = "it looks like FASTQ: make FASTA of it first";
     let survey = "take the survey line out: settings are given as options";
+    let mark = "it begins with a byte order mark: take its three bytes out";
     let cases: [(&[u8], &str, String); 6] = [
         (b"\x1f\x8b\x08\x00", "byte 0x1f", compressed("gzip")),
         (b"BZh91AY&SY", "'B'", compressed("bzip2")),
         (b"\xfd7zXZ\x00", "byte 0xfd", compressed("xz")),
         (b"\x28\xb5\x2f\xfd", "'('", compressed("zstd")),
-        (b"@a\nACGT\n+\nIIII\n", "'@'", fastq.into()),
         (b"(survey (letters ACGT) (k 2) (mirror complement))\n>a\nACGT\n", "'('", survey.into()),
+        (b"\xef\xbb\xbf>a\nACGT\n", "byte 0xef", mark.into()),
     ];
     for (file, byte, advice) in cases {
         let (number, what) = match byte {
@@ -153,8 +153,8 @@ fn files_of_another_kind() {
     }
 }
 
-/// Drawn lists of whole and damaged files: the listing is that of the library after the same adds, and each
-/// line has the library's answer.
+/// Drawn lists of whole and damaged files of both kinds: the listing is that of the library after the same adds,
+/// and each line has the library's answer.
 #[test]
 fn drawn_lists_of_files() {
     let mut random = Random::new(131);
@@ -166,10 +166,9 @@ fn drawn_lists_of_files() {
         let mut table = vec![0; ours.table_places().expect("a table")];
         let (mut arguments, mut lines) = (vec![OsString::from("count"), "--k=6".into()], Vec::new());
         for name in ["a", "b", "c", "d"] {
-            let whole = drawn_file(&mut random, &settings, 2000);
-            let file = if random.below(3) == 0 { damaged(&mut random, &settings, whole) } else { whole };
+            let (_, file) = drawn_of_either_kind(&mut random, &settings, 2000);
             let path = folder.file(name, &file);
-            lines.push(match ours.add(&mut table, &file) {
+            lines.push(match ours.add(&mut table, Kind::of(&file), &file) {
                 Ok(numbers) => {
                     format!("{}: records {}, letters {}, ", path.display(), numbers.records, numbers.letters)
                 }

@@ -34,6 +34,18 @@ fn each_command_has_help_with_an_example() {
     }
 }
 
+/// What is said of the kinds of file.
+#[test]
+fn the_help_of_count_says_the_kinds() {
+    let help = run(&["help", "count"]).text().to_string();
+    assert!(
+        help.contains(" [--kind KIND] ") && help.contains("\n  --kind KIND     fasta or fastq: "),
+        "{help}"
+    );
+    let told = help.split_whitespace().collect::<Vec<_>>().join(" ");
+    assert!(told.contains("A file whose first byte is @ is taken for FASTQ, any other for FASTA;"), "{told}");
+}
+
 /// What the help says of an example's output.
 #[test]
 fn the_examples_print_what_the_help_says() {
@@ -64,7 +76,8 @@ fn the_examples_print_what_the_help_says() {
 fn errors_in_the_command_line() {
     let see = |command: &str| format!("; see wontirje {command}--help");
     let no_number = "is no number from 0 to 2^64 - 1";
-    let cases: [(&[&str], String); 17] = [
+    let no_kind = "is neither fasta nor fastq";
+    let cases: [(&[&str], String); 22] = [
         (&[], format!("no command given{}", see(""))),
         (&["conut"], format!("conut is no command of wontirje{}", see(""))),
         (&["a\nb"], format!("a\\nb is no command of wontirje{}", see(""))),
@@ -79,6 +92,11 @@ fn errors_in_the_command_line() {
         (&["count", "--k", "-2", "-"], format!("--k -2 {no_number}")),
         (&["count", "--k", "", "-"], format!("--k  {no_number}")),
         (&["count", "--k", "18446744073709551616", "-"], format!("--k 18446744073709551616 {no_number}")),
+        (&["count", "--kind", "sam", "-"], format!("--kind sam {no_kind}")),
+        (&["count", "--kind=FASTQ", "-"], format!("--kind FASTQ {no_kind}")),
+        (&["count", "--kind", "", "-"], format!("--kind  {no_kind}")),
+        (&["count", "a.fq", "--kind"], format!("--kind lacks its value{}", see("count "))),
+        (&["histogram", "--kind", "fastq", "-"], format!("--kind is no option{}", see("histogram "))),
         (&["histogram", "--bars", "many", "-"], format!("--bars many {no_number}")),
         (&["histogram"], format!("give one listing, or - for standard input{}", see("histogram "))),
         (&["histogram", "--bars", "1", "-"], String::from("--bars 1 is not from 2 to 200")),

@@ -6,10 +6,11 @@ mod run;
 use kmer_tests::book::class_count;
 use kmer_tests::draw::*;
 use kmer_tests::draw_inputs::Inputs;
+use kmer_tests::files::Kind;
 use kmer_tests::second_counter::first_line;
 use kmer_tests::settings::*;
 use kmer_tests::tables::{drawn_table, sizes_up_to};
-use run::{lent, whole_listing};
+use run::{lent, lent_kind, whole_listing};
 use std::io::{self, ErrorKind, Write};
 use wontirje::Refusal;
 
@@ -43,12 +44,15 @@ fn drawn_tables_of_every_size() {
 
 #[test]
 fn tables_that_files_were_added_to() {
-    let mut inputs = Inputs::new(112);
-    for _ in 0..500 {
-        let (settings, input) = inputs.good(500);
-        let mut table = vec![0; class_count(&settings) as usize];
-        lent(&settings).add(&mut table, first_line(&input).1).expect("a good file");
-        check(&lent(&settings), &table);
+    for kind in [Kind::Fasta, Kind::Fastq] {
+        let mut inputs = Inputs::new(112, kind);
+        for _ in 0..250 {
+            let (settings, input) = inputs.good(500);
+            let mut table = vec![0; class_count(&settings) as usize];
+            let file = first_line(&input).1;
+            lent(&settings).add(&mut table, lent_kind(kind), file).expect("a good file");
+            check(&lent(&settings), &table);
+        }
     }
 }
 

@@ -8,6 +8,8 @@ mod usage;
 
 use kmer_tests::draw::write_drawn;
 use run::{Folder, WONTIRJE};
+use std::fs::File;
+use std::io::Write;
 use std::path::{Path, PathBuf};
 use std::process::{Command, Stdio};
 
@@ -26,6 +28,18 @@ fn drawn_file(folder: &Folder, name: &str, length: usize) -> PathBuf {
     path
 }
 
+/// A FASTQ file of 16,777,216 bytes: the same records of 128 bytes again and again, written piece by piece, so
+/// that this process stays small.
+fn full_fastq(folder: &Folder) -> PathBuf {
+    let path = folder.path("full.fq");
+    let mut file = File::create(&path).expect("a file");
+    let (letters, qualities) = ("GATTACAC".repeat(7) + "NNNN", "!I~@+>#5".repeat(7) + "!!!!");
+    let piece = format!("@rd\n{letters}\n+\n{qualities}\n").repeat(1024);
+    assert_eq!(piece.len(), 131_072);
+    (0..128).for_each(|_| file.write_all(piece.as_bytes()).expect("room for the file"));
+    path
+}
+
 fn check(what: &str, peak: u64, k: usize, file: u64) {
     let table = 4 * wontirje::Settings::dna(k).table_places().expect("a table") as u64;
     let bound = table + file + 2_000_000;
@@ -38,7 +52,7 @@ fn check(what: &str, peak: u64, k: usize, file: u64) {
     );
 }
 
-/// One file of full size, by name and through a pipe; several files; the listing to a new file.
+/// One file of full size, by name and through a pipe; several files, of both kinds; the listing to a new file.
 #[test]
 fn the_table_one_file_and_two_megabytes() {
     let folder = Folder::new();
@@ -49,6 +63,8 @@ fn the_table_one_file_and_two_megabytes() {
         check("one file", peak(&["--k", &k.to_string()], &[&full], Stdio::null()), k, length);
     }
     check("three files", peak(&["--k", "9"], &[&half, &full, &half], Stdio::null()), 9, length);
+    let fastq = full_fastq(&folder);
+    check("FASTQ after FASTA", peak(&["--k", "9"], &[&half, &fastq], Stdio::null()), 9, length);
     let output = folder.path("counts.txt");
     let options = ["--output", output.to_str().expect("a name")];
     check("a new file", peak(&options, &[&half], Stdio::null()), 11, 8_000_000);

@@ -5,8 +5,9 @@
 mod run;
 
 use kmer_tests::draw_inputs::Inputs;
+use kmer_tests::files::Kind;
 use kmer_tests::program::{check_each, run_in_pieces};
-use kmer_tests::program_cases::{cases_by_hand, vectors};
+use kmer_tests::program_cases::{cases_by_hand, fastq_cases_by_hand, vectors};
 use kmer_tests::second_counter::{first_line, survey};
 use kmer_tests::settings::{shown_file, Settings};
 use run::{options, run_with, Run};
@@ -76,7 +77,7 @@ fn check(input: &[u8], output: &[u8], compared: &Compared) {
             assert_eq!(complaint, as_said(&printed[at..]), "{}", what());
             &compared.counted
         }
-        Some((number @ (10 | 11), p)) => {
+        Some((number @ (10 | 11 | 15..=17), p)) => {
             let start = format!("standard input: refused {number} at offset {p} (line ");
             assert!(run.status == 1 && complaint.starts_with(&start), "{}", what());
             assert!(run.text().ends_with("))\n(total 0)\n") && run.text().lines().count() == 2, "{}", what());
@@ -95,20 +96,24 @@ fn check(input: &[u8], output: &[u8], compared: &Compared) {
 #[test]
 fn stored_runs() {
     let compared = Compared::default();
-    let cases: Vec<_> = vectors([245, 200]).into_iter().chain(cases_by_hand(103)).collect();
+    let by_hand = cases_by_hand(103).into_iter().chain(fastq_cases_by_hand(39));
+    let cases: Vec<_> = vectors([245, 200, 200]).into_iter().chain(by_hand).collect();
     check_each(&cases, |case| check(&case.input, &case.output, &compared));
     let [counted, file_refused, settings_refused, out_of_reach] = compared.numbers();
-    assert_eq!(counted + file_refused + settings_refused + out_of_reach, 548);
-    assert!(counted > 200 && file_refused > 120 && settings_refused > 60, "{:?}", compared.numbers());
-    assert!(out_of_reach < 120, "{:?}", compared.numbers());
+    assert_eq!(counted + file_refused + settings_refused + out_of_reach, 787);
+    assert!(counted > 300 && file_refused > 200 && settings_refused > 60, "{:?}", compared.numbers());
+    assert!(out_of_reach < 150, "{:?}", compared.numbers());
 }
 
 #[test]
 fn drawn_inputs() {
-    let compared = Compared::default();
-    let mut inputs = Inputs::new(121);
-    let drawn: Vec<Vec<u8>> = (0..800).map(|_| inputs.any()).collect();
-    check_each(&drawn, |input| check(input, &run_in_pieces(input, input.len().max(1)), &compared));
-    let [counted, file_refused, settings_refused, _] = compared.numbers();
-    assert!(counted > 350 && file_refused > 40 && settings_refused > 40, "{:?}", compared.numbers());
+    for kind in [Kind::Fasta, Kind::Fastq] {
+        let compared = Compared::default();
+        let mut inputs = Inputs::new(121, kind);
+        let drawn: Vec<Vec<u8>> = (0..800).map(|_| inputs.any()).collect();
+        check_each(&drawn, |input| check(input, &run_in_pieces(input, input.len().max(1)), &compared));
+        let [counted, file_refused, settings_refused, _] = compared.numbers();
+        let enough = counted > 350 && file_refused > 40 && settings_refused > 40;
+        assert!(enough, "{kind:?}: {:?}", compared.numbers());
+    }
 }

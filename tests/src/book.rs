@@ -2,6 +2,7 @@
 //! sequence files that goes line by line; and the grounds that refuse a table call.
 
 use crate::expected::{coder, settings_ground, Refusal};
+use crate::files::{fastq_sequences, lines, Kind};
 use crate::second_coder::Coder;
 use crate::sequences::MOST_BYTES;
 use crate::settings::Settings;
@@ -26,6 +27,27 @@ pub struct Contents {
 }
 
 impl Contents {
+    fn new() -> Contents {
+        Contents { records: 0, letters: 0, foreign: 0, runs: vec![Vec::new()] }
+    }
+
+    fn open_record(&mut self) {
+        self.records += 1;
+        self.runs.push(Vec::new());
+    }
+
+    /// A letter goes to the last run, and a foreign one ends it.
+    fn take_letter(&mut self, letters: &[u8], letter: u8) {
+        self.letters += 1;
+        match letters.iter().position(|&other| other == letter.to_ascii_uppercase()) {
+            Some(rank) => self.runs.last_mut().expect("a run").push(rank as u8),
+            None => {
+                self.foreign += 1;
+                self.runs.push(Vec::new());
+            }
+        }
+    }
+
     /// The five numbers: edge and windows run by run, as "Sequence file (FASTA)" defines them.
     pub fn numbers(&self, k: usize) -> Numbers {
         let edge: usize = self.runs.iter().map(|run| run.len().min(k - 1)).sum();
@@ -34,28 +56,23 @@ impl Contents {
     }
 }
 
-/// The lines of a file with their offsets, without their ends: LF, CR LF, or none for the last.
-fn lines(file: &[u8]) -> Vec<(usize, &[u8])> {
-    let mut offset = 0;
-    let mut lines = Vec::new();
-    for line in file.split_inclusive(|&byte| byte == b'\n') {
-        let bare = line.strip_suffix(b"\r\n").or(line.strip_suffix(b"\n")).unwrap_or(line);
-        lines.push((offset, bare));
-        offset += line.len();
+/// What a file of either kind holds, or its ground of 10, 11, 15, 16 and 17.
+pub fn read(kind: Kind, letters: &[u8], file: &[u8]) -> Result<Contents, Refusal> {
+    match kind {
+        Kind::Fasta => read_fasta(letters, file),
+        Kind::Fastq => read_fastq(letters, file),
     }
-    lines
 }
 
 /// Reads a file line by line, up to the first byte that ground 10 or 11 names.
-pub fn read(letters: &[u8], file: &[u8]) -> Result<Contents, Refusal> {
-    let mut found = Contents { records: 0, letters: 0, foreign: 0, runs: vec![Vec::new()] };
+fn read_fasta(letters: &[u8], file: &[u8]) -> Result<Contents, Refusal> {
+    let mut found = Contents::new();
     for (offset, line) in lines(file) {
         if line.first() == Some(&b'>') {
-            found.records += 1;
-            found.runs.push(Vec::new());
+            found.open_record();
             continue;
         }
-        for (place, byte) in line.iter().enumerate() {
+        for (place, &byte) in line.iter().enumerate() {
             let p = (offset + place) as u64;
             if !byte.is_ascii_alphabetic() {
                 return Err(Refusal { number: 10, p });
@@ -63,15 +80,18 @@ pub fn read(letters: &[u8], file: &[u8]) -> Result<Contents, Refusal> {
             if found.records == 0 {
                 return Err(Refusal { number: 11, p });
             }
-            found.letters += 1;
-            match letters.iter().position(|letter| *letter == byte.to_ascii_uppercase()) {
-                Some(rank) => found.runs.last_mut().expect("a run").push(rank as u8),
-                None => {
-                    found.foreign += 1;
-                    found.runs.push(Vec::new());
-                }
-            }
+            found.take_letter(letters, byte);
         }
+    }
+    Ok(found)
+}
+
+/// "Only the sequence counts" (document 02, K1).
+fn read_fastq(letters: &[u8], file: &[u8]) -> Result<Contents, Refusal> {
+    let mut found = Contents::new();
+    for sequence in fastq_sequences(file)? {
+        found.open_record();
+        sequence.iter().for_each(|&letter| found.take_letter(letters, letter));
     }
     Ok(found)
 }
@@ -127,12 +147,12 @@ impl Book {
     }
 
     /// All grounds for an add, in their order; else what the file holds.
-    fn grounds(&self, places: usize, file: &[u8], room: usize) -> Result<Contents, Refusal> {
+    fn grounds(&self, places: usize, kind: Kind, file: &[u8], room: usize) -> Result<Contents, Refusal> {
         table_ground(&self.settings, file.len() > MOST_BYTES, places)?;
         if room < 5 {
             return Err(Refusal { number: 7, p: 5 });
         }
-        let found = read(&self.settings.letters, file)?;
+        let found = read(kind, &self.settings.letters, file)?;
         let windows = found.numbers(self.settings.k)[4];
         if self.tallies.values().any(|tally| tally.count + windows > TOP) {
             return Err(Refusal { number: 12, p: 0 });
@@ -141,8 +161,8 @@ impl Book {
     }
 
     /// An add with a table of so many places and an answer list of so much room.
-    pub fn add(&mut self, places: usize, file: &[u8], room: usize) -> Result<Numbers, Refusal> {
-        let found = self.grounds(places, file, room)?;
+    pub fn add(&mut self, places: usize, kind: Kind, file: &[u8], room: usize) -> Result<Numbers, Refusal> {
+        let found = self.grounds(places, kind, file, room)?;
         let coder = self.coder.as_ref().expect("no ground applied");
         for window in found.runs.iter().flat_map(|run| run.windows(self.settings.k)) {
             let word = coder.canonical(window);

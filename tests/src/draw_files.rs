@@ -2,6 +2,7 @@
 //! lines of any width with either line end, and files with one damage.
 
 use crate::draw::{drawn_near_palindrome, drawn_word, spelled_mixed, Random};
+use crate::files::bare;
 use crate::settings::{Settings, COMPLEMENT};
 
 /// One of some bytes.
@@ -62,11 +63,11 @@ pub fn drawn_end(random: &mut Random) -> &'static [u8] {
     }
 }
 
-/// A header line: > and up to 20 bytes, free but for LF.
-fn drawn_header(random: &mut Random) -> Vec<u8> {
+/// A line with a mark: the mark and up to 20 bytes, free but for LF.
+pub fn drawn_marked(random: &mut Random, mark: u8) -> Vec<u8> {
     let length = random.below(21);
     let free = (0..length).map(|_| random.below(256) as u8).filter(|&byte| byte != b'\n');
-    std::iter::once(b'>').chain(free).collect()
+    std::iter::once(mark).chain(free).collect()
 }
 
 /// A file that no ground of the file's refuses: up to 4 records, lines of any width with either end, empty
@@ -77,7 +78,7 @@ pub fn drawn_file(random: &mut Random, settings: &Settings, length: u64) -> Vec<
         file.extend(drawn_end(random));
     }
     for _ in 0..random.below(5) {
-        file.extend(drawn_header(random));
+        file.extend(drawn_marked(random, b'>'));
         file.extend(drawn_end(random));
         let gap = [0, 7, 40, 400][random.below(4) as usize];
         let count = random.below(length + 1) as usize;
@@ -93,8 +94,7 @@ pub fn drawn_file(random: &mut Random, settings: &Settings, length: u64) -> Vec<
     }
     if random.below(2) == 0 {
         // Without a CR left over, which would be a stray byte of a sequence line.
-        let bare = file.strip_suffix(b"\r\n").or(file.strip_suffix(b"\n")).unwrap_or(&file);
-        file.truncate(bare.len());
+        file.truncate(bare(&file).len());
     }
     file
 }

@@ -3,7 +3,9 @@
 //! put in.
 
 use crate::draw::{drawn_capitals, Random};
-use crate::draw_files::{damaged, drawn_byte, drawn_end, drawn_file};
+use crate::draw_fastq::{damaged_of, drawn_of};
+use crate::draw_files::{drawn_byte, drawn_end};
+use crate::files::Kind;
 use crate::second_counter::PLACES;
 use crate::settings::{good_sizes, largest_k, Settings};
 use crate::tables::sizes_up_to;
@@ -21,7 +23,7 @@ const BAD_MIRRORS: [&[u8]; 9] =
     [b"both", b"foo", b"reverse", b"z", b"", b"Reversal", b"1", b"complement ", b"comp-lement"];
 
 /// Bytes that a damaged input is likely to hold.
-const LIKELY: &[u8] = b"(()) \r\r\n\n>AaCz019*\0\xff";
+const LIKELY: &[u8] = b"(()) \r\r\n\n>@+AaCz019*\0\xff";
 
 /// One of some values.
 fn one<'a>(random: &mut Random, values: &[&'a [u8]]) -> &'a [u8] {
@@ -55,16 +57,23 @@ impl Values {
     }
 }
 
-/// Draws inputs; the sizes that fit the program's table are kept from the start.
+/// Draws inputs with files of one kind; the sizes that fit the program's table are kept from the start.
 pub struct Inputs {
     random: Random,
+    kind: Kind,
     fitting: Vec<(usize, u64, usize)>,
     all: Vec<(usize, u64, usize)>,
 }
 
 impl Inputs {
-    pub fn new(seed: u64) -> Inputs {
-        Inputs { random: Random::new(seed), fitting: sizes_up_to(PLACES as u128), all: good_sizes() }
+    pub fn new(seed: u64, kind: Kind) -> Inputs {
+        let (fitting, all) = (sizes_up_to(PLACES as u128), good_sizes());
+        Inputs { random: Random::new(seed), kind, fitting, all }
+    }
+
+    /// A whole file.
+    fn file(&mut self, settings: &Settings, length: u64) -> Vec<u8> {
+        drawn_of(&mut self.random, self.kind, settings, length)
     }
 
     fn settings(&mut self, fitting: bool) -> Settings {
@@ -76,7 +85,7 @@ impl Inputs {
     /// An input that is counted, with the settings that it has. Records have up to so many letters.
     pub fn good(&mut self, length: u64) -> (Settings, Vec<u8>) {
         let settings = self.settings(true);
-        let file = drawn_file(&mut self.random, &settings, length);
+        let file = self.file(&settings, length);
         let input = self.with_file(&Values::of(&settings), &file);
         (settings, input)
     }
@@ -89,8 +98,8 @@ impl Inputs {
     /// A good survey line and a damaged file.
     fn with_damaged_file(&mut self) -> Vec<u8> {
         let settings = self.settings(true);
-        let whole = drawn_file(&mut self.random, &settings, 200);
-        let file = damaged(&mut self.random, &settings, whole);
+        let whole = self.file(&settings, 200);
+        let file = damaged_of(&mut self.random, self.kind, &settings, whole);
         self.with_file(&Values::of(&settings), &file)
     }
 
@@ -100,7 +109,7 @@ impl Inputs {
         if self.random.below(4) == 0 {
             settings.k = largest_k(settings.letters.len()) + 1 + self.random.below(3) as usize;
         }
-        let file = drawn_file(&mut self.random, &settings, 60);
+        let file = self.file(&settings, 60);
         self.with_file(&Values::of(&settings), &file)
     }
 
@@ -118,7 +127,7 @@ impl Inputs {
         if which & 4 > 0 {
             values.mirror = one(&mut self.random, &BAD_MIRRORS).to_vec();
         }
-        let file = drawn_file(&mut self.random, &settings, 30);
+        let file = self.file(&settings, 30);
         self.with_file(&values, &file)
     }
 

@@ -1,16 +1,18 @@
 //! What the tests share. The C calls and what is lent to them: `c_calls`, `lent`, `calls`, `sequences`,
 //! `tables`. What documents 01 and 02 say that they answer, written apart from the library: `second_coder`,
-//! `expected`, `book`. What the tests go over: `settings`, `draw`, `draw_files`, and the stored answers in
-//! `vectors`, `table_vectors`. For the counter program: its runs in `program`, the second counter,
-//! `draw_inputs` and `program_cases`.
+//! `expected`, `files`, `book`. What the tests go over: `settings`, `draw`, `draw_files`, `draw_fastq`, and the
+//! stored answers in `vectors`, `table_vectors`. For the counter program: its runs in `program`, the second
+//! counter, `draw_inputs` and `program_cases`.
 
 pub mod book;
 pub mod c_calls;
 pub mod calls;
 pub mod draw;
+pub mod draw_fastq;
 pub mod draw_files;
 pub mod draw_inputs;
 pub mod expected;
+pub mod files;
 pub mod lent;
 pub mod program;
 pub mod program_cases;

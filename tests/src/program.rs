@@ -1,8 +1,9 @@
-//! Runs the counter program: bytes through a pipe into its standard input, what it prints back. Every run
-//! must end in time with status 0 and with nothing on standard error.
+//! Runs the counter program: bytes through a pipe into its standard input, what it prints back, also beside the
+//! second counter. Every run must end in time with status 0 and with nothing on standard error.
 
-use crate::second_counter::MOST_INPUT;
+use crate::second_counter::{answer, answer_kind, MOST_INPUT};
 use crate::settings::shown_file;
+use std::collections::BTreeMap;
 use std::env;
 use std::fs::File;
 use std::io::{self, Read, Write};
@@ -116,4 +117,17 @@ pub fn check_each<T: Sync>(items: &[T], check: impl Fn(&T) + Sync) {
             scope.spawn(|| part.iter().for_each(&check));
         }
     });
+}
+
+/// The program prints for each input what the second counter prints. Gives how many answers of each kind there
+/// are.
+pub fn check_beside_second(inputs: &[Vec<u8>]) -> BTreeMap<String, usize> {
+    let pairs: Vec<(&Vec<u8>, Vec<u8>)> = inputs.iter().map(|input| (input, answer(input))).collect();
+    check_each(&pairs, |(input, right)| check_prints(input, right));
+    let mut kinds = BTreeMap::new();
+    for (_, right) in &pairs {
+        *kinds.entry(answer_kind(right)).or_default() += 1;
+    }
+    println!("{kinds:?}");
+    kinds
 }

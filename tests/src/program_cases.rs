@@ -1,8 +1,14 @@
-//! Reads the stored runs of the counter program, vectors/program.txt, vectors/k10_program.txt and
-//! program/cases.txt, and the lines of program/malformed.txt; the heads of these files say how they are
-//! written.
+//! Reads the stored runs of the counter program, vectors/program.txt, vectors/k10_program.txt,
+//! vectors/k01_program.txt, program/cases.txt and program/fastq.txt, and the lines of program/malformed.txt;
+//! the heads of these files say how they are written.
 
+use crate::program::check_prints;
+use crate::second_counter::answer;
+use crate::settings::shown_file;
 use crate::vectors::bytes;
+
+/// The survey line of document 01's example, without its end.
+pub const LINE: &[u8] = b"(survey (letters ACGT) (k 2) (mirror complement))";
 
 /// A stored run.
 pub struct Case {
@@ -56,11 +62,12 @@ fn cases(text: &'static str, count: usize) -> Vec<Case> {
     found
 }
 
-/// The stored answers of independent reference implementations: so many to document 01 alone, then so many to
-/// document 01 with document 02, K10.
-pub fn vectors(counts: [usize; 2]) -> Vec<Case> {
+/// The stored answers of independent reference implementations: so many to document 01 alone, to document 01
+/// with document 02, K10, and to these with K1.
+pub fn vectors(counts: [usize; 3]) -> Vec<Case> {
     let mut found = cases(include_str!("../vectors/program.txt"), counts[0]);
     found.extend(cases(include_str!("../vectors/k10_program.txt"), counts[1]));
+    found.extend(cases(include_str!("../vectors/k01_program.txt"), counts[2]));
     found
 }
 
@@ -69,10 +76,22 @@ pub fn cases_by_hand(count: usize) -> Vec<Case> {
     cases(include_str!("../program/cases.txt"), count)
 }
 
+/// The cases with FASTQ files whose outputs were worked out by hand.
+pub fn fastq_cases_by_hand(count: usize) -> Vec<Case> {
+    cases(include_str!("../program/fastq.txt"), count)
+}
+
 /// First lines that are no survey lines, without their ends.
 pub fn malformed_lines(count: usize) -> Vec<Vec<u8>> {
     let lines = include_str!("../program/malformed.txt").lines().filter(|line| !line.starts_with('#'));
     let found: Vec<Vec<u8>> = lines.map(unescaped).collect();
     assert_eq!(found.len(), count, "lines");
     found
+}
+
+/// The second counter and the program print what is stored.
+pub fn check_stored(case: &Case) {
+    let second = answer(&case.input);
+    assert!(second == case.output, "{}: the second counter printed {}", case.name, shown_file(&second));
+    check_prints(&case.input, &case.output);
 }

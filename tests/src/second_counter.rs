@@ -1,10 +1,11 @@
-//! A second counter program, written from document 01 ("Listing and counter program") and not from the
-//! library: from the bytes of standard input to the bytes that are printed. Of the other references it uses
-//! the second coder and the grounds for table calls; the survey line, the file, the tallies and the printed
-//! lines are its own.
+//! A second counter program, written from document 01 ("Listing and counter program") and document 02, K1, and
+//! not from the library: from the bytes of standard input to the bytes that are printed. Of the other
+//! references it uses the second coder, the grounds for table calls and the records of FASTQ files; the survey
+//! line, the FASTA file, the tallies and the printed lines are its own.
 
-use crate::book::table_ground;
+use crate::book::{table_ground, Numbers};
 use crate::expected::{coder, Refusal};
+use crate::files::{as_fasta, fastq_sequences, Kind};
 use crate::settings::{Settings, COMPLEMENT, REVERSAL};
 use std::collections::BTreeMap;
 
@@ -22,6 +23,16 @@ pub fn answer(input: &[u8]) -> Vec<u8> {
     }
 }
 
+/// What kind of answer an output is: `counted`, `empty` where there is no count, or its refusal's number.
+pub fn answer_kind(output: &[u8]) -> String {
+    let text = String::from_utf8_lossy(output).into_owned();
+    match text.strip_prefix("(refused ") {
+        Some(rest) => rest.split(' ').next().unwrap_or_default().to_string(),
+        None if text.contains("(count ") => "counted".to_string(),
+        None => "empty".to_string(),
+    }
+}
+
 /// Checks go in number order, save that 14 and 13 come first.
 fn counted(input: &[u8]) -> Result<Vec<u8>, Refusal> {
     if input.len() > MOST_INPUT {
@@ -31,7 +42,11 @@ fn counted(input: &[u8]) -> Result<Vec<u8>, Refusal> {
     let settings = survey(line).ok_or(Refusal { number: 13, p: 0 })?;
     // The file is no longer than the input, so that of ground 6 only the number of classes is left.
     table_ground(&settings, false, PLACES)?;
-    let found = read(&settings.letters, file)?;
+    // The records of a FASTQ file are counted as those of a FASTA file that has the same letters.
+    let found = match Kind::taken_by_program(file) {
+        Kind::Fasta => read(&settings.letters, file)?,
+        Kind::Fastq => read(&settings.letters, &as_fasta(&fastq_sequences(file)?))?,
+    };
     let coder = coder(&settings);
     // Canonical word and count, by code.
     let mut classes: BTreeMap<u128, (Vec<u8>, u64)> = BTreeMap::new();
@@ -39,7 +54,7 @@ fn counted(input: &[u8]) -> Result<Vec<u8>, Refusal> {
         classes.entry(coder.code(window)).or_insert((coder.canonical(window), 0)).1 += 1;
     }
     let mut text = listing(&settings, classes.into_values());
-    text.extend(found.file_line(settings.k).into_bytes());
+    text.extend(file_line(found.numbers(settings.k)).into_bytes());
     Ok(text)
 }
 
@@ -137,13 +152,17 @@ fn read(letters: &[u8], file: &[u8]) -> Result<Contents, Refusal> {
 }
 
 impl Contents {
-    fn file_line(&self, k: usize) -> String {
-        let Contents { records, letters, foreign, .. } = self;
+    fn numbers(&self, k: usize) -> Numbers {
         let edge: usize = self.runs.iter().map(|run| run.len().min(k - 1)).sum();
         let windows: usize = self.runs.iter().map(|run| run.windows(k).len()).sum();
-        let read = format!("(records {records}) (letters {letters}) (foreign {foreign})");
-        format!("(file {read} (edge {edge}) (windows {windows}))\n")
+        [self.records, self.letters, self.foreign, edge, windows].map(|number| number as u64)
     }
+}
+
+/// The line with a file's five numbers.
+pub fn file_line([records, letters, foreign, edge, windows]: Numbers) -> String {
+    let read = format!("(records {records}) (letters {letters}) (foreign {foreign})");
+    format!("(file {read} (edge {edge}) (windows {windows}))\n")
 }
 
 /// The listing of classes given as canonical word and count, by rising code.

@@ -1,19 +1,26 @@
 //! Reads the stored answers of independent reference implementations for clearing and adding:
-//! vectors/tables.txt, those to document 01 alone, and vectors/k10_tables.txt, those to document 01 with
-//! document 02, K10; the heads of these files say what their columns are.
+//! vectors/tables.txt, those to document 01 alone, vectors/k10_tables.txt, those to document 01 with document
+//! 02, K10, and vectors/k01_tables.txt, those with K1 too, whose files are FASTQ; the heads of these files say
+//! what their columns are.
 
 use crate::expected::Refusal;
+use crate::files::{FASTA, FASTQ};
 use crate::settings::Settings;
 use crate::vectors::{bytes, number, places, rows, StoredFile};
 
-const TABLES: StoredFile = ("tables.txt", include_str!("../vectors/tables.txt"));
-const K10_TABLES: StoredFile = ("k10_tables.txt", include_str!("../vectors/k10_tables.txt"));
+/// The files of stored calls, each with the number that names the kind of its sequence files.
+const TABLES: [(StoredFile, u64); 3] = [
+    (("tables.txt", include_str!("../vectors/tables.txt")), FASTA),
+    (("k10_tables.txt", include_str!("../vectors/k10_tables.txt")), FASTA),
+    (("k01_tables.txt", include_str!("../vectors/k01_tables.txt")), FASTQ),
+];
 
 /// A stored call.
 pub struct Stored {
     /// The file and the line in it.
     pub line: String,
     pub settings: Settings,
+    pub fastq: u64,
     pub file: Vec<u8>,
     pub table: Vec<u32>,
     pub outcome: Result<Vec<u64>, Refusal>,
@@ -27,17 +34,23 @@ fn stored_outcome(text: &str) -> Result<Vec<u64>, Refusal> {
     }
 }
 
-/// The stored calls of one kind: so many of tables.txt, then so many of k10_tables.txt, so that a cut file
-/// does not pass.
-pub fn stored(call: &str, counts: [usize; 2]) -> Vec<Stored> {
-    let rows = [rows(TABLES, call, counts[0]), rows(K10_TABLES, call, counts[1])].concat();
-    let parsed = rows.into_iter().map(|(line, columns)| Stored {
+fn parsed(fastq: u64, (line, columns): (String, Vec<&str>)) -> Stored {
+    Stored {
         line,
         settings: Settings::new(&bytes(columns[1]), number(columns[2]), number(columns[3])),
+        fastq,
         file: bytes(columns[4]),
         table: places(columns[5]),
         outcome: stored_outcome(columns[6]),
         after: places(columns[7]),
-    });
-    parsed.collect()
+    }
+}
+
+/// The stored calls of one kind: so many of each file in turn, so that a cut file does not pass.
+pub fn stored(call: &str, counts: [usize; 3]) -> Vec<Stored> {
+    let mut found = Vec::new();
+    for ((file, fastq), count) in TABLES.into_iter().zip(counts) {
+        found.extend(rows(file, call, count).into_iter().map(|row| parsed(fastq, row)));
+    }
+    found
 }

@@ -1,13 +1,18 @@
 //! The table calls as safe functions that lend copies between guards, the comparison of clearing and adding
-//! with the tally book, and what the tests of tables begin with: sizes, cleared and drawn tables, files of
-//! one record.
+//! with the tally book, and what the tests of tables begin with: sizes, lengths, cleared, full and drawn
+//! tables, files of one record.
 
-use crate::book::{class_count, table_ground, Book, Numbers};
+use crate::book::{class_count, table_ground, Book, Numbers, TOP};
 use crate::c_calls::{kmer_add, kmer_clear, kmer_listing};
 use crate::draw::{first_capitals, Random};
 use crate::expected::Refusal;
+use crate::files::Kind;
 use crate::lent::{check_places, Lent};
-use crate::settings::{good_sizes, shown_file, Settings};
+use crate::sequences::two_bit_settings;
+use crate::settings::{good_and_bad_settings, good_sizes, shown_file, Settings, COMPLEMENT, REVERSAL};
+
+/// The library works in batches of this many letters, so that lengths about its multiples are tried.
+pub const BATCH: usize = 1024;
 
 /// A table is lent to one call after the other, as the call before left it.
 pub type Table = Lent<u32>;
@@ -24,15 +29,15 @@ pub fn clear(settings: &Settings, table: &mut Table) -> u64 {
     answer
 }
 
-/// Adds a file to a table: the answer of kmer_add.
-pub fn add(settings: &Settings, table: &mut Table, file: &[u8], numbers: &mut Lent<u64>) -> u64 {
+/// Adds a file to a table: the answer of kmer_add. `fastq` is the number that names the kind of file.
+pub fn add(settings: &Settings, table: &mut Table, fastq: u64, file: &[u8], numbers: &mut Lent<u64>) -> u64 {
     let mut letters = Lent::new(&settings.letters);
     let mut lent = Lent::new(file);
     let (k, mirror, places, room) = (settings.k, settings.mirror, table.len(), numbers.len());
     // SAFETY: as in `clear`; the list of numbers is an allocation of its own too.
     let answer = unsafe {
         let (to, from, list) = (table.pointer(), lent.pointer(), numbers.pointer());
-        kmer_add(letters.pointer(), letters.len(), k, mirror, to, places, from, file.len(), list, room)
+        kmer_add(letters.pointer(), letters.len(), k, mirror, to, places, fastq, from, file.len(), list, room)
     };
     letters.check_unchanged(settings, "letters", &settings.letters);
     lent.check_unchanged(settings, "file", file);
@@ -76,11 +81,19 @@ pub fn check_clear(settings: &Settings, table: &mut Table) {
 
 /// Adds a file to the table and to the book, and compares the answer, the five numbers, every count and
 /// every later place; a refused call leaves table and answer list as they were. Gives the book's answer.
-pub fn check_add(book: &mut Book, table: &mut Table, file: &[u8], room: usize) -> Result<Numbers, Refusal> {
-    let settings = book.settings.clone();
-    let what =
-        format!("{settings}: kmer_add to {} places, room {room}, file {}", table.len(), shown_file(file));
-    let expected = book.add(table.len(), file, room);
+pub fn check_add(
+    book: &mut Book,
+    table: &mut Table,
+    fastq: u64,
+    file: &[u8],
+    room: usize,
+) -> Result<Numbers, Refusal> {
+    let (settings, places) = (book.settings.clone(), table.len());
+    let what = format!(
+        "{settings}: kmer_add to {places} places, room {room}, fastq {fastq}, file {}",
+        shown_file(file)
+    );
+    let expected = book.add(places, Kind::named(fastq), file, room);
     let mut right = table.slice().to_vec();
     let mut list = Lent::<u64>::filled(room);
     let mut right_list = list.slice().to_vec();
@@ -88,7 +101,7 @@ pub fn check_add(book: &mut Book, table: &mut Table, file: &[u8], room: usize) -
         book.write_counts(&mut right);
         right_list[..5].copy_from_slice(&numbers);
     }
-    let answer = add(&settings, table, file, &mut list);
+    let answer = add(&settings, table, fastq, file, &mut list);
     let due = expected.map_or_else(|refusal| refusal.packed(), |_| 5);
     assert!(answer == due, "{what} is {answer:#x}, expected {due:#x} ({expected:?})");
     check_places(&format!("{what}: the answer list"), list.slice(), &right_list);
@@ -102,6 +115,30 @@ pub fn check_sum(book: &Book, table: &Table) {
     let sum: u64 = table.slice()[..classes].iter().map(|&count| count as u64).sum();
     let [_, letters, foreign, edge, _] = book.taken;
     assert_eq!(sum, letters - foreign - edge, "{}: sum of the counts", book.settings);
+}
+
+/// Settings with small tables, for the tests that go over many files.
+pub fn some_settings() -> Vec<Settings> {
+    let sizes = [(b"ACGT", 1, 1), (b"ACGT", 2, 1), (b"ACGT", 5, 1), (b"ACGT", 8, 1), (b"TGAC", 4, 0)];
+    let mut all: Vec<Settings> = sizes.iter().map(|&(l, k, mirror)| Settings::new(l, k, mirror)).collect();
+    all.push(Settings::new(b"XY", 13, REVERSAL));
+    all.push(Settings::new(b"PQR", 6, REVERSAL));
+    all.push(Settings::new(b"ZYXWVUTSRQ", 3, COMPLEMENT));
+    all.push(Settings::new(b"ACXGT", 3, COMPLEMENT));
+    all
+}
+
+/// Lengths about the ends of the first batches, whether a batch has BATCH letters or BATCH windows.
+pub fn lengths_about_batches(k: usize) -> Vec<usize> {
+    let mut lengths = Vec::new();
+    for batches in 1..=3 {
+        for base in [batches * BATCH, batches * (BATCH - k + 1) + k - 1] {
+            lengths.extend([base - k, base - 1, base, base + 1, base + k - 1, base + k, base + k + 1]);
+        }
+    }
+    lengths.sort();
+    lengths.dedup();
+    lengths
 }
 
 /// The sizes whose tables have at most so many places.
@@ -119,6 +156,15 @@ pub fn cleared(settings: &Settings, more: usize) -> (Book, Table) {
     (Book::new(settings), table)
 }
 
+/// Sets all classes' places to 0, and one of them to a count; later places hold the most there is.
+pub fn table_with(settings: &Settings, place: usize, count: u64) -> (Book, Table) {
+    let classes = class_count(settings) as usize;
+    let mut places = vec![u32::MAX; classes + 4];
+    places[..classes].fill(0);
+    places[place] = count as u32;
+    (Book::starting(settings, &places[..classes]), Table::new(&places))
+}
+
 /// A table with up to two places more than needed. About one place of `sparse` has a count, small or large.
 pub fn drawn_table(random: &mut Random, settings: &Settings, sparse: u64) -> Vec<u32> {
     let places = class_count(settings) as usize + random.below(3) as usize;
@@ -130,9 +176,9 @@ pub fn drawn_table(random: &mut Random, settings: &Settings, sparse: u64) -> Vec
 }
 
 /// Adds one file to a cleared table beside the book.
-pub fn check_file(settings: &Settings, file: &[u8]) -> Result<Numbers, Refusal> {
+pub fn check_file(settings: &Settings, fastq: u64, file: &[u8]) -> Result<Numbers, Refusal> {
     let (mut book, mut table) = cleared(settings, 3);
-    check_add(&mut book, &mut table, file, 5)
+    check_add(&mut book, &mut table, fastq, file, 5)
 }
 
 /// A file of one record.
@@ -143,4 +189,56 @@ pub fn record(sequence: &[u8]) -> Vec<u8> {
 /// What the book answers to a refused add.
 pub fn refused(number: u64, p: u64) -> Result<Numbers, Refusal> {
     Err(Refusal { number, p })
+}
+
+/// An add that is refused: letters, k, mirror, places, first place's count, file, room; number and P.
+pub type Faulty<'a> = (&'a [u8], usize, u64, usize, u32, &'a [u8], usize, (u64, u64));
+
+/// Makes a refused add, which answers as written out and changes no place of the table or of the list.
+pub fn check_refused(fastq: u64, (letters, k, mirror, places, first, file, room, (number, p)): Faulty) {
+    let settings = Settings::new(letters, k, mirror);
+    let mut table = Table::filled(places);
+    table.slice_mut().iter_mut().take(1).for_each(|place| *place = first);
+    let before = table.slice().to_vec();
+    let mut list = Lent::filled(room);
+    let what = format!("{settings}: {places} places, file {}, room {room}", shown_file(file));
+    let answer = add(&settings, &mut table, fastq, file, &mut list);
+    assert_eq!(answer, Refusal { number, p }.packed(), "{what}");
+    assert!(table.slice() == before && list.slice() == Lent::<u64>::filled(room).slice(), "{what}");
+}
+
+/// Ground 12: each place in turn, whether the file touches it or not, at the edge and above it.
+pub fn check_full_places(seed: u64, fastq: u64, file_of: impl Fn(&mut Random, &Settings) -> Vec<u8>) {
+    let mut random = Random::new(seed);
+    let zebra = [REVERSAL, COMPLEMENT].map(|mirror| Settings::new(b"ZEBRA", 3, mirror));
+    for settings in [two_bit_settings(3), two_bit_settings(4)].into_iter().chain(zebra) {
+        let file = file_of(&mut random, &settings);
+        let windows = check_file(&settings, fastq, &file).expect("a file without damage")[4];
+        for place in 0..class_count(&settings) as usize {
+            for (count, fits) in [(TOP - windows, true), (TOP - windows + 1, false), (TOP, false)] {
+                let (mut book, mut table) = table_with(&settings, place, count);
+                let answer = check_add(&mut book, &mut table, fastq, &file, 5).err();
+                let right = (!fits).then_some(Refusal { number: 12, p: 0 });
+                assert_eq!(answer, right, "{settings}: {place}");
+            }
+        }
+    }
+}
+
+/// Adds some files, as each kind that is named, under good and bad settings, to tables and with lists that are
+/// long enough or not, each beside the book.
+pub fn check_combinations(kinds: &[u64], files: &[&[u8]], sizes: &[usize], rooms: &[usize]) {
+    for settings in good_and_bad_settings() {
+        for &places in sizes {
+            let mut table = Table::filled(places);
+            check_clear(&settings, &mut table);
+            for (file, room) in files.iter().flat_map(|file| rooms.iter().map(move |room| (file, *room))) {
+                for &fastq in kinds {
+                    // The comparison with the book is within.
+                    let _ = check_add(&mut Book::new(&settings), &mut table, fastq, file, room);
+                    check_clear(&settings, &mut table);
+                }
+            }
+        }
+    }
 }

@@ -6,6 +6,7 @@ use kmer_tests::book::{class_count, table_ground};
 use kmer_tests::draw::*;
 use kmer_tests::draw_inputs::Inputs;
 use kmer_tests::expected::{coder, Refusal};
+use kmer_tests::files::{Kind, FASTA};
 use kmer_tests::lent::{check_places, filled, Lent};
 use kmer_tests::second_counter::{answer, first_line, listing};
 use kmer_tests::sequences::two_bit_settings;
@@ -140,12 +141,13 @@ fn every_class_alone() {
 /// them.
 #[test]
 fn tables_that_files_were_added_to() {
-    let mut inputs = Inputs::new(63);
+    let mut inputs = Inputs::new(63, Kind::Fasta);
     let mut with_counts = 0;
     for _ in 0..1000 {
         let (settings, input) = inputs.good(500);
         let (_, mut table) = cleared(&settings, 1);
-        assert_eq!(add(&settings, &mut table, first_line(&input).1, &mut Lent::filled(5)), 5, "{settings}");
+        let file = first_line(&input).1;
+        assert_eq!(add(&settings, &mut table, FASTA, file, &mut Lent::filled(5)), 5, "{settings}");
         let printed = answer(&input);
         let file_line =
             printed[..printed.len() - 1].iter().rposition(|&byte| byte == b'\n').expect("two lines");

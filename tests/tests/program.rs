@@ -6,29 +6,21 @@ use kmer_tests::book::class_count;
 use kmer_tests::draw::{first_capitals, Random};
 use kmer_tests::draw_files::drawn_byte;
 use kmer_tests::draw_inputs::Inputs;
+use kmer_tests::files::Kind;
 use kmer_tests::program::*;
 use kmer_tests::program_cases::*;
 use kmer_tests::second_counter::{answer, MOST_INPUT, PLACES};
 use kmer_tests::settings::{good_sizes, largest_k, shown_file, Settings};
-use std::collections::BTreeMap;
 
 /// How many inputs are drawn.
 const DRAWN: usize = 6000;
 
-/// The survey line of document 01's example, and its file.
-const LINE: &[u8] = b"(survey (letters ACGT) (k 2) (mirror complement))";
+/// The file of document 01's example.
 const FILE: &[u8] = b">a\nACGTN\n>b\nAG\nCT\n";
-
-/// The second counter and the program print what is stored.
-fn check_stored(case: &Case) {
-    let second = answer(&case.input);
-    assert!(second == case.output, "{}: the second counter printed {}", case.name, shown_file(&second));
-    check_prints(&case.input, &case.output);
-}
 
 #[test]
 fn stored_answers() {
-    check_each(&vectors([245, 200]), check_stored);
+    check_each(&vectors([245, 200, 200]), check_stored);
 }
 
 #[test]
@@ -128,7 +120,7 @@ fn the_program_prints_no_refusal_3() {
 #[test]
 fn inputs_that_come_in_pieces() {
     let example = [LINE, b"\r\n", FILE].concat();
-    let (_, longer) = Inputs::new(51).good(9000);
+    let (_, longer) = Inputs::new(51, Kind::Fasta).good(9000);
     let largest = [LINE, b"\n>\n", &b"GATTACA".repeat(9355)[..MOST_INPUT - LINE.len() - 3]].concat();
     let above = [&largest[..], b"A"].concat();
     for (input, pieces) in [(&example, 1), (&example, 7), (&longer, 997), (&largest, 4096), (&above, 32_768)]
@@ -175,34 +167,18 @@ fn large_inputs_beside_the_second_counter() {
     assert!(lines(&inputs[14]) > 8_000 && lines(&inputs[20]) > 9_500);
 }
 
-/// What kind of answer an output is: `counted`, `empty` where there is no count, or its refusal.
-fn kind(output: &[u8]) -> String {
-    let text = String::from_utf8_lossy(output).into_owned();
-    match text.strip_prefix("(refused ") {
-        Some(rest) => rest.split(' ').next().unwrap_or_default().to_string(),
-        None if text.contains("(count ") => "counted".to_string(),
-        None => "empty".to_string(),
-    }
-}
-
 #[test]
 fn drawn_inputs_beside_the_second_counter() {
-    let mut drawn = Inputs::new(53);
+    let mut drawn = Inputs::new(53, Kind::Fasta);
     let mut inputs: Vec<Vec<u8>> = (0..DRAWN).map(|_| drawn.any()).collect();
     // Some that are too long, of all kinds.
     for place in 0..20 {
         let long = inputs[place].iter().copied().chain(std::iter::repeat(b'A')).take(MOST_INPUT + 1 + place);
         inputs.push(long.collect());
     }
-    let pairs: Vec<(Vec<u8>, Vec<u8>)> = inputs.into_iter().map(|input| (answer(&input), input)).collect();
-    check_each(&pairs, |(right, input)| check_prints(input, right));
-    let mut kinds: BTreeMap<String, usize> = BTreeMap::new();
-    for (right, _) in &pairs {
-        *kinds.entry(kind(right)).or_default() += 1;
-    }
-    println!("{kinds:?}");
+    let kinds = check_beside_second(&inputs);
     // The comparison is worth something only where all kinds of inputs are in it.
-    assert!(kinds["counted"] * 3 > pairs.len(), "{kinds:?}");
+    assert!(kinds["counted"] * 3 > inputs.len(), "{kinds:?}");
     for number in ["empty", "1", "2", "4", "6", "7", "10", "11", "13", "14"] {
         assert!(kinds.get(number).is_some_and(|&count| count >= 20), "{number}: {kinds:?}");
     }

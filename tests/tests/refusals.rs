@@ -5,6 +5,7 @@
 use kmer_tests::calls::{self, REFUSED};
 use kmer_tests::draw::*;
 use kmer_tests::expected::*;
+use kmer_tests::files::FASTA;
 use kmer_tests::lent::{filled, Lent};
 use kmer_tests::sequences::{codes, codes_two_bit};
 use kmer_tests::settings::*;
@@ -109,7 +110,7 @@ fn answers(settings: &Settings, places: usize) -> [u64; 8] {
         codes(settings, &letters, places).0,
         codes_two_bit(settings.k, &letters, places).0,
         clear(settings, &mut table),
-        add(settings, &mut table, &record(&letters), &mut Lent::filled(places)),
+        add(settings, &mut table, FASTA, &record(&letters), &mut Lent::filled(places)),
         listed(settings, table.slice(), places).0,
     ]
 }

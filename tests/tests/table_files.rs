@@ -1,40 +1,14 @@
-//! Adding sequence files to a table, byte by byte: what each byte of a file is, line ends, runs and cuts
+//! Adding FASTA files to a table, byte by byte: what each byte of a file is, line ends, runs and cuts
 //! about the library's batches, beside the tally book and with numbers written out.
 
 use kmer_tests::book::*;
 use kmer_tests::draw::*;
 use kmer_tests::draw_files::*;
 use kmer_tests::expected::Refusal;
+use kmer_tests::files::FASTA;
 use kmer_tests::sequences::two_bit_settings;
 use kmer_tests::settings::*;
 use kmer_tests::tables::*;
-
-/// The library works in batches of this many letters, so that lengths about its multiples are tried.
-const BATCH: usize = 1024;
-
-/// Settings with small tables, for the tests that go over many files.
-fn some_settings() -> Vec<Settings> {
-    let sizes = [(b"ACGT", 1, 1), (b"ACGT", 2, 1), (b"ACGT", 5, 1), (b"ACGT", 8, 1), (b"TGAC", 4, 0)];
-    let mut all: Vec<Settings> = sizes.iter().map(|&(l, k, mirror)| Settings::new(l, k, mirror)).collect();
-    all.push(Settings::new(b"XY", 13, REVERSAL));
-    all.push(Settings::new(b"PQR", 6, REVERSAL));
-    all.push(Settings::new(b"ZYXWVUTSRQ", 3, COMPLEMENT));
-    all.push(Settings::new(b"ACXGT", 3, COMPLEMENT));
-    all
-}
-
-/// Lengths about the ends of the first batches, whether a batch has BATCH letters or BATCH windows.
-fn lengths_about_batches(k: usize) -> Vec<usize> {
-    let mut lengths = Vec::new();
-    for batches in 1..=3 {
-        for base in [batches * BATCH, batches * (BATCH - k + 1) + k - 1] {
-            lengths.extend([base - k, base - 1, base, base + 1, base + k - 1, base + k, base + k + 1]);
-        }
-    }
-    lengths.sort();
-    lengths.dedup();
-    lengths
-}
 
 #[test]
 fn runs_about_a_batch() {
@@ -49,7 +23,8 @@ fn runs_about_a_batch() {
             let two = [&run[..], &other].join(&foreign);
             let records = [&run[..], b"\n>\n", &other, b"\r\n>second\r\n", &run].concat();
             for sequence in [run.clone(), lines.join(&b"\r\n"[..]), two, records] {
-                check_add(&mut book, &mut table, &record(&sequence), 5).expect("a file without damage");
+                check_add(&mut book, &mut table, FASTA, &record(&sequence), 5)
+                    .expect("a file without damage");
             }
         }
         check_sum(&book, &table);
@@ -68,7 +43,7 @@ fn cuts_at_every_place_about_a_batch() {
         for place in BATCH - k - 3..=BATCH + k + 3 {
             for cut in [&[foreign][..], b"\n>\n", b"\n", b"\r\n", b"\n\r\n\n"] {
                 let file = record(&[&run[..place], cut, &run[place..]].concat());
-                check_add(&mut book, &mut table, &file, 5).expect("a file without damage");
+                check_add(&mut book, &mut table, FASTA, &file, 5).expect("a file without damage");
             }
         }
     }
@@ -86,10 +61,14 @@ fn line_ends_at_every_offset_about_a_batch() {
                 let header = [&b">"[..], &vec![b'>'; length - 3], b"\r\n"].concat();
                 let letters = drawn_letters(&mut random, &settings, 8, 5);
                 let good = [&header[..], &letters[..4], b"\r\n", &letters[4..], b"\r\n"].concat();
-                check_add(&mut book, &mut table, &good, 5).expect("a file without damage");
+                check_add(&mut book, &mut table, FASTA, &good, 5).expect("a file without damage");
                 let stray = [&header[..], &letters[..4], b"\r", &letters[4..], b"\n"].concat();
                 let right = refused(10, header.len() as u64 + 4);
-                assert_eq!(check_add(&mut book, &mut table, &stray, 5), right, "header of {length} bytes");
+                assert_eq!(
+                    check_add(&mut book, &mut table, FASTA, &stray, 5),
+                    right,
+                    "header of {length} bytes"
+                );
             }
         }
     }
@@ -118,7 +97,7 @@ fn every_byte_at_every_kind_of_place() {
         for (before, after) in frames {
             for byte in 0..=255 {
                 // The comparison with the book is within.
-                let _ = check_file(&settings, &[before, &[byte], after].concat());
+                let _ = check_file(&settings, FASTA, &[before, &[byte], after].concat());
             }
         }
     }
@@ -154,6 +133,6 @@ fn files_with_numbers_written_out() {
         (b">a\nAC\r\r\n*", refused(10, 5)),
     ];
     for (file, numbers) in files {
-        assert_eq!(check_file(&two_bit_settings(3), file), numbers, "{}", shown_file(file));
+        assert_eq!(check_file(&two_bit_settings(3), FASTA, file), numbers, "{}", shown_file(file));
     }
 }

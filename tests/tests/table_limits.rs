@@ -1,8 +1,9 @@
-//! The largest tables and the longest files, and one class or byte more.
+//! The largest tables and the longest FASTA files, and one class or byte more.
 
 use kmer_tests::book::*;
 use kmer_tests::draw::*;
 use kmer_tests::expected::{coder, Refusal};
+use kmer_tests::files::{Kind, FASTA};
 use kmer_tests::lent::*;
 use kmer_tests::sequences::{two_bit_settings, MOST_BYTES};
 use kmer_tests::settings::*;
@@ -15,13 +16,13 @@ fn the_largest_table_for_dna_is_at_k_12() {
     let (mut book, mut table) = cleared(&settings, 2);
     assert_eq!(clear(&settings, &mut table), 8_390_656);
     let file = record(b"ACGTACGTACGTNTTTTTTTTTTTTCAAAAAAAAAAAAG");
-    assert_eq!(check_add(&mut book, &mut table, &file, 5), Ok([1, 39, 1, 22, 16]));
+    assert_eq!(check_add(&mut book, &mut table, FASTA, &file, 5), Ok([1, 39, 1, 22, 16]));
     for places in [0, 100, 8_390_656] {
         let mut table = Table::filled(places);
         check_clear(&two_bit_settings(13), &mut table);
         assert_eq!(clear(&two_bit_settings(13), &mut table), Refusal { number: 6, p: 0 }.packed());
         let mut book = Book::new(&two_bit_settings(13));
-        assert_eq!(check_add(&mut book, &mut table, &file, 5), refused(6, 0));
+        assert_eq!(check_add(&mut book, &mut table, FASTA, &file, 5), refused(6, 0));
     }
 }
 
@@ -31,14 +32,14 @@ fn the_largest_table_of_all() {
     let settings = Settings::new(b"AB", 25, COMPLEMENT);
     let mut short = Table::filled(16_777_215);
     check_clear(&settings, &mut short);
-    assert_eq!(check_add(&mut Book::new(&settings), &mut short, b">", 5), refused(7, 16_777_216));
+    assert_eq!(check_add(&mut Book::new(&settings), &mut short, FASTA, b">", 5), refused(7, 16_777_216));
     drop(short);
     let (mut book, mut table) = cleared(&settings, 1);
     let file = record(b"ABBABABBBABABAAABABABABABABBABBBBABABA");
-    assert_eq!(check_add(&mut book, &mut table, &file, 5), Ok([1, 38, 0, 24, 14]));
+    assert_eq!(check_add(&mut book, &mut table, FASTA, &file, 5), Ok([1, 38, 0, 24, 14]));
     let above = Settings::new(b"AB", 25, REVERSAL);
     check_clear(&above, &mut table);
-    assert_eq!(check_add(&mut Book::new(&above), &mut table, &file, 5), refused(6, 0));
+    assert_eq!(check_add(&mut Book::new(&above), &mut table, FASTA, &file, 5), refused(6, 0));
 }
 
 /// Document 02, K10: ABC under complement has (3^15 + 3^7) / 2 classes for k 15, and too many for k 16. The
@@ -50,11 +51,11 @@ fn the_largest_table_for_three_letters_under_complement_is_at_k_15() {
     let (mut book, mut table) = cleared(&settings, 1);
     assert_eq!(clear(&settings, &mut table), 7_175_547);
     let file = b">\nAAAAAAABCCCCCCC\n>\nBCCCCCCCCCCCCCA\n";
-    assert_eq!(check_add(&mut book, &mut table, file, 5), Ok([2, 30, 0, 28, 2]));
+    assert_eq!(check_add(&mut book, &mut table, FASTA, file, 5), Ok([2, 30, 0, 28, 2]));
     assert_eq!((table.slice()[0], table.slice()[7_175_546]), (1, 1));
     let above = Settings::new(b"ABC", 16, COMPLEMENT);
     assert_eq!(clear(&above, &mut table), Refusal { number: 6, p: 0 }.packed());
-    assert_eq!(check_add(&mut Book::new(&above), &mut table, file, 5), refused(6, 0));
+    assert_eq!(check_add(&mut Book::new(&above), &mut table, FASTA, file, 5), refused(6, 0));
 }
 
 /// A file of so many bytes: records of some 90,000 letters in lines of 80, with some foreign letters.
@@ -109,7 +110,7 @@ fn check_long(k: usize, step: usize, times: u32, counts: &[u32], table: &Table) 
 #[test]
 fn the_longest_file_is_taken_in_and_one_byte_more_refused_6() {
     let mut file = long_file(&mut Random::new(39), b"ACGTacgt", MOST_BYTES);
-    let contents = read(b"ACGT", &file).expect("a file without damage");
+    let contents = read(Kind::Fasta, b"ACGT", &file).expect("a file without damage");
     for (k, step) in [(12, 29), (9, 1)] {
         let settings = two_bit_settings(k);
         let classes = class_count(&settings) as usize;
@@ -118,7 +119,7 @@ fn the_longest_file_is_taken_in_and_one_byte_more_refused_6() {
         let (_, mut table) = cleared(&settings, 1);
         for times in 1..=2 {
             let mut list = Lent::filled(5);
-            assert_eq!(add(&settings, &mut table, &file, &mut list), 5, "{settings}");
+            assert_eq!(add(&settings, &mut table, FASTA, &file, &mut list), 5, "{settings}");
             assert_eq!(list.slice(), numbers, "{settings}");
             let sum: u64 = table.slice()[..classes].iter().map(|&count| count as u64).sum();
             assert_eq!(sum, times * (numbers[1] - numbers[2] - numbers[3]), "{settings}: sum of the counts");
@@ -136,7 +137,11 @@ fn check_long_refusals(settings: &Settings, table: &mut Table, file: &mut Vec<u8
     table.slice_mut()[7] = u32::MAX - 1000;
     let before = table.slice().to_vec();
     let mut check = |file: &[u8], number: u64, p: u64| {
-        assert_eq!(add(settings, table, file, &mut list), Refusal { number, p }.packed(), "{settings}");
+        assert_eq!(
+            add(settings, table, FASTA, file, &mut list),
+            Refusal { number, p }.packed(),
+            "{settings}"
+        );
         assert!(table.slice() == before, "{settings}: a file refused {number} changed the table");
         assert!(list.slice() == Lent::<u64>::filled(6).slice(), "{settings}: it changed the answer list");
     };
@@ -176,7 +181,7 @@ fn longest_files_of_one_kind() {
     for (head, piece, expected) in kinds {
         let file = [head, &piece.repeat((MOST_BYTES - head.len()) / piece.len())].concat();
         let mut list = Lent::filled(5);
-        let answer = add(&settings, &mut table, &file, &mut list);
+        let answer = add(&settings, &mut table, FASTA, &file, &mut list);
         let right = expected.map_or_else(|refusal| refusal.packed(), |_| 5);
         assert_eq!((answer, file.len()), (right, MOST_BYTES), "{}", shown_file(&file));
         let numbers = expected.map_or(Lent::filled(5).slice().to_vec(), |numbers| numbers.to_vec());

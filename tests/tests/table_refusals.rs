@@ -4,41 +4,15 @@
 use kmer_tests::book::*;
 use kmer_tests::draw::*;
 use kmer_tests::draw_files::*;
-use kmer_tests::expected::{coder, Refusal};
-use kmer_tests::lent::*;
+use kmer_tests::expected::coder;
+use kmer_tests::files::FASTA;
 use kmer_tests::sequences::{two_bit_settings, MOST_BYTES};
 use kmer_tests::settings::*;
 use kmer_tests::tables::*;
 
-/// Sets all classes' places to 0, and one of them to a count; later places hold the most there is.
-fn table_with(settings: &Settings, place: usize, count: u64) -> (Book, Table) {
-    let classes = class_count(settings) as usize;
-    let mut places = vec![u32::MAX; classes + 4];
-    places[..classes].fill(0);
-    places[place] = count as u32;
-    (Book::starting(settings, &places[..classes]), Table::new(&places))
-}
-
-/// Ground 12: each place in turn, whether the file touches it or not, at the edge and above it.
 #[test]
 fn a_place_too_full_is_refused_12() {
-    let mut random = Random::new(37);
-    let zebra = [REVERSAL, COMPLEMENT].map(|mirror| Settings::new(b"ZEBRA", 3, mirror));
-    for settings in [two_bit_settings(3), two_bit_settings(4)].into_iter().chain(zebra) {
-        let file = record(&drawn_letters(&mut random, &settings, 25, 0));
-        let windows = check_file(&settings, &file).expect("a file without damage")[4];
-        for place in 0..class_count(&settings) as usize {
-            for (count, fits) in [(TOP - windows, true), (TOP - windows + 1, false), (TOP, false)] {
-                let (mut book, mut table) = table_with(&settings, place, count);
-                let answer = check_add(&mut book, &mut table, &file, 5);
-                assert_eq!(
-                    answer.err(),
-                    (!fits).then_some(Refusal { number: 12, p: 0 }),
-                    "{settings}: {place}"
-                );
-            }
-        }
-    }
+    check_full_places(37, FASTA, |random, settings| record(&drawn_letters(random, settings, 25, 0)));
 }
 
 /// The windows of all classes together count, not those of the full class; a file without windows fits.
@@ -50,14 +24,14 @@ fn ground_12_takes_all_windows_and_no_fewer() {
     let file = b">\nAAAAC";
     for place in [class(&[0, 0]), class(&[0, 1]), class(&[2, 0])] {
         let (mut book, mut table) = table_with(&settings, place, TOP - 4);
-        assert_eq!(check_add(&mut book, &mut table, file, 5), Ok([1, 5, 0, 1, 4]));
+        assert_eq!(check_add(&mut book, &mut table, FASTA, file, 5), Ok([1, 5, 0, 1, 4]));
         let (mut book, mut table) = table_with(&settings, place, TOP - 3);
-        assert_eq!(check_add(&mut book, &mut table, file, 5), refused(12, 0));
+        assert_eq!(check_add(&mut book, &mut table, FASTA, file, 5), refused(12, 0));
     }
     let mut full = Table::new(&[u32::MAX; 10]);
     let mut book = Book::starting(&settings, full.slice());
-    assert_eq!(check_add(&mut book, &mut full, b">\nANCNG\n>\nA", 5), Ok([2, 6, 2, 4, 0]));
-    assert_eq!(check_add(&mut book, &mut full, b">\nAC", 5), refused(12, 0));
+    assert_eq!(check_add(&mut book, &mut full, FASTA, b">\nANCNG\n>\nA", 5), Ok([2, 6, 2, 4, 0]));
+    assert_eq!(check_add(&mut book, &mut full, FASTA, b">\nAC", 5), refused(12, 0));
 }
 
 /// A list that fills a table, with the number of each refusal: once a file is refused, shorter ones are still
@@ -70,7 +44,7 @@ fn a_list_up_to_ground_12() {
     let list =
         [(201, 0), (301, 0), (202, 12), (301, 12), (101, 0), (0, 0), (102, 12), (101, 0), (1, 0), (2, 12)];
     for (length, number) in list {
-        let answer = check_add(&mut book, &mut table, &record(&vec![b'T'; length]), 6);
+        let answer = check_add(&mut book, &mut table, FASTA, &record(&vec![b'T'; length]), 6);
         assert_eq!(answer.map_or_else(|refusal| refusal.number, |_| 0), number, "{length} letters T");
     }
     assert_eq!(table.slice()[3], u32::MAX);
@@ -87,14 +61,14 @@ fn short_tables_and_answer_lists_are_refused_7() {
             let mut table = Table::filled(places);
             check_clear(&settings, &mut table);
             let room = places % 7;
-            let answer = check_add(&mut Book::new(&settings), &mut table, &file, room);
+            let answer = check_add(&mut Book::new(&settings), &mut table, FASTA, &file, room);
             assert_eq!(answer, refused(7, classes as u64), "{settings}: {places} places, room {room}");
         }
         let (mut book, mut table) = cleared(&settings, 2);
         for room in 0..5 {
             for file in [&file[..], b"A*", b""] {
                 assert_eq!(
-                    check_add(&mut book, &mut table, file, room),
+                    check_add(&mut book, &mut table, FASTA, file, room),
                     refused(7, 5),
                     "{settings}: room {room}"
                 );
@@ -102,9 +76,6 @@ fn short_tables_and_answer_lists_are_refused_7() {
         }
     }
 }
-
-/// Letters, k, mirror, places, first place's count, file, room; the number and P of the refusal.
-type Faulty<'a> = (&'a [u8], usize, u64, usize, u32, &'a [u8], usize, (u64, u64));
 
 /// Where several grounds apply the lowest number wins, of 10 and 11 the earlier byte: written out, with no
 /// reference.
@@ -134,30 +105,12 @@ fn grounds_go_in_number_order() {
         (b"ACG", 1, 1, 2, full, b">\nC", 5, (12, 0)),
         (b"ACGT", 2, 1, 10, full, b">\nAC", 5, (12, 0)),
     ];
-    for (letters, k, mirror, places, first, file, room, (number, p)) in cases {
-        let settings = Settings::new(letters, k, mirror);
-        let mut table = Table::filled(places);
-        table.slice_mut().iter_mut().take(1).for_each(|place| *place = first);
-        let before = table.slice().to_vec();
-        let mut list = Lent::filled(room);
-        let what = format!("{settings}: {places} places, file {}, room {room}", shown_file(file));
-        assert_eq!(add(&settings, &mut table, file, &mut list), Refusal { number, p }.packed(), "{what}");
-        assert!(table.slice() == before && list.slice() == Lent::<u64>::filled(room).slice(), "{what}");
-    }
+    cases.into_iter().for_each(|case| check_refused(FASTA, case));
 }
 
 /// Every combination of good and bad arguments, beside the book.
 #[test]
 fn combinations_of_faults_answer_as_the_book() {
     let files: [&[u8]; 6] = [b"", b">\nACGTBT", b"A", b"*", b">\nA*", b">\nTT\r"];
-    for settings in good_and_bad_settings() {
-        for places in [0, 1, 2, 3, 6, 9, 10, 40, 1000] {
-            let mut table = Table::filled(places);
-            check_clear(&settings, &mut table);
-            for (file, room) in files.iter().flat_map(|file| [0, 4, 5, 6].map(|room| (file, room))) {
-                let _ = check_add(&mut Book::new(&settings), &mut table, file, room);
-                check_clear(&settings, &mut table);
-            }
-        }
-    }
+    check_combinations(&[FASTA], &files, &[0, 1, 2, 3, 6, 9, 10, 40, 1000], &[0, 4, 5, 6]);
 }

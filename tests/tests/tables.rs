@@ -6,6 +6,7 @@ use kmer_tests::book::*;
 use kmer_tests::draw::*;
 use kmer_tests::draw_files::*;
 use kmer_tests::expected::coder;
+use kmer_tests::files::FASTA;
 use kmer_tests::lent::*;
 use kmer_tests::sequences::{two_bit_settings, MOST_BYTES};
 use kmer_tests::settings::*;
@@ -35,7 +36,7 @@ fn lists_of_files_over_every_size() {
         for _ in 0..16 {
             file = next_file(&mut random, &settings, &file, &long);
             let room = if random.below(16) == 0 { random.below(5) } else { 5 + random.below(3) };
-            match check_add(&mut book, &mut table, &file, room as usize) {
+            match check_add(&mut book, &mut table, FASTA, &file, room as usize) {
                 Ok(_) => taken += 1,
                 Err(refusal) => turned_away[refusal.number as usize] += 1,
             }
@@ -57,7 +58,7 @@ fn longer_files_in_a_row() {
         let (mut book, mut table) = cleared(&settings, 1);
         for _ in 0..4 {
             let file = drawn_file(&mut random, &settings, 9000);
-            check_add(&mut book, &mut table, &file, 5).expect("a file without damage");
+            check_add(&mut book, &mut table, FASTA, &file, 5).expect("a file without damage");
         }
         check_sum(&book, &table);
     }
@@ -76,12 +77,12 @@ fn the_order_of_files_makes_no_difference() {
         for order in [[0, 1, 2, 3, 4, 5, 6, 7], [7, 6, 5, 4, 3, 2, 1, 0], [3, 0, 6, 1, 7, 2, 5, 4]] {
             let (mut book, mut table) = cleared(&settings, 0);
             for place in order {
-                check_add(&mut book, &mut table, &files[place], 5).expect("a file without damage");
+                check_add(&mut book, &mut table, FASTA, &files[place], 5).expect("a file without damage");
             }
             tables.push(table.slice().to_vec());
         }
         let (mut book, mut table) = cleared(&settings, 0);
-        check_add(&mut book, &mut table, &whole, 5).expect("all files in one");
+        check_add(&mut book, &mut table, FASTA, &whole, 5).expect("all files in one");
         assert!(tables.iter().all(|other| other == table.slice()), "{settings}: {}", shown_file(&whole));
     }
 }
@@ -91,7 +92,7 @@ fn the_order_of_files_makes_no_difference() {
 fn the_example_of_document_01() {
     let settings = two_bit_settings(2);
     let (mut book, mut table) = cleared(&settings, 1);
-    let numbers = check_add(&mut book, &mut table, b">a\nACGTN\n>b\nAG\nCT\n", 7);
+    let numbers = check_add(&mut book, &mut table, FASTA, b">a\nACGTN\n>b\nAG\nCT\n", 7);
     assert_eq!(numbers, Ok([2, 9, 1, 2, 6]));
     // AT CG GC TA AG AC AA CC CA GA
     assert_eq!(table.slice()[..10], [0, 1, 1, 0, 2, 2, 0, 0, 0, 0]);
@@ -114,7 +115,7 @@ fn every_class_counts_at_its_place() {
         }
         let mut table = Table::filled(classes);
         clear(&settings, &mut table);
-        assert_eq!(add(&settings, &mut table, &file, &mut Lent::filled(5)), 5, "{settings}");
+        assert_eq!(add(&settings, &mut table, FASTA, &file, &mut Lent::filled(5)), 5, "{settings}");
         let right: Vec<u32> = (0..classes as u32).map(|code| code % 5 + 1).collect();
         assert_eq!(table.slice(), right, "{settings}");
     }
@@ -126,15 +127,15 @@ fn empty_files_are_taken_in() {
         let settings = Settings::new(&first_capitals(s), k, mirror);
         let (mut book, mut table) = cleared(&settings, 0);
         for file in [&b""[..], &record(&vec![b'A'; k]), b""] {
-            check_add(&mut book, &mut table, file, 5).expect("no ground");
+            check_add(&mut book, &mut table, FASTA, file, 5).expect("no ground");
         }
-        assert_eq!(check_add(&mut book, &mut table, b"", 5), Ok([0; 5]), "{settings}");
+        assert_eq!(check_add(&mut book, &mut table, FASTA, b"", 5), Ok([0; 5]), "{settings}");
     }
 }
 
 #[test]
 fn stored_clears() {
-    for stored in stored("clear", [54, 14]) {
+    for stored in stored("clear", [54, 14, 0]) {
         let mut table = Table::new(&stored.table);
         check_clear(&stored.settings, &mut table);
         assert_eq!(table.slice(), stored.after, "{}", stored.line);
@@ -146,12 +147,13 @@ fn stored_clears() {
 /// The stored answers against the book and the call.
 #[test]
 fn stored_adds() {
-    for stored in stored("add", [49, 19]) {
+    for stored in stored("add", [49, 19, 240]) {
         let mut table = Table::new(&stored.table);
         let ground = table_ground(&stored.settings, false, stored.table.len());
         let counts = ground.map_or(&[][..], |classes| &stored.table[..classes]);
         let mut book = Book::starting(&stored.settings, counts);
-        let answer = check_add(&mut book, &mut table, &stored.file, 5).map(|numbers| numbers.to_vec());
+        let answer =
+            check_add(&mut book, &mut table, stored.fastq, &stored.file, 5).map(|numbers| numbers.to_vec());
         assert_eq!(answer, stored.outcome, "{}", stored.line);
         assert_eq!(table.slice(), stored.after, "{}", stored.line);
     }

@@ -12,9 +12,8 @@ use Rattle.encoding.specs.Words.{Ranks}
 use Rattle.encoding.specs.Codes.{code}
 use Rattle.encoding.proofs.Ends.{ranks-drop}
 use Rattle.fasta.specs.declared.Mode.{Mode}
-use Rattle.fasta.specs.declared.Mode.the-variants.{Start}
-use Rattle.fasta.specs.Items.{marks}
-use Rattle.fasta.specs.File.{items, itemsFrom, fileWindows}
+use Rattle.fasta.specs.Items.{marks, windowsIn}
+use Rattle.fasta.specs.File.{itemsFrom}
 use Rattle.settings.specs.RankTables.{rankByTable, RanksBelow}
 use Rattle.fasta.proofs.Scans.{items-end}
 use Rattle.kernels.specs.declared.Coder.{Coder}
@@ -74,12 +73,12 @@ carried array n k new some-k long fits e =
 
 -- ---- batch after batch
 
-pub record Counting (c : Coder) (table file counts₀ counts array : List ℕ) (at : ℕ) (mode : Mode) (n : ℕ) : Type 0 where
+pub record Counting (c : Coder) (table file : List ℕ) (start : Mode) (counts₀ counts array : List ℕ) (at : ℕ) (mode : Mode) (n : ℕ) : Type 0 where
   pub size : length array ≡ 1024
   pub few : n < c .k
   pub ranks : Ranks (c .s) (take n array)
   pub same-length : length counts ≡ length counts₀
-  pub left : bumps counts₀ (codesBy c (fileWindows (rankByTable table) (c .k) file))
+  pub left : bumps counts₀ (codesBy c (windowsIn (rankByTable table) (c .k) (itemsFrom start file)))
       ≡ bumps counts (codesBy c (cutFrom (rankByTable table) (c .k) (take n array) file mode at))
   pub room : Room (length (cutFrom (rankByTable table) (c .k) (take n array) file mode at)) counts
 
@@ -87,10 +86,11 @@ module _ {c : Coder} {powers : List ℕ} (C : ReadyCoder c powers) where
   pub short-words : c .k ≤ 62
   short-words = k-at-most (C .limits)
 
-  pub counting-none : (table file counts array : List ℕ) → length array ≡ 1024 → Room (length (fileWindows (rankByTable table) (c .k) file)) counts
-      → Counting c table file counts counts array 0 Start 0
-  counting-none table file counts array size room =
-      let all = cut-all (c .k) (marks (rankByTable table) (items file)) (C .some) in
+  pub counting-none : (table file : List ℕ) (start : Mode) (counts array : List ℕ) → length array ≡ 1024
+      → Room (length (windowsIn (rankByTable table) (c .k) (itemsFrom start file))) counts
+      → Counting c table file start counts counts array 0 start 0
+  counting-none table file start counts array size room =
+      let all = cut-all (c .k) (marks (rankByTable table) (itemsFrom start file)) (C .some) in
       record {
         size = size;
         few = omega (arith, C .some);
@@ -100,9 +100,10 @@ module _ {c : Coder} {powers : List ℕ} (C : ReadyCoder c powers) where
         room = rw all room;
       }
 
-  module _ {table file counts₀ counts array : List ℕ} {at : ℕ} {mode : Mode} {n : ℕ} (K : Counting c table file counts₀ counts array at mode n) where
+  module _ {table file : List ℕ} {start : Mode} {counts₀ counts array : List ℕ} {at : ℕ} {mode : Mode} {n : ℕ}
+      (K : Counting c table file start counts₀ counts array at mode n) where
     -- All is counted.
-    pub counting-all : length file ≤ at → counts ≡ bumps counts₀ (codesBy c (fileWindows (rankByTable table) (c .k) file))
+    pub counting-all : length file ≤ at → counts ≡ bumps counts₀ (codesBy c (windowsIn (rankByTable table) (c .k) (itemsFrom start file)))
     unfolding cut marks bumps
     counting-all end =
         let l : length (take n array) < c .k = omega (arith, length-take-le n array (omega (arith, K .few, K .size, short-words)), K .few) in
@@ -158,7 +159,7 @@ module _ {c : Coder} {powers : List ℕ} (C : ReadyCoder c powers) where
       pub counts-batch : {counts₁ array₂ : List ℕ} {n₂ : ℕ} → RanksBelow (c .s) table → counts₁ ≡ bumps counts (codesBy c (windows (c .k) batch-letters))
           → Carries array₁ (g .letters) (c .k) (g .ended) n₂ array₂
           → length array₂ ≡ length array₁
-          → Counting c table file counts₀ counts₁ array₂ (g .at) (g .mode) n₂
+          → Counting c table file start counts₀ counts₁ array₂ (g .at) (g .mode) n₂
       counts-batch {counts₁} {array₂} {n₂} T counted Y size₂ =
           let f = code (c .s) (c .mirror) (c .k) in
           let m = length-map (windows (c .k) batch-letters) f in

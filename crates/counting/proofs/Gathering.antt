@@ -1,6 +1,6 @@
--- Gathering the letters of a run into an array: what holds at the head of the loop of `gather`, what a turn does to it, and its three ends.
+-- Gathering the letters of a run into an array: what holds at the head of the loop of `gather`, what a turn does to it, and its ends.
 use mathlib.Core.Path.{_≡_, refl, sym, ap, _∙_}
-use Prim.Native.Nat.{ℕ, zero, suc, _+_, _<_, _≤_}
+use Prim.Native.Nat.{ℕ, zero, suc, _+_, _-_, _<_, _≤_}
 use native.Mathlib.Decide.{ℕ-discrete}
 use native.Mathlib.Numerals.{add-one}
 use native.Mathlib.Omega.{arith}
@@ -18,7 +18,9 @@ use Rattle.fasta.specs.Items.{marks}
 use Rattle.fasta.specs.File.{lfNext, item, next, itemsFrom}
 use Rattle.settings.specs.RankTables.{rankByTable, RanksBelow}
 use Rattle.fasta.proofs.Bytes.{item-cases}
+use Rattle.fasta.specs.Needs.{Skips}
 use Rattle.fasta.proofs.Scans.{items-step, items-end}
+use Rattle.fasta.proofs.Skipping.{marks-skips}
 use Rattle.laws.specs.Windows.{windows}
 use Rattle.counting.specs.declared.batches.Mark.{Mark}
 use Rattle.counting.specs.Needs.{markOfRank, markOf, cut, cutFrom, Gathers}
@@ -78,6 +80,20 @@ pub gathering-none : {table file : List ℕ} {mode : Mode} {from letters : ℕ} 
     → Gathering table (take letters array) file mode from letters array from mode letters
 gathering-none h g =
     record { begun = omega arith; untouched = λ _. refl; inside = omega arith; fits = omega arith; ranks = λ s T R. R; left = λ k. refl }
+
+-- Bytes that are skipped add nothing.
+pub skip-on : {table r file : List ℕ} {start : Mode} {from letters : ℕ} {array : List ℕ} {at e : ℕ} {mode : Mode} {n : ℕ}
+    → Gathering table r file start from letters array at mode n → Skips file mode at e → Gathering table r file start from letters array e mode n
+skip-on {table} {r} {file} {start} {from} {letters} {array} {at} {e} {mode} {n} G J =
+    record {
+      begun = omega (arith, G .begun, J .on);
+      untouched = λ f. G .untouched (omega (arith, G .begun, J .on));
+      inside = J .inside;
+      fits = G .fits;
+      ranks = G .ranks;
+      left = λ k. G .left k
+          ∙ ap (cut k (take n array)) (ap (marks (rankByTable table)) (J .skipped) ∙ marks-skips (rankByTable table) (e - at) (itemsFrom mode (drop e file)));
+    }
 
 module _ {table r file : List ℕ} {start : Mode} {from letters : ℕ} {array : List ℕ} {at : ℕ} {mode : Mode} {n : ℕ}
     (G : Gathering table r file start from letters array at mode n) where

@@ -12,7 +12,8 @@ ghost use Prim.Native.Nat.{_+_, _<_, _≤_};
 ghost use lib.ListN.{length, take, drop};
 ghost use Rattle.settings.specs.Settings.{classes};
 ghost use Rattle.encoding.specs.Words.{Ranks};
-ghost use Rattle.fasta.specs.File.{fileWindows};
+ghost use Rattle.fasta.specs.Items.{windowsIn};
+ghost use Rattle.fasta.specs.File.{itemsFrom};
 ghost use Rattle.settings.specs.RankTables.{asRank, rankByTable, RanksBelow};
 ghost use Rattle.kernels.specs.Windows.{windowCodes};
 ghost use Rattle.kernels.specs.Needs.{ReadyCoder};
@@ -77,7 +78,7 @@ fn mark_of(it: Item, table: &[u8; 256]) -> Mark
     }
 }
 
-// An answer of `gather`. As a call, so that the contract equates the whole struct at each of the three places where `gather` ends.
+// An answer of `gather`. As a call, so that the contract equates the whole struct at each of the four places where `gather` ends.
 fn gathered_to(at: usize, mode: Mode, letters: usize, ended: bool) -> Gathered
     ensures { λ r. ⌜ r ≡ record { at = at; mode = mode; letters = letters; ended = ended } ⌝ }
 {
@@ -90,7 +91,8 @@ fn gathered_to(at: usize, mode: Mode, letters: usize, ended: bool) -> Gathered
 }
 
 // Gathers letters of one run behind the first `letters` of the array, from the place `from` of the file on. A byte that neither is a letter nor
-// ends the run is written too, as rank 0, and overwritten by the next: that saves a branch that could not be foreseen. A full array ends no run.
+// ends the run is written too, as rank 0, and overwritten by the next: that saves a branch that could not be foreseen. Bytes
+// of header, + and quality lines are passed over by a search for their end. A full array ends no run.
 fn gather(
     file: &[u8],
     table: &[u8; 256],
@@ -110,9 +112,13 @@ fn gather(
         if n == array.len() {
             return gathered_to(at, mode, n, false);
         }
-        let m = mark_of(fasta::item_at(file, at, mode), table);
-        mode = fasta::next_mode(mode, file[at]);
-        at += 1;
+        let e = fasta::pass_over(file, at, mode);
+        if e >= file.len() {
+            return gathered_to(e, mode, n, true);
+        }
+        let m = mark_of(fasta::item_at(file, e, mode), table);
+        mode = fasta::next_mode(mode, file[e]);
+        at = e + 1;
         if m.ends {
             return gathered_to(at, mode, n, true);
         }
@@ -177,19 +183,26 @@ fn no_ranks() -> [u8; 1024]
     [0u8; 1024]
 }
 
-// Counts every window of a file.
-pub fn count_file(counts: &mut [u32], file: &[u8], table: &[u8; 256], c: Coder, powers: &[u64; 64])
+// Counts every window of a file, whose first byte stands in a mode.
+pub fn count_file(
+    counts: &mut [u32],
+    file: &[u8],
+    start: Mode,
+    table: &[u8; 256],
+    c: Coder,
+    powers: &[u64; 64],
+)
     requires { ⌜ ReadyCoder c (now powers) ⌝ }
     requires { ⌜ RanksBelow (c .s) (now table) ⌝ }
     requires { ⌜ length (now counts) ≡ classes (c .s) (c .mirror) (c .k) ⌝ }
-    requires { ⌜ Room (length (fileWindows (rankByTable (now table)) (c .k) (now file))) (now counts) ⌝ }
+    requires { ⌜ Room (length (windowsIn (rankByTable (now table)) (c .k) (itemsFrom start (now file)))) (now counts) ⌝ }
     ensures { λ _.
         ⌜ now (counts .exit)
-        ≡ bumps (now (counts .entry)) (codesBy c (fileWindows (rankByTable (now (table .entry))) (c .k) (now (file .entry)))) ⌝ }
+        ≡ bumps (now (counts .entry)) (codesBy c (windowsIn (rankByTable (now (table .entry))) (c .k) (itemsFrom start (now (file .entry))))) ⌝ }
 {
     let mut array = no_ranks();
     let mut at: usize = 0;
-    let mut mode = Mode::Start;
+    let mut mode = start;
     let mut n: usize = 0;
     while at < file.len() {
         let g = gather(file, table, at, mode, n, &mut array);

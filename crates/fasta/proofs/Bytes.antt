@@ -9,8 +9,8 @@ use borrow.Author.Tests.{le-leb, lt-leb, leb-true, ne-eqb}
 use Rattle.fasta.specs.declared.Item.{Item}
 use Rattle.fasta.specs.declared.Item.the-variants.{Opens, Skip, Stray, Letter}
 use Rattle.fasta.specs.declared.Mode.{Mode}
-use Rattle.fasta.specs.declared.Mode.the-variants.{Start, Header, Sequence}
-use Rattle.fasta.specs.File.{isLetter, lineItem, item, next}
+use Rattle.fasta.specs.declared.Mode.the-variants.{Start, Header, Sequence, FastqStart, FastqHeader, FastqSequence, FastqPlus, FastqQuality}
+use Rattle.fasta.specs.File.{isLetter, lineItem, item}
 
 module _ (b : ℕ) (lf : Bool) where
   letter : isLetter b ≡ true → 13 < b → Letter b ≡ lineItem b lf
@@ -57,6 +57,11 @@ pub item-cases : (P : Item → Type 0) (m : Mode) (b : ℕ) (lf : Bool) → P Op
 unfolding item
 item-cases P Header b lf opens skip stray letter = skip
 item-cases P Sequence b lf opens skip stray letter = line-cases P b lf skip stray letter
+item-cases P FastqStart b lf opens skip stray letter = opens
+item-cases P FastqHeader b lf opens skip stray letter = skip
+item-cases P FastqSequence b lf opens skip stray letter = line-cases P b lf skip stray letter
+item-cases P FastqPlus b lf opens skip stray letter = skip
+item-cases P FastqQuality b lf opens skip stray letter = skip
 item-cases P Start b lf opens skip stray letter = go (eqb b 62)
   where
     go : (s : Bool) → P (cond s Opens (lineItem b lf))
@@ -75,9 +80,3 @@ letter-below b e = go (leb 65 b) (leb b 90) (leb 97 b) (leb b 122) refl refl e
     go true false false s f g h = let z : _≡_ {A = ℕ} 0 1 = cc in absurd (omega arith)
     go false false true false f g h = let z : _≡_ {A = ℕ} 0 1 = cc in absurd (omega arith)
     go false false false s f g h = let z : _≡_ {A = ℕ} 0 1 = cc in absurd (omega arith)
-
-pub next-lf : (m : Mode) → Start ≡ next m 10
-unfolding next
-next-lf Start = refl
-next-lf Header = refl
-next-lf Sequence = refl

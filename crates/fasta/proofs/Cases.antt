@@ -1,31 +1,35 @@
 -- The definitions, computed on files of a few bytes: the sentences of document 01's section "Sequence file (FASTA)", save those on the record reader (the
--- crate `records`), and the order of the grounds. By computation.
+-- crate `records`) and the order of the grounds (the crate `files`); and the items of FASTQ. By computation.
 use mathlib.Core.Path.{_≡_, refl}
+use mathlib.Core.Bool.{false}
 use Prim.Native.Nat.{ℕ}
 use mathlib.Core.Option.{Option, none, some}
 use mathlib.Core.List.{List, [], _∷_}
 use Rattle.laws.specs.Text.{bytes}
 use Rattle.settings.specs.Grounds.{Ground}
-use Rattle.settings.specs.Settings.{isCapital, isIn, differentCapitals, goodLetters, capitalOf, placeFrom, rankIn, badSize, settingsGround}
+use Rattle.settings.specs.Settings.{capitalOf, placeFrom, rankIn}
+use Rattle.fasta.specs.declared.Mode.the-variants.{Start, FastqStart}
+use Rattle.fasta.specs.declared.Item.{Item}
 use Rattle.fasta.specs.declared.Item.the-variants.{Opens, Skip, Stray, Letter}
 use Rattle.fasta.specs.declared.Numbers.{Numbers}
-use Rattle.fasta.specs.Items.{recordsIn, lettersIn, oneIfForeign, foreignIn, marks, onFirst, runs, edge, windows, edgesOf, windowsOf}
-use Rattle.fasta.specs.File.{isLetter, lfNext, lineItem, item, next, itemsFrom, items, faultFrom, fileFault, fileWindows, fileNumbers}
-use Rattle.fasta.specs.Scan.{tooLong, scanGround}
+use Rattle.fasta.specs.Items.{recordsIn, lettersIn, oneIfForeign, foreignIn, marks, onFirst, runs, edge, windows, edgesOf, windowsOf, windowsIn, numbersIn}
+use Rattle.fasta.specs.File.{isLetter, lfNext, lineItem, item, next, itemsFrom, faultFrom}
+
+-- The items and the first fault of a FASTA file.
+abbrev items : List ℕ → List Item
+items file = itemsFrom Start file
+
+abbrev fileFault : List ℕ → Option Ground
+fileFault file = faultFrom false 0 (items file)
 
 -- Files are read with the letters ACGT and k 2. A case that unfolds one of these computes with all that its `unfolding` line names.
 unfoldable windowsOfFile : List ℕ → List (List ℕ)
 unfolding isLetter lfNext lineItem item next itemsFrom capitalOf placeFrom marks onFirst runs windows windowsOf
-windowsOfFile file = fileWindows (rankIn (bytes "ACGT")) 2 file
+windowsOfFile file = windowsIn (rankIn (bytes "ACGT")) 2 (items file)
 
 unfoldable numbersOfFile : List ℕ → Numbers
 unfolding windowsOfFile recordsIn lettersIn oneIfForeign foreignIn edge edgesOf
-numbersOfFile file = fileNumbers (rankIn (bytes "ACGT")) 2 file
-
--- The grounds of a scan under some settings, of a file with a stray byte.
-unfoldable groundBeforeStray : (letters : List ℕ) (k mirror : ℕ) → Option Ground
-unfolding isLetter lfNext lineItem item next itemsFrom faultFrom isCapital isIn differentCapitals goodLetters badSize settingsGround tooLong scanGround
-groundBeforeStray letters k mirror = scanGround letters k mirror (bytes "*")
+numbersOfFile file = numbersIn (rankIn (bytes "ACGT")) 2 (items file)
 
 abbrev five : ℕ → ℕ → ℕ → ℕ → ℕ → Numbers
 five r l f e w = record { records = r; letters = l; foreign = f; edge = e; windows = w }
@@ -64,6 +68,13 @@ lone-cr : items (bytes ">\nA\rC\r\r\n\rA\r")
 unfolding isLetter lfNext lineItem item next itemsFrom
 lone-cr = refl
 
+-- Document 02, K1: the lines of a FASTQ record follow each other, and the next record opens behind them. "Only the sequence counts": settings letters in
+-- header, + and quality lines are none of the file's.
+fastq-items : itemsFrom FastqStart (bytes "@A\r\nAC\r\n+C\nGT\n@")
+    ≡ Opens ∷ Skip ∷ Skip ∷ Skip ∷ Letter 65 ∷ Letter 67 ∷ Skip ∷ Skip ∷ Skip ∷ Skip ∷ Skip ∷ Skip ∷ Skip ∷ Skip ∷ Opens ∷ []
+unfolding isLetter lfNext lineItem item next itemsFrom
+fastq-items = refl
+
 -- ---- faults
 
 -- Grounds 10 and 11 with the offset of the byte.
@@ -97,33 +108,6 @@ last-cr = refl
 no-fault : fileFault (bytes ">*\n\nAxN\n>b 1\r\n>-\r") ≡ none
 unfolding isLetter lfNext lineItem item next itemsFrom faultFrom
 no-fault = refl
-
--- "Checks go in number order": the settings' grounds, then 10 or 11. Ground 6, which comes between them, is of files too long to be written here:
--- `long-file` in ScanGrounds shows it.
-bad-letters : groundBeforeStray (bytes "AA") 0 2 ≡ some (1, 0)
-unfolding groundBeforeStray
-bad-letters = refl
-
-bad-mirror : groundBeforeStray (bytes "ACG") 0 2 ≡ some (2, 0)
-unfolding groundBeforeStray
-bad-mirror = refl
-
-bad-k : groundBeforeStray (bytes "ACGT") 32 1 ≡ some (4, 0)
-unfolding groundBeforeStray
-bad-k = refl
-
-bad-byte : groundBeforeStray (bytes "ACGT") 31 1 ≡ some (10, 0)
-unfolding groundBeforeStray
-bad-byte = refl
-
--- "Refusal 3 then never occurs" (document 02, K10): an odd number of letters under complement is no ground, up to the largest k.
-odd-bad-k : groundBeforeStray (bytes "ACG") 40 1 ≡ some (4, 0)
-unfolding groundBeforeStray
-odd-bad-k = refl
-
-odd-bad-byte : groundBeforeStray (bytes "ACG") 39 1 ≡ some (10, 0)
-unfolding groundBeforeStray
-odd-bad-byte = refl
 
 -- ---- windows and numbers
 

@@ -9,9 +9,8 @@ use Rattle.settings.specs.Settings.{rankIn}
 use Rattle.settings.specs.RankTables.{rankByTable, RankTable}
 use Rattle.fasta.specs.declared.Item.{Item}
 use Rattle.fasta.specs.declared.Mode.{Mode}
-use Rattle.fasta.specs.declared.Mode.the-variants.{Start}
-use Rattle.fasta.specs.Items.{foreignIn, marks, runs, windowsOf}
-use Rattle.fasta.specs.File.{isLetter, lfNext, item, next, itemsFrom, items, fileNumbers, fileWindows}
+use Rattle.fasta.specs.Items.{foreignIn, marks, runs, windowsOf, windowsIn, numbersIn}
+use Rattle.fasta.specs.File.{isLetter, lfNext, item, next, itemsFrom}
 use Rattle.fasta.proofs.Bytes.{letter-below, item-cases}
 
 -- Two rank functions count and mark some items alike.
@@ -35,14 +34,14 @@ module _ (rank rank′ : ℕ → Option ℕ) (same : (b : ℕ) → isLetter b �
   alike m [] = record { marks-alike = refl; foreign-alike = refl }
   alike m (b ∷ file) = alike-item m b (lfNext file) (itemsFrom (next m b) file) (alike (next m b) file)
 
-module _ (letters table : List ℕ) (t : RankTable letters table) (k : ℕ) (file : List ℕ) where
-  by-table : Alike (rankByTable table) (rankIn letters) (items file)
-  by-table = alike (rankByTable table) (rankIn letters) (λ b e. t .same b (omega (arith, letter-below b e))) Start file
+module _ (letters table : List ℕ) (t : RankTable letters table) (k : ℕ) (m : Mode) (file : List ℕ) where
+  by-table : Alike (rankByTable table) (rankIn letters) (itemsFrom m file)
+  by-table = alike (rankByTable table) (rankIn letters) (λ b e. t .same b (omega (arith, letter-below b e))) m file
 
-  -- A file has the same windows by the table as by the letters.
-  pub windows-by-table : fileWindows (rankByTable table) k file ≡ fileWindows (rankIn letters) k file
+  -- Bytes have the same windows by the table as by the letters.
+  pub windows-by-table : windowsIn (rankByTable table) k (itemsFrom m file) ≡ windowsIn (rankIn letters) k (itemsFrom m file)
   windows-by-table = ap (λ (ms : List (Option ℕ)). windowsOf k (runs ms)) (by-table .marks-alike)
 
-  -- A file has the same five numbers by the table as by the letters.
-  pub numbers-by-table : fileNumbers (rankByTable table) k file ≡ fileNumbers (rankIn letters) k file
+  -- And the same five numbers.
+  pub numbers-by-table : numbersIn (rankByTable table) k (itemsFrom m file) ≡ numbersIn (rankIn letters) k (itemsFrom m file)
   numbers-by-table = rw (by-table .marks-alike, by-table .foreign-alike)

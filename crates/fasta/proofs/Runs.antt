@@ -1,4 +1,4 @@
--- The theorem letters = windows + foreign + edge, for every file, every rank function and every k from 1. A run's letters are its
+-- The theorem letters = windows + foreign + edge, for all items, and so for files of both kinds, every rank function and every k from 1. A run's letters are its
 -- windows and its edge letters (`run-split`); what stands in runs is the letters that are not foreign. Besides, a file has one item a byte
 -- (`items-length`) and no more windows than bytes (`windows-fit`).
 use mathlib.Core.Path.{_≡_, refl, ap, _∙_}
@@ -11,9 +11,8 @@ use Rattle.laws.proofs.Windows.{length-windows}
 use Rattle.fasta.specs.declared.Item.{Item}
 use Rattle.fasta.specs.declared.Item.the-variants.{Opens, Skip, Stray, Letter}
 use Rattle.fasta.specs.declared.Mode.{Mode}
-use Rattle.fasta.specs.declared.Mode.the-variants.{Start}
-use Rattle.fasta.specs.Items.{lettersIn, foreignIn, oneIfForeign, marks, onFirst, runs, edge, windows, edgesOf, windowsOf, edgeIn, windowsIn}
-use Rattle.fasta.specs.File.{next, itemsFrom, items, fileNumbers, fileWindows}
+use Rattle.fasta.specs.Items.{lettersIn, foreignIn, oneIfForeign, marks, onFirst, runs, edge, windows, edgesOf, windowsOf, windowsIn, numbersIn}
+use Rattle.fasta.specs.File.{next, itemsFrom}
 
 -- How many settings letters there are.
 ranked : List (Option ℕ) → ℕ
@@ -59,15 +58,10 @@ unfolding windowsOf edgesOf total
 runs-split k [] h = omega arith
 runs-split k (r ∷ rs) h = omega (arith, length-append (windows k r) (windowsOf k rs), run-split k r h, runs-split k rs h)
 
--- The same of any items: a later file format needs no proof of its own.
-items-split : (rank : ℕ → Option ℕ) (k : ℕ) (is : List Item) → 1 ≤ k
-    → lettersIn is ≡ length (windowsIn rank k is) + foreignIn rank is + edgeIn rank k is
-items-split rank k is h = omega (arith, letters-split rank is, total-runs (marks rank is), runs-split k (runs (marks rank is)) h)
-
--- "So letters = windows + foreign + edge."
-pub letters-are : (rank : ℕ → Option ℕ) (k : ℕ) (file : List ℕ) → 1 ≤ k
-    → fileNumbers rank k file .letters ≡ fileNumbers rank k file .windows + fileNumbers rank k file .foreign + fileNumbers rank k file .edge
-letters-are rank k file h = items-split rank k (items file) h
+-- "So letters = windows + foreign + edge": of any items, and so of files of both kinds.
+pub letters-are : (rank : ℕ → Option ℕ) (k : ℕ) (is : List Item) → 1 ≤ k
+    → numbersIn rank k is .letters ≡ numbersIn rank k is .windows + numbersIn rank k is .foreign + numbersIn rank k is .edge
+letters-are rank k is h = omega (arith, letters-split rank is, total-runs (marks rank is), runs-split k (runs (marks rank is)) h)
 
 -- ---- no number of a file is above its length
 
@@ -85,6 +79,6 @@ unfolding itemsFrom
 items-length m [] = refl
 items-length m (b ∷ file) = ap suc (items-length (next m b) file)
 
--- A file has no more windows than bytes.
-pub windows-fit : (rank : ℕ → Option ℕ) (k : ℕ) (file : List ℕ) → 1 ≤ k → length (fileWindows rank k file) ≤ length file
-windows-fit rank k file h = omega (arith, items-split rank k (items file) h, letters-fit (items file), items-length Start file)
+-- Bytes have no more windows than they are.
+pub windows-fit : (rank : ℕ → Option ℕ) (k : ℕ) (m : Mode) (file : List ℕ) → 1 ≤ k → length (windowsIn rank k (itemsFrom m file)) ≤ length file
+windows-fit rank k m file h = omega (arith, letters-are rank k (itemsFrom m file) h, letters-fit (itemsFrom m file), items-length m file)

@@ -1,7 +1,7 @@
 -- The scan: the machine that takes item by item answers by the definitions (`scan-is`); what holds at the head of the scan's loop, and
 -- what a turn does to it.
 use mathlib.Core.Path.{_≡_, refl, sym, ap, _∙_}
-use Prim.Native.Nat.{ℕ, suc, _+_, _-_, _<_, _≤_}
+use Prim.Native.Nat.{ℕ, zero, suc, _+_, _-_, _<_, _≤_}
 use native.Mathlib.Numerals.{add-one}
 use native.Mathlib.Omega.{arith}
 use mathlib.Core.Bool.{Bool, true, false, cond}
@@ -16,21 +16,16 @@ use Rattle.settings.specs.Grounds.{Outcome, given, refused, outcome}
 use Rattle.fasta.specs.declared.Item.{Item}
 use Rattle.fasta.specs.declared.Item.the-variants.{Opens, Skip, Stray, Letter}
 use Rattle.fasta.specs.declared.Mode.{Mode}
-use Rattle.fasta.specs.declared.Mode.the-variants.{Start}
 use Rattle.fasta.specs.declared.Numbers.{Numbers}
 use Rattle.fasta.specs.declared.Tally.{Tally}
 use Rattle.fasta.specs.declared.Step.{Step}
 use Rattle.fasta.specs.declared.Step.the-variants.{On, AtStray, AtEarly}
 use Rattle.fasta.specs.Items.{recordsIn, lettersIn, oneIfForeign, foreignIn, marks, numbersIn}
-use Rattle.fasta.specs.File.{lfNext, item, next, itemsFrom, items, faultFrom, fileFault, fileNumbers}
-use Rattle.fasta.specs.Needs.{withHeader, withLetter, took, Small}
+use Rattle.fasta.specs.File.{lfNext, item, next, itemsFrom, faultFrom}
+use Rattle.fasta.specs.Needs.{withHeader, withLetter, took, Small, numbersOf, skips, Skips}
 use Rattle.fasta.proofs.Stream.{closes, windowsFrom, windows-stream, edgesFrom, edges-stream}
 
 -- ---- the machine and the definitions
-
--- The numbers that a scan answers with where nothing is left.
-abbrev pub numbersOf : Tally → Numbers
-numbersOf t = record { records = t .records; letters = t .letters; foreign = t .foreign; edge = t .edge; windows = t .windows }
 
 -- The answer after one step at the offset `at`: the rest's, where the step goes on.
 abbrev pub afterStep : Step → ℕ → (Tally → Outcome Numbers) → Outcome Numbers
@@ -173,47 +168,77 @@ small-step rank k n t (Letter b) s = go (eqb (t .records) 0)
     go false = small-letter k n t (rank b) s
 
 -- At the head: the scan's answer is that of the items that are left, from here.
-pub record Scanning (file : List ℕ) (rank : ℕ → Option ℕ) (k : ℕ) (m : Mode) (t : Tally) (i : ℕ) : Type 0 where
+pub record Scanning (file : List ℕ) (from : Mode) (rank : ℕ → Option ℕ) (k : ℕ) (m : Mode) (t : Tally) (i : ℕ) : Type 0 where
   pub inside : i ≤ length file
   pub small : Small i t
-  pub answer : outcome (fileFault file) (fileNumbers rank k file) ≡ scanFrom rank k i t (itemsFrom m (drop i file))
+  pub answer : outcome (faultFrom false 0 (itemsFrom from file)) (numbersIn rank k (itemsFrom from file)) ≡ scanFrom rank k i t (itemsFrom m (drop i file))
 
 -- It holds where nothing is scanned yet.
-pub start : (file : List ℕ) (rank : ℕ → Option ℕ) (k : ℕ) → 1 ≤ k → Scanning file rank k Start nothingYet 0
-start file rank k h =
+pub start : (file : List ℕ) (from : Mode) (rank : ℕ → Option ℕ) (k : ℕ) → 1 ≤ k → Scanning file from rank k from nothingYet 0
+start file from rank k h =
     record {
       inside = omega arith;
       small = search needs;
-      answer = sym (scan-is rank k (items file) h);
+      answer = sym (scan-is rank k (itemsFrom from file) h);
     }
 
 -- Where nothing is left, the tally's numbers are the answer.
-pub done : {file : List ℕ} {rank : ℕ → Option ℕ} {k : ℕ} {m : Mode} {t : Tally} {i : ℕ} → Scanning file rank k m t i → length file ≤ i
-    → given (numbersOf t) ≡ outcome (fileFault file) (fileNumbers rank k file)
+pub done : {file : List ℕ} {from : Mode} {rank : ℕ → Option ℕ} {k : ℕ} {m : Mode} {t : Tally} {i : ℕ} → Scanning file from rank k m t i → length file ≤ i
+    → given (numbersOf t) ≡ outcome (faultFrom false 0 (itemsFrom from file)) (numbersIn rank k (itemsFrom from file))
 unfolding scanFrom
 done {file} {m = m} {i = i} S h = sym (S .answer ∙ rw (items-end file i m h))
 
+scan-skips : (rank : ℕ → Option ℕ) (k n at : ℕ) (t : Tally) (is : List Item) → scanFrom rank k at t (skips n is) ≡ scanFrom rank k (at + n) t is
+unfolding skips scanFrom
+scan-skips rank k zero at t is = let e : at + 0 ≡ at = omega arith in rw e
+scan-skips rank k (suc n) at t is = let e : at + suc n ≡ suc at + n = omega arith in rw e (scan-skips rank k n (suc at) t is)
+
+more-small : {i e : ℕ} {t : Tally} → i ≤ e → Small i t → Small e t
+more-small h s =
+    record {
+      records = omega (arith, s .records);
+      letters = omega (arith, s .letters);
+      foreign = omega (arith, s .foreign);
+      edge = omega (arith, s .edge);
+      windows = omega (arith, s .windows);
+      run = omega (arith, s .run);
+    }
+
+-- Bytes that are skipped leave the scan as it is.
+pub skip-on : {file : List ℕ} {from : Mode} {rank : ℕ → Option ℕ} {k : ℕ} {m : Mode} {t : Tally} {i e : ℕ} → Scanning file from rank k m t i → Skips file m i e
+    → Scanning file from rank k m t e
+skip-on {file} {from} {rank} {k} {m} {t} {i} {e} S J =
+    let n : i + (e - i) ≡ e = omega (arith, J .on) in
+    record {
+      inside = J .inside;
+      small = more-small (J .on) (S .small);
+      answer =
+          S .answer ∙ ap (scanFrom rank k i t) (J .skipped) ∙ scan-skips rank k (e - i) i t (itemsFrom m (drop e file))
+          ∙ ap (λ (x : ℕ). scanFrom rank k x t (itemsFrom m (drop e file))) n;
+    }
+
 -- A turn: the item of the byte at i, and the step on it.
-pub record Turn (file : List ℕ) (rank : ℕ → Option ℕ) (k : ℕ) (m : Mode) (t : Tally) (i : ℕ) (it : Item) (st : Step) : Type 0 where
-  pub scanning : Scanning file rank k m t i
+pub record Turn (file : List ℕ) (from : Mode) (rank : ℕ → Option ℕ) (k : ℕ) (m : Mode) (t : Tally) (i : ℕ) (it : Item) (st : Step) : Type 0 where
+  pub scanning : Scanning file from rank k m t i
   pub more : i < length file
   pub it-is : it ≡ item m (getD file i 0) (lfNext (drop (i + 1) file))
   pub st-is : st ≡ took rank k t it
 
-module _ {file : List ℕ} {rank : ℕ → Option ℕ} {k : ℕ} {m : Mode} {t : Tally} {i : ℕ} {it : Item} {st : Step} (T : Turn file rank k m t i it st) where
-  after : outcome (fileFault file) (fileNumbers rank k file)
+module _ {file : List ℕ} {from : Mode} {rank : ℕ → Option ℕ} {k : ℕ} {m : Mode} {t : Tally} {i : ℕ} {it : Item} {st : Step}
+    (T : Turn file from rank k m t i it st) where
+  after : outcome (faultFrom false 0 (itemsFrom from file)) (numbersIn rank k (itemsFrom from file))
       ≡ afterStep st i (λ (u : Tally). scanFrom rank k (suc i) u (itemsFrom (next m (getD file i 0)) (drop (i + 1) file)))
   unfolding scanFrom
   after = T .scanning .answer ∙ rw (items-step file i m (T .more), T .st-is, T .it-is)
 
-  pub at-stray : st ≡ AtStray → refused (10, i) ≡ outcome (fileFault file) (fileNumbers rank k file)
+  pub at-stray : st ≡ AtStray → refused (10, i) ≡ outcome (faultFrom false 0 (itemsFrom from file)) (numbersIn rank k (itemsFrom from file))
   at-stray e = sym (after ∙ rw e)
 
-  pub at-early : st ≡ AtEarly → refused (11, i) ≡ outcome (fileFault file) (fileNumbers rank k file)
+  pub at-early : st ≡ AtEarly → refused (11, i) ≡ outcome (faultFrom false 0 (itemsFrom from file)) (numbersIn rank k (itemsFrom from file))
   at-early e = sym (after ∙ rw e)
 
   -- A turn that goes on keeps what holds at the head.
-  pub goes-on : (m′ : Mode) (u : Tally) → st ≡ On u → m′ ≡ next m (getD file i 0) → Scanning file rank k m′ u (i + 1)
+  pub goes-on : (m′ : Mode) (u : Tally) → st ≡ On u → m′ ≡ next m (getD file i 0) → Scanning file from rank k m′ u (i + 1)
   unfolding SmallStep
   goes-on m′ u e m-is =
       let s : SmallStep (i + 1) st = rw (T .st-is) (small-step rank k i t it (T .scanning .small)) in

@@ -1,10 +1,11 @@
 -- Document 01, "Sequence file (FASTA)": what is counted in a file and cut from it, once it is known what each of its bytes is.
--- Nothing here depends on the file's format. `rank` gives a letter's rank in the settings, none for a letter not in them.
+-- Nothing here depends on the file's kind. `rank` gives a letter's rank in the settings, none for a letter not in them.
 use Prim.Native.Nat.{ℕ, suc, _+_, _-_, min}
 use mathlib.Core.Option.{Option, none, some}
 use mathlib.Core.List.{List, [], _∷_, _++_}
 use lib.ListN.{length}
 unfoldable pub use Rattle.laws.specs.Windows.{windows}
+unfoldable pub use Rattle.lines.specs.Lines.{onFirst}
 use Rattle.fasta.specs.declared.Item.{Item}
 use Rattle.fasta.specs.declared.Item.the-variants.{Opens, Skip, Stray, Letter}
 use Rattle.fasta.specs.declared.Numbers.{Numbers}
@@ -45,11 +46,6 @@ marks rank (Opens ∷ is) = none ∷ marks rank is
 marks rank (Skip ∷ is) = marks rank is
 marks rank (Stray ∷ is) = marks rank is
 marks rank (Letter b ∷ is) = rank b ∷ marks rank is
-
--- One letter more at the front of the first run.
-unfoldable pub onFirst : ℕ → List (List ℕ) → List (List ℕ)
-onFirst x [] = (x ∷ []) ∷ []
-onFirst x (r ∷ rs) = (x ∷ r) ∷ rs
 
 -- "A run is a longest stretch of settings letters in one record between foreign letters": what stands between the breaks. Where two
 -- breaks stand side by side there is an empty one, which has neither window nor edge letter.

@@ -1,13 +1,31 @@
 -- What functions below the calls ask of each other and promise each other: the scan takes item by item. No claim and no call of document 01 rests on it.
-use Prim.Native.Nat.{ℕ, _+_, _≤_}
-use mathlib.Core.Bool.{cond}
+use Prim.Native.Nat.{ℕ, zero, suc, _+_, _-_, _≤_}
+use mathlib.Core.Path.{_≡_}
+use mathlib.Core.List.{List, _∷_}
+use lib.ListN.{length, drop}
+use mathlib.Core.Bool.{Bool, true, false, cond}
 use mathlib.Core.Option.{Option, none, some}
 use lib.Dec.{leb, eqb}
 use Rattle.fasta.specs.declared.Item.{Item}
 use Rattle.fasta.specs.declared.Item.the-variants.{Opens, Skip, Stray, Letter}
+use Rattle.fasta.specs.declared.Mode.{Mode}
+use Rattle.fasta.specs.declared.Mode.the-variants.{Start, Header, Sequence, FastqStart, FastqHeader, FastqSequence, FastqPlus, FastqQuality}
+use Rattle.fasta.specs.declared.Numbers.{Numbers}
 use Rattle.fasta.specs.declared.Tally.{Tally}
+use Rattle.fasta.specs.File.{itemsFrom}
 use Rattle.fasta.specs.declared.Step.{Step}
 use Rattle.fasta.specs.declared.Step.the-variants.{On, AtStray, AtEarly}
+
+-- Whether the bytes of a mode are passed over, up to the line's LF.
+abbrev pub isPassedOver : Mode → Bool
+isPassedOver Start = false
+isPassedOver Header = true
+isPassedOver Sequence = false
+isPassedOver FastqStart = false
+isPassedOver FastqHeader = true
+isPassedOver FastqSequence = false
+isPassedOver FastqPlus = true
+isPassedOver FastqQuality = true
 
 -- A new record: the run ends.
 abbrev pub withHeader : Tally → Tally
@@ -43,3 +61,18 @@ pub record Small (n : ℕ) (t : Tally) : Type 0 where
   pub edge : _≤_ (t .edge) n
   pub windows : _≤_ (t .windows) n
   pub run : _≤_ (t .run) n
+
+-- The numbers that a scan answers with where nothing is left.
+abbrev pub numbersOf : Tally → Numbers
+numbersOf t = record { records = t .records; letters = t .letters; foreign = t .foreign; edge = t .edge; windows = t .windows }
+
+-- So many skipped bytes in front of other items.
+unfoldable pub skips : ℕ → List Item → List Item
+skips zero is = is
+skips (suc n) is = Skip ∷ skips n is
+
+-- In a mode the bytes from i up to e are skipped and leave the mode as it is.
+pub record Skips (file : List ℕ) (m : Mode) (i e : ℕ) : Type 0 where
+  pub on : i ≤ e
+  pub inside : e ≤ length file
+  pub skipped : itemsFrom m (drop i file) ≡ skips (e - i) (itemsFrom m (drop e file))

@@ -1,24 +1,31 @@
-// Sequence files (FASTA): what each byte is, and the five numbers of a file or its first fault.
-use settings::Checked;
+// Sequence files, FASTA and FASTQ: what each byte is by the place in its line, and the five numbers of a file's bytes or the first that may not stand
+// where it does. The lines and qualities of FASTQ are judged in `files`, which also knows the kind of a file.
 use settings::Refusal;
 ghost use mathlib.Core.Path.{_≡_};
+ghost use mathlib.Core.Bool.{false};
 ghost use Prim.Native.Nat.{_+_, _<_, _≤_};
 ghost use lib.ListN.{length, getD, drop};
-ghost use Rattle.settings.specs.Grounds.{outcome};
-ghost use Rattle.settings.specs.Settings.{rankIn};
+ghost use Rattle.settings.specs.Grounds.{given, outcome};
 ghost use Rattle.settings.specs.RankTables.{asRank, rankByTable};
-ghost use Rattle.fasta.specs.File.{lfNext, lineItem, item, next, fileFault, fileNumbers};
-ghost use Rattle.fasta.specs.Scan.{scanGround, ofAnswer};
-ghost use Rattle.fasta.specs.Needs.{withLetter, took, Small};
+ghost use Rattle.fasta.specs.File.{lfNext, lineItem, item, next, itemsFrom, faultFrom};
+ghost use Rattle.fasta.specs.Items.{numbersIn};
+ghost use Rattle.fasta.specs.Scan.{ofAnswer};
+ghost use Rattle.fasta.specs.Needs.{isPassedOver, withLetter, took, Small, numbersOf, Skips};
 
-// Where in its line a byte stands.
+// Where in its line a byte stands. FASTA's are Start, at a line's start, and Header or Sequence, later in a line, by the line's first byte. FASTQ's are
+// FastqStart, at a record's start, FastqHeader, later in its header line, and the other three, in its second, third and fourth line.
 pub enum Mode {
     Start,
     Header,
     Sequence,
+    FastqStart,
+    FastqHeader,
+    FastqSequence,
+    FastqPlus,
+    FastqQuality,
 }
 
-// What a byte of a file is: the > that opens a record, a byte that counts for nothing, a stray byte, a letter.
+// What a byte of a file is: the > or @ that opens a record, a byte that counts for nothing, a stray byte, a letter.
 pub enum Item {
     Opens,
     Skip,
@@ -58,17 +65,6 @@ enum Step {
     AtEarly,
 }
 
-// Whether the byte at i is there and is LF.
-fn lf_at(file: &[u8], i: usize) -> bool
-    ensures { λ r. ⌜ r ≡ lfNext (drop i (now (file .entry))) ⌝ }
-{
-    if i < file.len() {
-        file[i] == b'\n'
-    } else {
-        false
-    }
-}
-
 // The byte at i, as one of a sequence line. Only a CR asks for the byte after it.
 fn line_item(file: &[u8], i: usize) -> Item
     requires { ⌜ i < length (now file) ⌝ }
@@ -79,7 +75,7 @@ fn line_item(file: &[u8], i: usize) -> Item
         b'A'..=b'Z' | b'a'..=b'z' => Item::Letter(b),
         b'\n' => Item::Skip,
         b'\r' => {
-            if lf_at(file, i + 1) {
+            if lines::byte_is(file, i + 1, b'\n') {
                 Item::Skip
             } else {
                 Item::Stray
@@ -89,21 +85,54 @@ fn line_item(file: &[u8], i: usize) -> Item
     }
 }
 
-// What the byte at i is. For `counting` too, which reads byte by byte; i lies inside the file.
+// What the byte at i is. For `counting` too; i lies inside the file.
 pub fn item_at(file: &[u8], i: usize, mode: Mode) -> Item
     requires { ⌜ i < length (now file) ⌝ }
     ensures { λ r. ⌜ r ≡ item mode (getD (now (file .entry)) i 0) (lfNext (drop (i + 1) (now (file .entry)))) ⌝ }
 {
     match mode {
-        Mode::Header => Item::Skip,
-        Mode::Sequence => line_item(file, i),
-        Mode::Start => {
-            if file[i] == b'>' {
-                Item::Opens
-            } else {
-                line_item(file, i)
-            }
-        }
+        Mode::Start => if file[i] == b'>' {
+            Item::Opens
+        } else {
+            line_item(file, i)
+        },
+        Mode::FastqStart => Item::Opens,
+        Mode::Sequence | Mode::FastqSequence => line_item(file, i),
+        _ => Item::Skip,
+    }
+}
+
+// Whether a mode's bytes are passed over, up to the line's LF: in a header line behind its first byte, in a + line and in a quality line.
+fn is_passed_over(mode: Mode) -> bool
+    ensures { λ r. ⌜ r ≡ isPassedOver mode ⌝ }
+{
+    match mode {
+        Mode::Header | Mode::FastqHeader | Mode::FastqPlus | Mode::FastqQuality => true,
+        _ => false,
+    }
+}
+
+// The place behind the bytes from a place on that a mode passes over; that place itself where it passes over none. For `counting` too.
+pub fn pass_over(file: &[u8], from: usize, mode: Mode) -> usize
+    requires { ⌜ from ≤ length (now file) ⌝ }
+    ensures { λ r. ⌜ Skips (now (file .entry)) mode from r ⌝ }
+{
+    if is_passed_over(mode) {
+        return lines::line_end(file, from);
+    }
+    from
+}
+
+// The mode at the start of the next line.
+fn mode_after_line(mode: Mode) -> Mode
+    ensures { λ r. ⌜ r ≡ next mode 10 ⌝ }
+{
+    match mode {
+        Mode::Start | Mode::Header | Mode::Sequence => Mode::Start,
+        Mode::FastqStart | Mode::FastqHeader => Mode::FastqSequence,
+        Mode::FastqSequence => Mode::FastqPlus,
+        Mode::FastqPlus => Mode::FastqQuality,
+        Mode::FastqQuality => Mode::FastqStart,
     }
 }
 
@@ -112,18 +141,16 @@ pub fn next_mode(mode: Mode, b: u8) -> Mode
     ensures { λ r. ⌜ r ≡ next mode b ⌝ }
 {
     if b == b'\n' {
-        return Mode::Start;
+        return mode_after_line(mode);
     }
     match mode {
-        Mode::Header => Mode::Header,
-        Mode::Sequence => Mode::Sequence,
-        Mode::Start => {
-            if b == b'>' {
-                Mode::Header
-            } else {
-                Mode::Sequence
-            }
-        }
+        Mode::Start => if b == b'>' {
+            Mode::Header
+        } else {
+            Mode::Sequence
+        },
+        Mode::FastqStart => Mode::FastqHeader,
+        _ => mode,
     }
 }
 
@@ -189,13 +216,28 @@ fn take_item(t: Tally, it: Item, ranks: &[u8; 256], k: usize) -> Step
     }
 }
 
-// One pass over a file that is not too long, for settings that were checked: its numbers, or its first fault.
-pub fn scan_file(file: &[u8], ranks: &[u8; 256], k: usize) -> Answer
+// What a scan answers of a tally at the file's end.
+fn taken(t: Tally) -> Answer
+    ensures { λ r. ⌜ ofAnswer r ≡ given (numbersOf t) ⌝ }
+{
+    Answer::Taken(Numbers {
+        records: t.records,
+        letters: t.letters,
+        foreign: t.foreign,
+        edge: t.edge,
+        windows: t.windows,
+    })
+}
+
+// One pass over the items of a file that is not too long, from a mode on: its numbers, or its first fault.
+pub fn scan_items(file: &[u8], start: Mode, ranks: &[u8; 256], k: usize) -> Answer
     requires { ⌜ (length (now file) ≤ 16777216) × (1 ≤ k) ⌝ }
     ensures { λ r.
-        ⌜ ofAnswer r ≡ outcome (fileFault (now (file .entry))) (fileNumbers (rankByTable (now (ranks .entry))) k (now (file .entry))) ⌝ }
+        ⌜ ofAnswer r
+        ≡ outcome (faultFrom false 0 (itemsFrom start (now (file .entry))))
+        (numbersIn (rankByTable (now (ranks .entry))) k (itemsFrom start (now (file .entry)))) ⌝ }
 {
-    let mut mode = Mode::Start;
+    let mut mode = start;
     let mut t = Tally {
         records: 0,
         letters: 0,
@@ -206,39 +248,18 @@ pub fn scan_file(file: &[u8], ranks: &[u8; 256], k: usize) -> Answer
     };
     let mut i: usize = 0;
     while i < file.len() {
-        let it = item_at(file, i, mode);
+        let e = pass_over(file, i, mode);
+        if e >= file.len() {
+            return taken(t);
+        }
+        let it = item_at(file, e, mode);
         match take_item(t, it, ranks, k) {
-            Step::AtStray => return Answer::Refused(Refusal::StrayByte(i)),
-            Step::AtEarly => return Answer::Refused(Refusal::EarlyLetter(i)),
+            Step::AtStray => return Answer::Refused(Refusal::StrayByte(e)),
+            Step::AtEarly => return Answer::Refused(Refusal::EarlyLetter(e)),
             Step::On(u) => t = u,
         }
-        mode = next_mode(mode, file[i]);
-        i += 1;
+        mode = next_mode(mode, file[e]);
+        i = e + 1;
     }
-    Answer::Taken(Numbers {
-        records: t.records,
-        letters: t.letters,
-        foreign: t.foreign,
-        edge: t.edge,
-        windows: t.windows,
-    })
-}
-
-// A file's five numbers, or the first ground that applies: 1, 2, 4, then 6, then 10 or 11.
-pub fn scan(file: &[u8], letters: &[u8], k: usize, mirror: u64) -> Answer
-    ensures { λ r.
-        ⌜ ofAnswer r
-        ≡ outcome (scanGround (now (letters .entry)) k mirror (now (file .entry)))
-        (fileNumbers (rankIn (now (letters .entry))) k (now (file .entry))) ⌝ }
-{
-    match settings::check(letters, k, mirror) {
-        Checked::Bad(f) => Answer::Refused(f),
-        Checked::Good(_) => {
-            if file.len() > 16777216 {
-                return Answer::Refused(Refusal::TooLarge);
-            }
-            let ranks = settings::rank_table(letters);
-            scan_file(file, &ranks, k)
-        }
-    }
+    taken(t)
 }

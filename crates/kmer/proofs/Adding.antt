@@ -1,10 +1,10 @@
 -- What adding through the C call rests on: which ground applies at each of its tests, that the P of each refusal is at most 16,777,216, and the call's
 -- answer, table and list from those of `table::add`.
 use mathlib.Core.Path.{_≡_, sym, ap, _∙_}
-use mathlib.Core.Bool.{Bool, true, false, _||_}
+use mathlib.Core.Bool.{Bool, _||_}
 use mathlib.Core.Option.{none, some}
-use mathlib.Core.List.{List, [], _∷_, _++_}
-use Prim.Native.Nat.{ℕ, suc, _+_, _^_, _<_, _≤_}
+use mathlib.Core.List.{List, _++_}
+use Prim.Native.Nat.{ℕ, _+_, _^_, _<_, _≤_}
 use native.Mathlib.Omega.{arith}
 use borrow.Author.Tests.{lt-ltb, le-ltb}
 use lib.ListN.{length, drop}
@@ -14,14 +14,11 @@ use Rattle.settings.specs.declared.Checked.the-variants.{Bad}
 use Rattle.settings.specs.Grounds.{Ground, Outcome, given, refused, groundOf, ground, outcome, _orElse_}
 use Rattle.settings.specs.Settings.{rankIn, settingsOf, ofChecked}
 use Rattle.settings.proofs.Outcomes.{refused-is, passed}
-use Rattle.settings.proofs.FirstGround.{Small, test-small, then-small}
-use Rattle.fasta.specs.declared.Item.{Item}
-use Rattle.fasta.specs.declared.Item.the-variants.{Opens, Skip, Stray, Letter}
+use Rattle.settings.proofs.FirstGround.{PlaceUpTo, Small, test-small, then-small}
 use Rattle.fasta.specs.declared.Numbers.{Numbers}
-use Rattle.fasta.specs.declared.Mode.the-variants.{Start}
-use Rattle.fasta.specs.File.{items, faultFrom, fileFault, fileNumbers}
-use Rattle.fasta.specs.Scan.{tooLong}
-use Rattle.fasta.proofs.Runs.{items-length}
+use Rattle.files.specs.File.{File, fileFault, fileNumbers}
+use Rattle.files.specs.Scan.{tooLong}
+use Rattle.files.proofs.FaultNumbers.{fault-has}
 use Rattle.tally.specs.Table.{classCount, tooMany, readyGround, addGround, tableFull, tableGround, Added}
 use Rattle.table.proofs.CallGrounds.{classes-few, ready-file}
 use Rattle.kmer.proofs.Refusals.{refused-fits, sizes-small}
@@ -30,30 +27,22 @@ use Rattle.kmer.specs.Adding.{addIntoGround, fiveNumbers, AddsInto}
 
 -- ---- how large P can be
 
-fault-below : (opened : Bool) (at : ℕ) (is : List Item) (g : Ground) → faultFrom opened at is ≡ some g → g .1 < at + length is
-unfolding faultFrom
-fault-below opened at [] g e = absurd (let z : _≡_ {A = ℕ} 0 1 = cc in omega arith)
-fault-below opened at (Opens ∷ is) g e = omega (arith, fault-below true (suc at) is g e)
-fault-below opened at (Skip ∷ is) g e = omega (arith, fault-below opened (suc at) is g e)
-fault-below opened at (Stray ∷ is) g e = let p : at ≡ g .1 = cc in omega arith
-fault-below true at (Letter b ∷ is) g e = omega (arith, fault-below true (suc at) is g e)
-fault-below false at (Letter b ∷ is) g e = let p : at ≡ g .1 = cc in omega arith
-
-ready-small : (letters : List ℕ) (k m room : ℕ) (file : List ℕ) → Small 16777216 (readyGround letters k m room file)
+ready-small : (letters : List ℕ) (k m room : ℕ) (bytes : List ℕ) → Small 16777216 (readyGround letters k m room bytes)
 unfolding readyGround
-ready-small letters k m room file =
-    sizes-small letters k m (tooLong file || tooMany (classCount letters k m)) room (classCount letters k m) (λ _ e. classes-few letters k m file e)
+ready-small letters k m room bytes =
+    sizes-small letters k m (tooLong bytes || tooMany (classCount letters k m)) room (classCount letters k m) (λ _ e. classes-few letters k m bytes e)
 
-add-small : (letters : List ℕ) (k m room : ℕ) (isFull : Bool) (file : List ℕ) → Small 16777216 (addGround letters k m room isFull file)
+add-small : (letters : List ℕ) (k m room : ℕ) (isFull : Bool) (file : File) → Small 16777216 (addGround letters k m room isFull file)
 unfolding addGround
 add-small letters k m room isFull file =
-    then-small 16777216 (readyGround letters k m room file) (fileFault file orElse ground 12 isFull) (ready-small letters k m room file)
+    then-small 16777216 (readyGround letters k m room (file .bytes)) (fileFault file orElse ground 12 isFull) (ready-small letters k m room (file .bytes))
     (λ ready. then-small 16777216 (fileFault file) (ground 12 isFull)
-    (λ g f. omega (arith, fault-below false 0 (items file) g f, items-length Start file, ready-file letters k m room file ready))
+    (fault-has (PlaceUpTo 16777216) 16777216 file (λ i p e h. h) (ready-file letters k m room (file .bytes) ready))
     (λ _. test-small 16777216 12 isFull))
 
 -- The P of a refused add fits.
-pub add-fits : (letters : List ℕ) (k m : ℕ) (t file t′ : List ℕ) (f : Refusal) (answer : Outcome Numbers) → Added letters k m t file answer t′
+pub add-fits : (letters : List ℕ) (k m : ℕ) (t : List ℕ) (file : File) (t′ : List ℕ) (f : Refusal) (answer : Outcome Numbers)
+    → Added letters k m t file answer t′
     → answer ≡ refused (groundOf f) → groundOf f .1 < 2 ^ 32
 add-fits letters k m t file t′ f answer A e =
     let small = add-small letters k m (length t) (tableFull letters k m t file) file in
@@ -62,15 +51,15 @@ add-fits letters k m t file t′ f answer A e =
 -- ---- `kmer_add`
 
 -- From the answer of `table::ready`: a refusal is by one of its grounds, with a P that fits.
-module _ (letters : List ℕ) (k m room : ℕ) (file : List ℕ) (r : Checked)
-    (e : ofChecked r ≡ outcome (readyGround letters k m room file) (settingsOf letters k m)) where
-  pub ready-refuses : (f : Refusal) → r ≡ Bad f → readyGround letters k m room file ≡ some (groundOf f)
-  ready-refuses f g = refused-is (groundOf f) (settingsOf letters k m) (readyGround letters k m room file) (sym (ap ofChecked g) ∙ e)
+module _ (letters : List ℕ) (k m room : ℕ) (bytes : List ℕ) (r : Checked)
+    (e : ofChecked r ≡ outcome (readyGround letters k m room bytes) (settingsOf letters k m)) where
+  pub ready-refuses : (f : Refusal) → r ≡ Bad f → readyGround letters k m room bytes ≡ some (groundOf f)
+  ready-refuses f g = refused-is (groundOf f) (settingsOf letters k m) (readyGround letters k m room bytes) (sym (ap ofChecked g) ∙ e)
 
   pub ready-fits : (f : Refusal) → r ≡ Bad f → groundOf f .1 < 2 ^ 32
-  ready-fits f g = omega (arith, ready-small letters k m room file (groundOf f) (ready-refuses f g))
+  ready-fits f g = omega (arith, ready-small letters k m room bytes (groundOf f) (ready-refuses f g))
 
-module _ (letters : List ℕ) (k m : ℕ) (t file old : List ℕ) where
+module _ (letters : List ℕ) (k m : ℕ) (t : List ℕ) (file : File) (old : List ℕ) where
   -- With room for the answer, the grounds are those of `table::add`.
   pub same-ground : 5 ≤ length old → addIntoGround letters k m t file (length old) ≡ tableGround letters k m t file
   unfolding addIntoGround addGround
@@ -80,12 +69,12 @@ module _ (letters : List ℕ) (k m : ℕ) (t file old : List ℕ) where
       → AddsInto letters k m t file old x t old
   kept f e x h = record { returns = rw e h; table-left = rw e; answer-left = rw e }
 
-  pub into-bad : (f : Refusal) → readyGround letters k m (length t) file ≡ some (groundOf f) → (x : ℕ)
+  pub into-bad : (f : Refusal) → readyGround letters k m (length t) (file .bytes) ≡ some (groundOf f) → (x : ℕ)
       → x ≡ returnedWithPlace (refused (groundOf f)) → AddsInto letters k m t file old x t old
   unfolding addIntoGround
   into-bad f e x h = kept (groundOf f) (rw e) x h
 
-  pub into-short : readyGround letters k m (length t) file ≡ none → length old < 5 → (x : ℕ) → x ≡ returnedWithPlace (refused (7, 5))
+  pub into-short : readyGround letters k m (length t) (file .bytes) ≡ none → length old < 5 → (x : ℕ) → x ≡ returnedWithPlace (refused (7, 5))
       → AddsInto letters k m t file old x t old
   unfolding addIntoGround
   into-short ready h x e = kept (7, 5) (rw (ready, lt-ltb (length old) 5 h)) x e

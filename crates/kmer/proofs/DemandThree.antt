@@ -7,7 +7,7 @@ use lib.ListN.{length, replicate}
 use Rattle.settings.specs.Grounds.{Ground, Outcome, outcome, overwritten}
 use Rattle.settings.specs.Settings.{rankIn}
 use Rattle.fasta.specs.declared.Numbers.{Numbers}
-use Rattle.fasta.specs.File.{fileNumbers}
+use Rattle.files.specs.File.{File, fileNumbers}
 use Rattle.tally.specs.Table.{classCount, clearGround, tableGround, Added, Clears}
 use Rattle.tally.specs.Demand.{Adds}
 use Rattle.tally.specs.Demand.Calls.{done, then}
@@ -24,7 +24,7 @@ tells : (g : Option Ground) (n : Numbers) (lent : List ℕ) → (returnedWithPla
 tells none n lent = refl
 tells (some f) n lent = refl
 
-module _ (letters : List ℕ) (k m : ℕ) {t file lent : List ℕ} {r : ℕ} {t′ new : List ℕ} (room : 5 ≤ length lent)
+module _ (letters : List ℕ) (k m : ℕ) {t : List ℕ} {file : File} {lent : List ℕ} {r : ℕ} {t′ new : List ℕ} (room : 5 ≤ length lent)
     (A : AddsInto letters k m t file lent r t′ new) where
   -- A call with room for its answer is an add.
   is-add : Added letters k m t file (outcome (tableGround letters k m t file) (fileNumbers (rankIn letters) k file)) t′
@@ -39,12 +39,12 @@ module _ (letters : List ℕ) (k m : ℕ) {t file lent : List ℕ} {r : ℕ} {t�
 -- ---- a list of calls
 
 -- The adds that a list of calls is, with their answers.
-record AsAdds (letters : List ℕ) (k m : ℕ) (t : List ℕ) (asked : List (List ℕ × List ℕ)) (told : List (ℕ × List ℕ)) (t′ : List ℕ) : Type 0 where
+record AsAdds (letters : List ℕ) (k m : ℕ) (t : List ℕ) (asked : List (File × List ℕ)) (told : List (ℕ × List ℕ)) (t′ : List ℕ) : Type 0 where
   answers : List (Outcome Numbers)
-  adds : Adds letters k m t (map (λ (c : List ℕ × List ℕ). c .0) asked) answers t′
-  told-are : told ≡ zipWith toldBy answers (map (λ (c : List ℕ × List ℕ). c .1) asked)
+  adds : Adds letters k m t (map (λ (c : File × List ℕ). c .0) asked) answers t′
+  told-are : told ≡ zipWith toldBy answers (map (λ (c : File × List ℕ). c .1) asked)
 
-as-adds : (letters : List ℕ) (k m : ℕ) {t : List ℕ} {asked : List (List ℕ × List ℕ)} {told : List (ℕ × List ℕ)} {t′ : List ℕ}
+as-adds : (letters : List ℕ) (k m : ℕ) {t : List ℕ} {asked : List (File × List ℕ)} {told : List (ℕ × List ℕ)} {t′ : List ℕ}
     → AddCalls letters k m t asked told t′ → AsAdds letters k m t asked told t′
 unfolding zipWith
 as-adds letters k m done = record { answers = []; adds = done; told-are = refl }
@@ -60,7 +60,7 @@ as-adds letters k m (then {t} {c = c} h rest) =
 -- file, a lent list of at least five places for its answer, and the table that the call before left. Then these calls are adds of the same files to
 -- the same table, demand 3 holds of those adds, and each call returned 5 and put the file's five numbers into its list where its add answered with
 -- numbers, and returned 2^63 + P * 256 + the ground's number and left its list unchanged where the add was refused.
-pub demand-three-from-c : (letters : List ℕ) (k m : ℕ) {t₀ t t′ : List ℕ} {r : ℕ} {asked : List (List ℕ × List ℕ)} {told : List (ℕ × List ℕ)}
+pub demand-three-from-c : (letters : List ℕ) (k m : ℕ) {t₀ t t′ : List ℕ} {r : ℕ} {asked : List (File × List ℕ)} {told : List (ℕ × List ℕ)}
     → clearGround letters k m (length t₀) ≡ none
     → ReturnsPlaces returnedWithPlace (clearGround letters k m (length t₀)) (classCount letters k m) (replicate (classCount letters k m) 0) t₀ r t
     → AddCalls letters k m t asked told t′

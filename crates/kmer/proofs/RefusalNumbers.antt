@@ -12,7 +12,7 @@ use Rattle.settings.specs.Settings.{isIn, mirrorOf, classes, settingsGround, Re
 use Rattle.settings.proofs.FirstGround.{NumberIn, test-has, place-has, then-has, settings-has, sizes-has}
 use Rattle.encoding.specs.Calls.{wrongLength, foreignFrom, codeGround, readGround, mirrorGround}
 use Rattle.sequence.specs.Sequences.{sequenceGround}
-use Rattle.fasta.specs.File.{fileFault}
+use Rattle.files.specs.File.{File, fileFault}
 use Rattle.tally.specs.Table.{readyGround, clearGround, tableFull}
 use Rattle.tally.proofs.RefusalNumbers.{clearNumbers, clear-numbers, addNumbers, ready-has, file-numbers}
 use Rattle.listing.specs.Listing.{listing, listingGround}
@@ -59,14 +59,16 @@ sequence-numbers letters k m sequence room =
     sizes-has (NumberIn (1 ∷ 2 ∷ 4 ∷ 6 ∷ 7 ∷ [])) letters k m (ltb 16777216 (length sequence)) room (length (windows k sequence)) refl refl refl refl
     (λ _ _ _ _. refl)
 
--- kmer_add: 1, 2, 4, 6, 7, 10, 11 or 12.
-pub add-into-numbers : (letters : List ℕ) (k m : ℕ) (t file : List ℕ) (room : ℕ) → RefusedOnlyBy addNumbers (addIntoGround letters k m t file room)
+-- kmer_add: 1, 2, 4, 6, 7 or 12; of FASTA 10 or 11, of FASTQ 10, 15, 16 or 17.
+pub add-into-numbers : (letters : List ℕ) (k m : ℕ) (t : List ℕ) (file : File) (room : ℕ)
+    → RefusedOnlyBy (addNumbers (file .kind)) (addIntoGround letters k m t file room)
 unfolding isIn addIntoGround
 add-into-numbers letters k m t file room =
-    let Q = NumberIn addNumbers in
+    let Q = NumberIn (addNumbers (file .kind)) in
     let g7 = groundAt 7 (tooShort room 5) in
     let rest = fileFault file orElse ground 12 (tableFull letters k m t file) in
-    then-has Q (readyGround letters k m (length t) file) (g7 orElse rest) (ready-has Q letters k m (length t) file refl refl refl refl (λ _. refl))
+    then-has Q (readyGround letters k m (length t) (file .bytes)) (g7 orElse rest)
+    (ready-has Q letters k m (length t) (file .bytes) refl refl refl refl (λ _. refl))
     (λ _. then-has Q g7 rest (place-has Q 7 (tooShort room 5) (λ _ _. refl)) (λ _. file-numbers (tableFull letters k m t file) file))
 
 -- kmer_listing: 1, 2, 4, 6 or 7.

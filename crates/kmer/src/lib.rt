@@ -6,7 +6,8 @@ ghost use mathlib.Core.List.{_++_};
 ghost use lib.ListN.{length, drop, replicate};
 ghost use Rattle.settings.specs.Grounds.{refused as Refused, groundOf, ofFilling};
 ghost use Rattle.tally.specs.Table.{classCount, clearGround};
-ghost use Rattle.kmer.specs.Adding.{fiveNumbers, AddsInto};
+ghost use Rattle.files.specs.File.{fileOf};
+ghost use Rattle.kmer.specs.Adding.{kindOfNumber, fiveNumbers, AddsInto};
 ghost use Rattle.encoding.specs.Calls.{coding, readGround, wordBytes, mirrorGround, mirrorBytes};
 ghost use Rattle.kmer.specs.Returned.{returned, returnedWithPlace, ReturnsPlaces};
 ghost use Rattle.kmer.specs.Needs.{PlaceFits};
@@ -16,6 +17,7 @@ ghost use Rattle.laws.specs.Windows.{windows};
 ghost use Rattle.sequence.specs.Sequences.{sequenceGround, sequenceCodes};
 use fasta::Answer;
 use fasta::Numbers;
+use files::Kind;
 use settings::Checked;
 use settings::Filling;
 use settings::Refusal;
@@ -138,18 +140,26 @@ fn write_numbers(n: Numbers, answer: &mut [u64])
     answer[4] = n.windows as u64;
 }
 
-// Adds a file to a table; the file's five numbers go into the answer list, whose own ground 7 comes after the table's.
-#[no_mangle]
-pub extern "C" fn kmer_add(
+// The kind of file that a number names: 0 is FASTA, any other number FASTQ.
+fn kind_of_number(fastq: u64) -> Kind
+    ensures { λ r. ⌜ r ≡ kindOfNumber fastq ⌝ }
+{
+    if fastq == 0 { Kind::Fasta } else { Kind::Fastq }
+}
+
+// Adds a file of a kind to a table; the file's five numbers go into the answer list, whose own ground 7 comes after the table's.
+fn add_into(
     letters: &[u8],
     k: usize,
     mirror: u64,
     table: &mut [u32],
+    kind: Kind,
     file: &[u8],
     answer: &mut [u64],
 ) -> u64
     ensures { λ r.
-        ⌜ AddsInto (now (letters .entry)) k mirror (now (table .entry)) (now (file .entry)) (now (answer .entry)) r (now (table .exit)) (now (answer .exit)) ⌝ }
+        ⌜ AddsInto (now (letters .entry)) k mirror (now (table .entry)) (fileOf kind (now (file .entry))) (now (answer .entry)) r
+        (now (table .exit)) (now (answer .exit)) ⌝ }
 {
     match table::ready(letters, k, mirror, table.len(), file) {
         Checked::Bad(f) => refused_at(f),
@@ -157,7 +167,7 @@ pub extern "C" fn kmer_add(
             if answer.len() < 5 {
                 return refused_at(Refusal::ShortBuffer(5));
             }
-            match table::add(letters, k, mirror, table, file) {
+            match table::add(letters, k, mirror, table, kind, file) {
                 Answer::Refused(f) => refused_at(f),
                 Answer::Taken(n) => {
                     write_numbers(n, answer);
@@ -166,6 +176,32 @@ pub extern "C" fn kmer_add(
             }
         }
     }
+}
+
+// Adds a file to a table; `fastq` names its kind.
+#[no_mangle]
+pub extern "C" fn kmer_add(
+    letters: &[u8],
+    k: usize,
+    mirror: u64,
+    table: &mut [u32],
+    fastq: u64,
+    file: &[u8],
+    answer: &mut [u64],
+) -> u64
+    ensures { λ r.
+        ⌜ AddsInto (now (letters .entry)) k mirror (now (table .entry)) (fileOf (kindOfNumber fastq) (now (file .entry))) (now (answer .entry)) r
+        (now (table .exit)) (now (answer .exit)) ⌝ }
+{
+    add_into(
+        letters,
+        k,
+        mirror,
+        table,
+        kind_of_number(fastq),
+        file,
+        answer,
+    )
 }
 
 // The listing of a table.

@@ -1,10 +1,11 @@
--- Computed checks of the program's definition: the worked example of document 01 and a case of document 02, K10, from input to output, and refusals.
+-- Computed checks of the program's definition: the worked example of document 01 and cases of document 02, K10 and K1, from input to output, and refusals.
 use mathlib.Core.Path.{_≡_, refl}
 use mathlib.Core.List.{List, _++_}
 use Prim.Native.Nat.{ℕ}
 use Prim.Native.String.{String}
 use Rattle.laws.specs.Text.{bytes}
 use Rattle.laws.specs.Windows.{windows}
+use Rattle.lines.specs.Lines.{lines, textOf, firstByteIs}
 use Rattle.settings.specs.Settings.{isCapital, isIn, differentCapitals, goodLetters, capitalOf, placeFrom, isOdd, halfUp, classes, badSize, settingsGround}
 use Rattle.encoding.specs.Words.{mirrorRank, mirror, plain, canonical}
 use Rattle.encoding.specs.Codes.{pairRank, digits, differingPair, shift, oddShift, codeOfCanonical, code}
@@ -12,7 +13,8 @@ use Rattle.encoding.specs.WordsOfCodes.{wordOfPlain, pairOfRank, middleOfCode, 
 use Rattle.encoding.specs.Calls.{inCapitals, wordBytes}
 use Rattle.fasta.specs.Items.{recordsIn, lettersIn, oneIfForeign, foreignIn, marks, onFirst, runs, edge, edgesOf, windowsOf}
 use Rattle.fasta.specs.File.{isLetter, lfNext, lineItem, item, next, itemsFrom, faultFrom}
-use Rattle.fasta.specs.Scan.{tooLong}
+use Rattle.fastq.specs.Fastq.{isThere, unlessAt, firstFailing, isQuality, recordFault, fastqFault}
+use Rattle.files.specs.Scan.{tooLong}
 use Rattle.tally.specs.Table.{windowsOfFile, bump, bumps, full, tooMany, readyGround, addGround}
 use Rattle.tally.specs.Demand.{sum}
 use Rattle.texts.specs.Decimals.{decimalFrom, decimal}
@@ -20,11 +22,11 @@ use Rattle.survey.specs.Grammar.{spelt}
 use Rattle.survey.specs.Line.{surveyLine}
 use Rattle.survey.specs.Reading as reading
 use Rattle.listing.specs.Listing.{countLine, countLines, totalLine, listingOf}
-use Rattle.program.specs.Program.{fileLine, refusedLine, clearedTable, surveyText, lineText, programText}
+use Rattle.program.specs.Program.{fileLine, refusedLine, clearedTable, surveyText, kindByFirstByte, lineText, programText}
 
 -- What is printed for an input. A case that unfolds it computes with all that its `unfolding` line names.
 unfoldable outputOf : String → List ℕ
-unfolding programText lineText surveyText refusedLine fileLine clearedTable listingOf surveyLine countLines countLine totalLine sum decimal decimalFrom
+unfolding programText lineText kindByFirstByte surveyText refusedLine fileLine clearedTable listingOf surveyLine countLines countLine totalLine sum decimal decimalFrom
     wordBytes inCapitals wordOf wordOfPlain pairOfRank middleOfCode mirrorRank
     addGround readyGround settingsGround goodLetters differentCapitals isCapital isIn
     isOdd halfUp classes badSize tooLong tooMany faultFrom itemsFrom item next lineItem isLetter lfNext
@@ -33,6 +35,7 @@ unfolding programText lineText surveyText refusedLine fileLine clearedTable list
     reading.readLine reading.lineFrom reading.headOf reading.took reading.lineEnd reading.endAfter reading.nextForm reading.formAt
     reading.formFrom reading.formOf reading.numberOf reading.mirrorNumber reading.sized reading.valueByte reading.stretch
     reading.startsWith spelt
+    lines textOf firstByteIs isThere unlessAt firstFailing isQuality recordFault fastqFault
 outputOf input = programText (bytes input)
 
 abbrev Gives : String → String → Type 0
@@ -72,3 +75,19 @@ odd-alphabet :
     ++ bytes "(file (records 1) (letters 4) (foreign 0) (edge 0) (windows 4))\n"
 unfolding outputOf
 odd-alphabet = refl
+
+-- Document 02, K1: the worked example's reads as FASTQ, known by the file's first byte; and each of its grounds.
+fastq-example :
+    outputOf "(survey (letters ACGT) (k 2) (mirror complement))\n@AC\nACGTN\n+GT\nACGTA\n@b\nAGCT\n+\nCCCC\n"
+    ≡ outputOf "(survey (letters ACGT) (k 2) (mirror complement))\n>a\nACGTN\n>b\nAG\nCT\n"
+unfolding outputOf
+fastq-example = refl
+
+fastq-refusals :
+    Gives "(survey (letters ACGT) (k 2) (mirror complement))\n@a\nAC\n+\nII\n>b\n" "(refused 15 11)\n"
+    × Gives "(survey (letters ACGT) (k 2) (mirror complement))\n@a\nA-C\n+\nIII\n" "(refused 10 4)\n"
+    × Gives "(survey (letters ACGT) (k 2) (mirror complement))\n@a\nAC\n+\nIII\n" "(refused 16 8)\n"
+    × Gives "(survey (letters ACGT) (k 2) (mirror complement))\n@a\nAC\n+\nI \n" "(refused 17 9)\n"
+    × Gives "(survey (letters ACGT) (k 8) (mirror complement))\n@a\nAC\n" "(refused 7 32896)\n"
+unfolding outputOf
+fastq-refusals = (refl, refl, refl, refl, refl)

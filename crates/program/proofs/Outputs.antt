@@ -10,7 +10,7 @@ use Rattle.settings.specs.Grounds.{Ground, Outcome, given, refused, outcome}
 use Rattle.settings.specs.Settings.{rankIn, settingsGround, settingsOf}
 use Rattle.settings.proofs.Outcomes.{passed, refused-on, first-none}
 use Rattle.fasta.specs.declared.Numbers.{Numbers}
-use Rattle.fasta.specs.File.{fileNumbers}
+use Rattle.files.specs.File.{File, fileNumbers}
 use Rattle.tally.specs.Table.{classCount, places, bumps, tableFull, readyGround, tableGround, addGround, addAnswer, Added}
 use Rattle.table.proofs.CallGrounds.{ready-bad, ready-settings, ready-room}
 use Rattle.tally.proofs.Bumps.{length-bumps}
@@ -22,7 +22,7 @@ use Rattle.survey.specs.Reading.{readLine}
 use Rattle.listing.specs.Listing.{listingOf}
 use Rattle.listing.specs.Needs.{AllCounts}
 use Rattle.listing.proofs.ListingAnswers.{all-counts}
-use Rattle.program.specs.Program.{fileLine, refusedLine, clearedTable, answerText, surveyText, lineText, programText, Prints}
+use Rattle.program.specs.Program.{fileLine, refusedLine, clearedTable, answerText, surveyText, programFile, lineText, programText, Prints}
 
 -- ---- lengths
 
@@ -60,13 +60,13 @@ length-cleared : length clearedTable ≡ 16384
 unfolding clearedTable
 length-cleared = length-replicate {A = ℕ} 16384 0
 
-module _ (letters : List ℕ) (k m : ℕ) (file : List ℕ) where
+module _ (letters : List ℕ) (k m : ℕ) (file : File) where
   pub settings-text : (f : Ground) → refused f ≡ outcome (settingsGround letters k m) (settingsOf letters k m) → surveyText letters k m file ≡ refusedLine f
   unfolding surveyText addGround
   settings-text f e =
       ap (answerText letters k m file)
-      (sym (refused-on f (settingsOf letters k m) (fileNumbers (rankIn letters) k file) (readyGround letters k m 16384 file) _
-      (ready-bad letters k m 16384 file f e)))
+      (sym (refused-on f (settingsOf letters k m) (fileNumbers (rankIn letters) k file) (readyGround letters k m 16384 (file .bytes)) _
+      (ready-bad letters k m 16384 (file .bytes) f e)))
 
   answered-text : {t t′ : List ℕ} {answer : Outcome Numbers} → t ≡ clearedTable → Added letters k m t file answer t′
       → surveyText letters k m file ≡ answerText letters k m file answer
@@ -95,9 +95,9 @@ module _ (letters : List ℕ) (k m : ℕ) (file : List ℕ) where
     unfolding addGround
     taken-in =
         let no-ground = passed (fileNumbers (rankIn letters) k file) (tableGround letters k m t file) (sym e ∙ A .answers) .none-applies in
-        let ready = first-none (readyGround letters k m (length t) file) _ no-ground in
-        let good = ready-settings letters k m (length t) file ready in
-        let room = ready-room letters k m (length t) file ready in
+        let ready = first-none (readyGround letters k m (length t) (file .bytes)) _ no-ground in
+        let good = ready-settings letters k m (length t) (file .bytes) ready in
+        let room = ready-room letters k m (length t) (file .bytes) ready in
         let grown : t′ ≡ bumps clearedTable (places letters k m file) = A .leaves ∙ (rw (no-ground, cleared)) in
         let same : length t′ ≡ 16384 = ap length grown ∙ length-bumps (places letters k m file) clearedTable ∙ length-cleared in
         let few : q ≤ 16384 = omega (arith, room, q-is, ap length cleared, length-cleared) in
@@ -142,6 +142,6 @@ module _ (input : List ℕ) where
 
     -- The letters end at the place from + len.
     pub line-text : {from len k m next : ℕ} → readLine input ≡ Survey from len k m next
-        → programText input ≡ surveyText (take (from + len - from) (drop from input)) k m (drop next input)
+        → programText input ≡ surveyText (take (from + len - from) (drop from input)) k m (programFile (drop next input))
     unfolding programText lineText
     line-text {from} {len} e = let n : from + len - from ≡ len = omega arith in rw (le-ltb 65536 (length input) short, e, n)

@@ -14,7 +14,9 @@ use Rattle.laws.proofs.Tests.{by-test}
 use Rattle.settings.specs.Grounds.{Ground, outcome}
 use Rattle.settings.specs.Settings.{isIn, rankIn, RefusedOnlyBy}
 use Rattle.settings.proofs.FirstGround.{NumberIn}
-use Rattle.fasta.specs.File.{fileNumbers}
+use Rattle.files.specs.File.{File, fileNumbers}
+use Rattle.files.specs.declared.Kind.{Kind}
+use Rattle.files.specs.declared.Kind.the-variants.{Fasta, Fastq}
 use Rattle.tally.specs.Table.{tableFull, addGround}
 use Rattle.tally.proofs.RefusalNumbers.{addNumbers, add-numbers}
 use Rattle.texts.specs.Decimals.{decimalFrom, decimal}
@@ -23,7 +25,7 @@ use Rattle.survey.specs.declared.Head.the-variants.{Survey, NoSurvey}
 use Rattle.survey.specs.Line.{surveyLine}
 use Rattle.survey.specs.Reading.{readLine}
 use Rattle.listing.specs.Listing.{listingOf}
-use Rattle.program.specs.Program.{refusedLine, clearedTable, answerText, surveyText, lineText, programText}
+use Rattle.program.specs.Program.{refusedLine, clearedTable, answerText, surveyText, programFile, lineText, programText}
 
 -- (refused 3 .. has an r in its place 1 and a 3 in its place 9.
 three : List ℕ → Bool
@@ -42,16 +44,18 @@ no-three (n ∷ ns) each g h =
       | no ne ↦ no-three ns (each .1) g (rw (ne-eqb n (g .0) ne) at h)
     ]
 
-of-an-add : NoThree addNumbers
+of-an-add : (kind : Kind) → NoThree (addNumbers kind)
 unfolding three refusedLine decimal decimalFrom
-of-an-add = (λ _. refl, (λ _. refl, (λ _. refl, (λ _. refl, (λ _. refl, (λ _. refl, (λ _. refl, (λ _. refl, tt))))))))
+of-an-add Fasta = (λ _. refl, (λ _. refl, (λ _. refl, (λ _. refl, (λ _. refl, (λ _. refl, (λ _. refl, (λ _. refl, tt))))))))
+of-an-add Fastq =
+    (λ _. refl, (λ _. refl, (λ _. refl, (λ _. refl, (λ _. refl, (λ _. refl, (λ _. refl, (λ _. refl, (λ _. refl, (λ _. refl, tt))))))))))
 
-module _ (letters : List ℕ) (k m : ℕ) (file : List ℕ) where
-  answered : (g : Option Ground) → RefusedOnlyBy addNumbers g
+module _ (letters : List ℕ) (k m : ℕ) (file : File) where
+  answered : (g : Option Ground) → RefusedOnlyBy (addNumbers (file .kind)) g
       → three (answerText letters k m file (outcome g (fileNumbers (rankIn letters) k file))) ≡ false
   unfolding three listingOf surveyLine
   answered none h = refl
-  answered (some g) h = no-three addNumbers of-an-add g (h g refl)
+  answered (some g) h = no-three (addNumbers (file .kind)) (of-an-add (file .kind)) g (h g refl)
 
   of-a-survey : three (surveyText letters k m file) ≡ false
   unfolding surveyText
@@ -61,7 +65,7 @@ module _ (letters : List ℕ) (k m : ℕ) (file : List ℕ) where
 
 of-a-line : (input : List ℕ) (h : Head) → three (lineText input h) ≡ false
 unfolding three lineText refusedLine decimal decimalFrom
-of-a-line input (Survey from len k m next) = of-a-survey (take len (drop from input)) k m (drop next input)
+of-a-line input (Survey from len k m next) = of-a-survey (take len (drop from input)) k m (programFile (drop next input))
 of-a-line input NoSurvey = refl
 
 of-the-program : (input : List ℕ) → three (programText input) ≡ false

@@ -1,4 +1,4 @@
--- Document 01, "Listing and counter program": what the program prints for every input.
+-- Document 01, "Listing and counter program", and document 02, K1: what the program prints for every input.
 use mathlib.Core.Path.{_≡_}
 use Prim.Native.Nat.{ℕ, _≤_}
 use mathlib.Core.Bool.{cond}
@@ -8,7 +8,11 @@ use lib.Dec.{ltb}
 use lib.Seq.{sets}
 use Rattle.laws.specs.Text.{bytes}
 use Rattle.settings.specs.Grounds.{Ground, Outcome, given, refused}
+use Rattle.lines.specs.Lines.{firstByteIs}
 use Rattle.fasta.specs.declared.Numbers.{Numbers}
+use Rattle.files.specs.declared.Kind.{Kind}
+use Rattle.files.specs.declared.Kind.the-variants.{Fasta, Fastq}
+use Rattle.files.specs.File.{File, fileOf}
 use Rattle.tally.specs.Table.{places, bumps, tableFull, addAnswer}
 use Rattle.texts.specs.Decimals.{decimal}
 use Rattle.survey.specs.declared.Head.{Head}
@@ -31,17 +35,24 @@ unfoldable pub clearedTable : List ℕ
 clearedTable = replicate 16384 0
 
 -- It "prints the whole listing, then the file line", of the table that the add of the file leaves; or the refusal.
-abbrev pub answerText : (letters : List ℕ) (k mirror : ℕ) (file : List ℕ) → Outcome Numbers → List ℕ
+abbrev pub answerText : (letters : List ℕ) (k mirror : ℕ) (file : File) → Outcome Numbers → List ℕ
 answerText letters k m file (given n) = listing letters k m (bumps clearedTable (places letters k m file)) ++ fileLine n
 answerText letters k m file (refused g) = refusedLine g
 
 -- What is printed for settings and a file: the add to a cleared table of 16,384 places answers it.
-unfoldable pub surveyText : (letters : List ℕ) (k mirror : ℕ) (file : List ℕ) → List ℕ
+unfoldable pub surveyText : (letters : List ℕ) (k mirror : ℕ) (file : File) → List ℕ
 surveyText letters k m file = answerText letters k m file (addAnswer letters k m 16384 (tableFull letters k m clearedTable file) file)
+
+-- "the program takes a file whose first byte is @ for FASTQ" (64 is @), and any other, an empty one too, for FASTA.
+unfoldable pub kindByFirstByte : (bytes : List ℕ) → Kind
+kindByFirstByte bytes = cond (firstByteIs 64 bytes) Fastq Fasta
+
+abbrev pub programFile : (bytes : List ℕ) → File
+programFile bytes = fileOf (kindByFirstByte bytes) bytes
 
 -- "a survey line, then a sequence file"; 13: "standard input's first line is no survey line".
 unfoldable pub lineText : (input : List ℕ) → Head → List ℕ
-lineText input (Survey from len k m next) = surveyText (take len (drop from input)) k m (drop next input)
+lineText input (Survey from len k m next) = surveyText (take len (drop from input)) k m (programFile (drop next input))
 lineText input NoSurvey = refusedLine (13, 0)
 
 -- 14, "standard input above 65,536 bytes", comes before 13.

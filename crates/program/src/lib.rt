@@ -1,6 +1,7 @@
 // The counter program as one function, from the bytes of its input to those of its output.
 use fasta::Answer;
 use fasta::Numbers;
+use files::Kind;
 use settings::Checked;
 use settings::Refusal;
 use settings::Settings;
@@ -11,8 +12,9 @@ ghost use Prim.Native.Nat.{_-_, _≤_};
 ghost use lib.ListN.{length, take, drop};
 ghost use Rattle.settings.specs.Grounds.{groundOf};
 ghost use Rattle.settings.specs.Settings.{settingsGround, settingsOf};
+ghost use Rattle.files.specs.File.{fileOf};
 ghost use Rattle.texts.specs.Needs.{Puts};
-ghost use Rattle.program.specs.Program.{fileLine, refusedLine, clearedTable, surveyText, programText, Prints};
+ghost use Rattle.program.specs.Program.{fileLine, refusedLine, clearedTable, surveyText, kindByFirstByte, programFile, programText, Prints};
 
 // The line of a refusal, which is then the whole output.
 fn put_refused(out: &mut [u8], f: Refusal) -> usize
@@ -48,16 +50,17 @@ fn put_counted(
     letters: &[u8],
     k: usize,
     mirror: u64,
+    kind: Kind,
     file: &[u8],
     st: Settings,
 ) -> usize
     requires { ⌜ settingsGround (now letters) k mirror ≡ none ⌝ }
     requires { ⌜ st ≡ settingsOf (now letters) k mirror ⌝ }
     ensures { λ r.
-        ⌜ Prints (surveyText (now (letters .entry)) k mirror (now (file .entry))) (now (out .entry)) r (now (out .exit)) ⌝ }
+        ⌜ Prints (surveyText (now (letters .entry)) k mirror (fileOf kind (now (file .entry)))) (now (out .entry)) r (now (out .exit)) ⌝ }
 {
     let mut table = cleared_table();
-    match table::add(letters, k, mirror, &mut table, file) {
+    match table::add(letters, k, mirror, &mut table, kind, file) {
         Answer::Refused(f) => put_refused(out, f),
         Answer::Taken(n) => {
             let classes = st.classes as usize;
@@ -68,14 +71,40 @@ fn put_counted(
 }
 
 // The output for settings and a file.
-fn put_output(out: &mut [u8], letters: &[u8], k: usize, mirror: u64, file: &[u8]) -> usize
+fn put_output(
+    out: &mut [u8],
+    letters: &[u8],
+    k: usize,
+    mirror: u64,
+    kind: Kind,
+    file: &[u8],
+) -> usize
     ensures { λ r.
-        ⌜ Prints (surveyText (now (letters .entry)) k mirror (now (file .entry))) (now (out .entry)) r (now (out .exit)) ⌝ }
+        ⌜ Prints (surveyText (now (letters .entry)) k mirror (fileOf kind (now (file .entry)))) (now (out .entry)) r (now (out .exit)) ⌝ }
 {
     match settings::check(letters, k, mirror) {
         Checked::Bad(f) => put_refused(out, f),
-        Checked::Good(st) => put_counted(out, letters, k, mirror, file, st),
+        Checked::Good(st) => put_counted(out, letters, k, mirror, kind, file, st),
     }
+}
+
+// The kind of a file by its first byte.
+fn kind_by_first_byte(file: &[u8]) -> Kind
+    ensures { λ r. ⌜ r ≡ kindByFirstByte (now (file .entry)) ⌝ }
+{
+    if lines::byte_is(file, 0, b'@') {
+        Kind::Fastq
+    } else {
+        Kind::Fasta
+    }
+}
+
+// The output for settings and a file of the kind that its first byte tells.
+fn put_file(out: &mut [u8], letters: &[u8], k: usize, mirror: u64, file: &[u8]) -> usize
+    ensures { λ r.
+        ⌜ Prints (surveyText (now (letters .entry)) k mirror (programFile (now (file .entry)))) (now (out .entry)) r (now (out .exit)) ⌝ }
+{
+    put_output(out, letters, k, mirror, kind_by_first_byte(file), file)
 }
 
 // The output for settings and a file that are parts of the input.
@@ -90,10 +119,10 @@ fn put_parts(
 ) -> usize
     requires { ⌜ (from ≤ to) × (to ≤ length (now input)) × (next ≤ length (now input)) ⌝ }
     ensures { λ r.
-        ⌜ Prints (surveyText (take (to - from) (drop from (now (input .entry)))) k mirror (drop next (now (input .entry))))
+        ⌜ Prints (surveyText (take (to - from) (drop from (now (input .entry)))) k mirror (programFile (drop next (now (input .entry)))))
         (now (out .entry)) r (now (out .exit)) ⌝ }
 {
-    put_output(out, &input[from..to], k, mirror, &input[next..])
+    put_file(out, &input[from..to], k, mirror, &input[next..])
 }
 
 // The program: writes its output for an input to the start of out, as far as out goes, and answers the output's length.

@@ -1,12 +1,12 @@
 -- What every ground of a call has, the first that applies has: a P of at most n, on which calls rest that put P into one number with their
 -- answer; or a number that is one of a list.
 use mathlib.Core.Path.{_≡_, refl, subst}
-use mathlib.Core.Bool.{Bool, true, false, not, cond}
+use mathlib.Core.Bool.{Bool, true, false, not, cond, or-true}
 use mathlib.Core.Option.{Option, none, some}
-use mathlib.Core.List.{List, [], _∷_}
+use mathlib.Core.List.{List, [], _∷_, _++_}
 use Prim.Native.Nat.{ℕ, _≤_}
 use native.Mathlib.Omega.{arith}
-use lib.Dec.{ltb}
+use lib.Dec.{eqb, ltb}
 use lib.ListN.{length}
 use Rattle.settings.specs.Grounds.{Ground, ground, groundAt, tooShort, _orElse_}
 use Rattle.settings.specs.Settings.{isIn, goodLetters, badSize, settingsGround, RefusedOnlyBy}
@@ -57,6 +57,12 @@ module _ (Q : Ground → Type 0) where
 
 abbrev pub NumberIn : List ℕ → Ground → Type 0
 NumberIn ns f = isIn (f .0) ns ≡ true
+
+-- A number of a list is one of any longer list that ends in it.
+pub in-behind : (i : ℕ) (ms ns : List ℕ) → isIn i ns ≡ true → isIn i (ms ++ ns) ≡ true
+unfolding isIn
+in-behind i [] ns e = e
+in-behind i (m ∷ ms) ns e = rw (in-behind i ms ns e) (or-true (eqb m i))
 
 -- Settings are refused 1, 2 or 4: "Refusal 3 then never occurs" (document 02, K10).
 pub settings-numbers : (letters : List ℕ) (k m : ℕ) → RefusedOnlyBy (1 ∷ 2 ∷ 4 ∷ []) (settingsGround letters k m)

@@ -38,6 +38,11 @@ pub later-none : (g later : Option Ground) → g orElse later ≡ none → later
 later-none none later e = e
 later-none (some f) later e = absurd (let z : _≡_ {A = ℕ} 0 1 = cc in omega arith)
 
+-- No ground behind another changes nothing.
+pub or-none : (g : Option Ground) → g ≡ g orElse none
+or-none none = refl
+or-none (some f) = refl
+
 -- A ground that does not apply has a test that fails, and no place where it is met.
 pub test-fails : (n : ℕ) (t : Bool) → ground n t ≡ none → t ≡ false
 test-fails n true e = absurd (let z : _≡_ {A = ℕ} 0 1 = cc in omega arith)

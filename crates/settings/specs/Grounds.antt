@@ -1,4 +1,4 @@
--- Document 01, "Grounds for refusing": how a call reports a refusal, and the order in which grounds are tried.
+-- Document 01, "Grounds for refusing", and document 02, K1 (15 to 17): how a call reports a refusal, and the order in which grounds are tried.
 use Prim.Native.Nat.{ℕ}
 use mathlib.Core.Path.{_≡_}
 use mathlib.Core.Bool.{Bool, true, false, cond}
@@ -9,13 +9,14 @@ use lib.Dec.{ltb}
 use Rattle.settings.specs.declared.Filling.{Filling}
 use Rattle.settings.specs.declared.Filling.the-variants.{Filled, Unfilled}
 use Rattle.settings.specs.declared.Refusal.{Refusal}
-use Rattle.settings.specs.declared.Refusal.the-variants.{BadLetters, BadMirror, BadK, WrongLength, TooLarge, ShortBuffer, NoSuchCode, ForeignByte, StrayByte, EarlyLetter, CountsFull, NoSurveyLine, LongInput}
+use Rattle.settings.specs.declared.Refusal.the-variants.{BadLetters, BadMirror, BadK, WrongLength, TooLarge, ShortBuffer, NoSuchCode, ForeignByte, StrayByte, EarlyLetter, CountsFull, NoSurveyLine, LongInput, BadRecord, QualityLength, QualityByte}
 
 -- "Each .. gives its number and P": the number, then P.
 abbrev pub Ground : Type 0
 Ground = ℕ × ℕ
 
--- The number and P of each refusal; P "is 0 unless stated". The number 3 is reserved: "Refusal 3 then never occurs" (document 02, K10).
+-- The number and P of each refusal; P "is 0 unless stated". The number 3 is reserved: "Refusal 3 then never occurs" (document 02, K10). Of 15 to 17 "P is
+-- the offset of the line (for a missing line the file's length, for 10 and 17 that of the byte)" (document 02, K1).
 abbrev pub groundOf : Refusal → Ground
 groundOf BadLetters = (1, 0)
 groundOf BadMirror = (2, 0)
@@ -30,6 +31,9 @@ groundOf (EarlyLetter offset) = (11, offset)
 groundOf CountsFull = (12, 0)
 groundOf NoSurveyLine = (13, 0)
 groundOf LongInput = (14, 0)
+groundOf (BadRecord offset) = (15, offset)
+groundOf (QualityLength offset) = (16, offset)
+groundOf (QualityByte offset) = (17, offset)
 
 -- What a call answers: its value, or the ground for refusing it.
 pub data Outcome (A : Type 0) : Type 0 where
@@ -46,7 +50,7 @@ abbrev pub groundAt : ℕ → Option ℕ → Option Ground
 groundAt n none = none
 groundAt n (some p) = some (n, p)
 
--- "Checks go in number order": the first ground, and only if it does not apply the later ones.
+-- "Checks go in number order", save that 15 to 17 "stand where 10 and 11 stood": the first ground, and only if it does not apply the later ones.
 infixr 20 _orElse_
 abbrev pub _orElse_ : Option Ground → Option Ground → Option Ground
 none orElse later = later

@@ -13,7 +13,7 @@ pub enum Mirror {
     Complement,
 }
 
-// The grounds for refusing, in the order of their numbers 1 to 14, of which 3 is reserved. One that has a P other than 0 holds it.
+// The grounds for refusing, in the order of their numbers 1 to 17, of which 3 is reserved. One that has a P other than 0 holds it.
 pub enum Refusal {
     BadLetters,
     BadMirror,
@@ -28,6 +28,9 @@ pub enum Refusal {
     CountsFull,
     NoSurveyLine,
     LongInput,
+    BadRecord(usize),
+    QualityLength(usize),
+    QualityByte(usize),
 }
 
 // The answer of a call that overwrites a lent buffer from its start: how many places it set, or the refusal, which leaves the buffer unchanged.
@@ -54,6 +57,9 @@ pub fn number_of(f: Refusal) -> u64
         Refusal::CountsFull => 12,
         Refusal::NoSurveyLine => 13,
         Refusal::LongInput => 14,
+        Refusal::BadRecord(_) => 15,
+        Refusal::QualityLength(_) => 16,
+        Refusal::QualityByte(_) => 17,
     }
 }
 
@@ -75,6 +81,9 @@ pub fn place_of(f: Refusal) -> u64
         Refusal::CountsFull => 0,
         Refusal::NoSurveyLine => 0,
         Refusal::LongInput => 0,
+        Refusal::BadRecord(at) => at as u64,
+        Refusal::QualityLength(at) => at as u64,
+        Refusal::QualityByte(at) => at as u64,
     }
 }
 

@@ -17,8 +17,8 @@ use Rattle.settings.proofs.Outcomes.{refused-on, refused-leaves, Passed, passed
 use Rattle.settings.proofs.SettingsGrounds.{Known, known, good-settings}
 use Rattle.encoding.specs.Codes.{code}
 use Rattle.fasta.specs.declared.Numbers.{Numbers}
-use Rattle.fasta.specs.File.{fileFault, fileNumbers, fileWindows}
-use Rattle.fasta.specs.Scan.{tooLong}
+use Rattle.files.specs.File.{File, startOf, fileFault, fileNumbers, fileWindows}
+use Rattle.files.specs.Scan.{tooLong}
 use Rattle.settings.specs.RankTables.{rankByTable, RankTable}
 use Rattle.fasta.proofs.Ranks.{windows-by-table, numbers-by-table}
 use Rattle.fasta.proofs.Runs.{windows-fit}
@@ -75,24 +75,24 @@ module _ (n : Numbers) (ps counts : List ℕ) where
 -- ---- before the file of an add is read
 
 -- Where ground 6 does not apply, the file is short enough and the classes are few enough.
-module _ (letters : List ℕ) (k m : ℕ) (file : List ℕ) (e : ground 6 (tooLong file || tooMany (classCount letters k m)) ≡ none) where
-  neither : (tooLong file ≡ false) × (tooMany (classCount letters k m) ≡ false)
+module _ (letters : List ℕ) (k m : ℕ) (bytes : List ℕ) (e : ground 6 (tooLong bytes || tooMany (classCount letters k m)) ≡ none) where
+  neither : (tooLong bytes ≡ false) × (tooMany (classCount letters k m) ≡ false)
   neither =
-      or-eq-false-eq-eq-false-and-eq-false (tooLong file) (tooMany (classCount letters k m)) .0
-      (test-fails 6 (tooLong file || tooMany (classCount letters k m)) e)
+      or-eq-false-eq-eq-false-and-eq-false (tooLong bytes) (tooMany (classCount letters k m)) .0
+      (test-fails 6 (tooLong bytes || tooMany (classCount letters k m)) e)
 
-  file-short : length file ≤ 16777216
+  file-short : length bytes ≤ 16777216
   unfolding tooLong
-  file-short = ltb-false 16777216 (length file) (neither .0)
+  file-short = ltb-false 16777216 (length bytes) (neither .0)
 
   pub classes-few : classCount letters k m ≤ 16777216
   unfolding tooMany
   classes-few = ltb-false 16777216 (classCount letters k m) (neither .1)
 
-module _ (letters : List ℕ) (k m room : ℕ) (file : List ℕ) where
+module _ (letters : List ℕ) (k m room : ℕ) (bytes : List ℕ) where
   -- What `ready` answers at each of its tests.
   pub ready-bad : (f : Ground) → refused f ≡ outcome (settingsGround letters k m) (settingsOf letters k m)
-      → refused f ≡ outcome (readyGround letters k m room file) (settingsOf letters k m)
+      → refused f ≡ outcome (readyGround letters k m room bytes) (settingsOf letters k m)
   unfolding readyGround
   ready-bad f e = refused-on f (settingsOf letters k m) _ (settingsGround letters k m) _ e
 
@@ -100,69 +100,69 @@ module _ (letters : List ℕ) (k m room : ℕ) (file : List ℕ) where
     good : Known letters k m st
     good = known letters k m st e
 
-    pub ready-long : 16777216 < length file → refused (6, 0) ≡ outcome (readyGround letters k m room file) (settingsOf letters k m)
+    pub ready-long : 16777216 < length bytes → refused (6, 0) ≡ outcome (readyGround letters k m room bytes) (settingsOf letters k m)
     unfolding readyGround tooLong
-    ready-long h = rw (good .none-applies, lt-ltb 16777216 (length file) h)
+    ready-long h = rw (good .none-applies, lt-ltb 16777216 (length bytes) h)
 
-    module _ (h : length file ≤ 16777216) where
-      pub ready-many : 16777216 < st .classes → refused (6, 0) ≡ outcome (readyGround letters k m room file) (settingsOf letters k m)
+    module _ (h : length bytes ≤ 16777216) where
+      pub ready-many : 16777216 < st .classes → refused (6, 0) ≡ outcome (readyGround letters k m room bytes) (settingsOf letters k m)
       unfolding readyGround tooLong tooMany
       ready-many g =
           let n : 16777216 < classCount letters k m = omega (arith, good .classes-are) in
-          rw (good .none-applies, le-ltb 16777216 (length file) h, lt-ltb 16777216 (classCount letters k m) n)
+          rw (good .none-applies, le-ltb 16777216 (length bytes) h, lt-ltb 16777216 (classCount letters k m) n)
 
       module _ (g : st .classes ≤ 16777216) where
         few : classCount letters k m ≤ 16777216
         few = omega (arith, good .classes-are)
 
-        pub ready-short : room < st .classes → refused (7, st .classes) ≡ outcome (readyGround letters k m room file) (settingsOf letters k m)
+        pub ready-short : room < st .classes → refused (7, st .classes) ≡ outcome (readyGround letters k m room bytes) (settingsOf letters k m)
         unfolding readyGround tooLong tooMany
         ready-short r =
             let n : room < classCount letters k m = omega (arith, good .classes-are) in
-            rw (good .none-applies, le-ltb 16777216 (length file) h, le-ltb 16777216 _ few, lt-ltb room _ n, good .classes-are)
+            rw (good .none-applies, le-ltb 16777216 (length bytes) h, le-ltb 16777216 _ few, lt-ltb room _ n, good .classes-are)
 
-        pub ready-given : st .classes ≤ room → given st ≡ outcome (readyGround letters k m room file) (settingsOf letters k m)
+        pub ready-given : st .classes ≤ room → given st ≡ outcome (readyGround letters k m room bytes) (settingsOf letters k m)
         unfolding readyGround tooLong tooMany
         ready-given r =
             let n : classCount letters k m ≤ room = omega (arith, good .classes-are) in
-            rw (good .none-applies, le-ltb 16777216 (length file) h, le-ltb 16777216 _ few, le-ltb room _ n)
+            rw (good .none-applies, le-ltb 16777216 (length bytes) h, le-ltb 16777216 _ few, le-ltb room _ n)
             (ap given (passed (settingsOf letters k m) (settingsGround letters k m) e .value))
 
   -- Settings that `ready` gives are under none of these grounds.
-  pub ready-passed : (r : Checked) → ofChecked r ≡ outcome (readyGround letters k m room file) (settingsOf letters k m) → (st : Settings) → r ≡ Good st
-      → Passed (readyGround letters k m room file) st (settingsOf letters k m)
-  ready-passed r e st g = passed (settingsOf letters k m) (readyGround letters k m room file) (sym (ap ofChecked g) ∙ e)
+  pub ready-passed : (r : Checked) → ofChecked r ≡ outcome (readyGround letters k m room bytes) (settingsOf letters k m) → (st : Settings) → r ≡ Good st
+      → Passed (readyGround letters k m room bytes) st (settingsOf letters k m)
+  ready-passed r e st g = passed (settingsOf letters k m) (readyGround letters k m room bytes) (sym (ap ofChecked g) ∙ e)
 
   -- What an add knows where none of them applies.
-  module _ (ready : readyGround letters k m room file ≡ none) where
+  module _ (ready : readyGround letters k m room bytes ≡ none) where
     pub ready-settings : settingsGround letters k m ≡ none
     unfolding readyGround
     ready-settings = first-none (settingsGround letters k m) _ ready
 
-    sizes : ground 6 (tooLong file || tooMany (classCount letters k m)) orElse groundAt 7 (tooShort room (classCount letters k m)) ≡ none
+    sizes : ground 6 (tooLong bytes || tooMany (classCount letters k m)) orElse groundAt 7 (tooShort room (classCount letters k m)) ≡ none
     unfolding readyGround
     sizes = later-none (settingsGround letters k m) _ ready
 
-    pub ready-file : length file ≤ 16777216
-    ready-file = file-short letters k m file (first-none _ (groundAt 7 (tooShort room (classCount letters k m))) sizes)
+    pub ready-file : length bytes ≤ 16777216
+    ready-file = file-short letters k m bytes (first-none _ (groundAt 7 (tooShort room (classCount letters k m))) sizes)
 
     pub ready-room : classCount letters k m ≤ room
     ready-room =
-        let g7 = later-none (ground 6 (tooLong file || tooMany (classCount letters k m))) _ sizes in
+        let g7 = later-none (ground 6 (tooLong bytes || tooMany (classCount letters k m))) _ sizes in
         room-enough room (classCount letters k m) (nowhere-met 7 _ g7)
 
-module _ (letters : List ℕ) (k m : ℕ) (t file : List ℕ) where
+module _ (letters : List ℕ) (k m : ℕ) (t : List ℕ) (file : File) where
   -- Refused before the file is read.
-  pub not-ready : (f : Ground) → refused f ≡ outcome (readyGround letters k m (length t) file) (settingsOf letters k m)
+  pub not-ready : (f : Ground) → refused f ≡ outcome (readyGround letters k m (length t) (file .bytes)) (settingsOf letters k m)
       → Added letters k m t file (refused f) t
   unfolding addGround
   not-ready f e =
       record {
-        answers = refused-on f (settingsOf letters k m) (fileNumbers (rankIn letters) k file) (readyGround letters k m (length t) file) _ e;
-        leaves = refused-leaves f (settingsOf letters k m) (readyGround letters k m (length t) file) _ (bumps t (places letters k m file)) t e;
+        answers = refused-on f (settingsOf letters k m) (fileNumbers (rankIn letters) k file) (readyGround letters k m (length t) (file .bytes)) _ e;
+        leaves = refused-leaves f (settingsOf letters k m) (readyGround letters k m (length t) (file .bytes)) _ (bumps t (places letters k m file)) t e;
       }
 
-  module _ (ready : readyGround letters k m (length t) file ≡ none) where
+  module _ (ready : readyGround letters k m (length t) (file .bytes) ≡ none) where
     -- What is left of the grounds: a fault of the file, and then ground 12.
     grounds-left : tableGround letters k m t file ≡ fileFault file orElse ground 12 (tableFull letters k m t file)
     unfolding addGround
@@ -184,31 +184,31 @@ module _ (letters : List ℕ) (k m : ℕ) (t file : List ℕ) where
 
 -- ---- a file that was scanned without fault
 
-pub clean : (letters : List ℕ) (k : ℕ) (file ranks : List ℕ) → length file ≤ 16777216 → RankTable letters ranks → (n : Numbers)
+pub clean : (letters : List ℕ) (k : ℕ) (file : File) (ranks : List ℕ) → length (file .bytes) ≤ 16777216 → RankTable letters ranks → (n : Numbers)
     → given n ≡ outcome (fileFault file) (fileNumbers (rankByTable ranks) k file)
     → CleanFile letters k file n
 clean letters k file ranks short T n e =
     let p = passed (fileNumbers (rankByTable ranks) k file) (fileFault file) e in
-    record { no-fault = p .none-applies; numbers = p .value ∙ numbers-by-table letters ranks T k file; short = short }
+    record { no-fault = p .none-applies; numbers = p .value ∙ numbers-by-table letters ranks T k (startOf (file .kind)) (file .bytes); short = short }
 
-module _ (letters : List ℕ) (k : ℕ) (file : List ℕ) (n : Numbers) (F : CleanFile letters k file n) where
+module _ (letters : List ℕ) (k : ℕ) (file : File) (n : Numbers) (F : CleanFile letters k file n) where
   n-windows : n .windows ≡ length (windowsOfFile letters k file)
   unfolding windowsOfFile
   n-windows = ap (λ (x : Numbers). x .windows) (F .numbers)
 
   pub n-windows-by-table : (ranks : List ℕ) → RankTable letters ranks → n .windows ≡ length (fileWindows (rankByTable ranks) k file)
   unfolding windowsOfFile
-  n-windows-by-table ranks T = n-windows ∙ sym (ap length (windows-by-table letters ranks T k file))
+  n-windows-by-table ranks T = n-windows ∙ sym (ap length (windows-by-table letters ranks T k (startOf (file .kind)) (file .bytes)))
 
   pub few-windows : (m : ℕ) → settingsGround letters k m ≡ none → _≤_ (n .windows) 16777216
   unfolding windowsOfFile
   few-windows m good =
       let some-k = good-settings letters k m good .some-k in
-      omega (arith, n-windows, windows-fit (rankIn letters) k file some-k, F .short)
+      omega (arith, n-windows, windows-fit (rankIn letters) k (startOf (file .kind)) (file .bytes) some-k, F .short)
 
 -- ---- from the table to its counts and back
 
-module _ (letters : List ℕ) (k m : ℕ) (t file : List ℕ) (good : settingsGround letters k m ≡ none) (n : Numbers)
+module _ (letters : List ℕ) (k m : ℕ) (t : List ℕ) (file : File) (good : settingsGround letters k m ≡ none) (n : Numbers)
     (F : CleanFile letters k file n) where
   leaves-by : (g : Option Ground) (counts′ : List ℕ)
       → counts′ ≡ unlessRefused g (bumps (take (classCount letters k m) t) (places letters k m file)) (take (classCount letters k m) t)
@@ -236,11 +236,12 @@ module _ (letters : List ℕ) (k m : ℕ) (t file : List ℕ) (good : settingsGr
       → AddedUnlessFull letters k m t file answer (counts′ ++ drop cs t)
   whole-table cs ps answer counts′ c e C = rw c (by-classes ps answer counts′ e (rw c at C))
 
-pub places-by-table : (letters : List ℕ) (k m : ℕ) (table file : List ℕ) (st : Settings) → st ≡ settingsOf letters k m → RankTable letters table
+pub places-by-table : (letters : List ℕ) (k m : ℕ) (table : List ℕ) (file : File) (st : Settings) → st ≡ settingsOf letters k m → RankTable letters table
     → map (code (st .s) (st .mirror) k) (fileWindows (rankByTable table) k file) ≡ places letters k m file
 unfolding windowsOfFile
 places-by-table letters k m table file st is T =
-    ap (λ (x : Settings). map (code (x .s) (x .mirror) k) (fileWindows (rankByTable table) k file)) is ∙ rw (windows-by-table letters table T k file)
+    ap (λ (x : Settings). map (code (x .s) (x .mirror) k) (fileWindows (rankByTable table) k file)) is
+    ∙ rw (windows-by-table letters table T k (startOf (file .kind)) (file .bytes))
 
 -- The kernel, by the number of letters and the mirror's number.
 pub takes-letters : (letters : List ℕ) (k m : ℕ) (st : Settings) (kernel : Kernel) → st ≡ settingsOf letters k m → Takes kernel (st .s) (st .mirror)

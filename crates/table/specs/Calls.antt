@@ -7,6 +7,7 @@ use lib.ListN.{length}
 use Rattle.settings.specs.Grounds.{Outcome, ofFilling}
 use Rattle.fasta.specs.declared.Numbers.{Numbers}
 use Rattle.fasta.specs.Scan.{ofAnswer}
+use Rattle.files.specs.File.{File}
 use Rattle.table.specs.declared.Survey.{Survey}
 use Rattle.tally.specs.Table.{clearGround, Clears}
 use Rattle.tally.specs.Demand.{Adds, DemandThree}
@@ -16,7 +17,7 @@ abbrev pub twoAnswers : Survey → List (Outcome Numbers)
 twoAnswers r = ofAnswer (r .first) ∷ ofAnswer (r .second) ∷ []
 
 -- A clearing of t₀ and two adds after it, each on the table that the call before left; demand 3 holds of them.
-pub record Surveyed (letters : List ℕ) (k mirror : ℕ) (t₀ one other : List ℕ) (r : Survey) (t : List ℕ) : Type 0 where
+pub record Surveyed (letters : List ℕ) (k mirror : ℕ) (t₀ : List ℕ) (one other : File) (r : Survey) (t : List ℕ) : Type 0 where
   pub cleared-table : List ℕ
   pub clearing : Clears letters k mirror t₀ (ofFilling (r .cleared)) cleared-table
   pub adds : Adds letters k mirror cleared-table (one ∷ other ∷ []) (twoAnswers r) t

@@ -7,7 +7,7 @@ use lib.ListN.{length, replicate}
 use Rattle.settings.specs.Grounds.{Outcome, ground, groundAt, tooShort, outcome, unlessRefused, Overwrites, _orElse_}
 use Rattle.settings.specs.Settings.{rankIn}
 use Rattle.fasta.specs.declared.Numbers.{Numbers}
-use Rattle.fasta.specs.File.{fileFault, fileNumbers}
+use Rattle.files.specs.File.{File, fileFault, fileNumbers}
 use Rattle.tally.specs.Table.{bumps, places, full, tooMany, tableFull}
 
 -- The counts after a file whose windows have these places, unless some count is too high for n windows.
@@ -16,15 +16,15 @@ pub record CountedUnlessFull (n : Numbers) (places counts : List ℕ) (answer : 
   pub leaves : counts′ ≡ unlessRefused (ground 12 (full (n .windows) counts)) (bumps counts places) counts
 
 -- An add to which only ground 12 may still apply.
-pub record AddedUnlessFull (letters : List ℕ) (k mirror : ℕ) (t file : List ℕ) (answer : Outcome Numbers) (t′ : List ℕ) : Type 0 where
+pub record AddedUnlessFull (letters : List ℕ) (k mirror : ℕ) (t : List ℕ) (file : File) (answer : Outcome Numbers) (t′ : List ℕ) : Type 0 where
   pub answers : answer ≡ outcome (ground 12 (tableFull letters k mirror t file)) (fileNumbers (rankIn letters) k file)
   pub leaves : t′ ≡ unlessRefused (ground 12 (tableFull letters k mirror t file)) (bumps t (places letters k mirror file)) t
 
 -- The scan found no fault, and these numbers.
-pub record CleanFile (letters : List ℕ) (k : ℕ) (file : List ℕ) (n : Numbers) : Type 0 where
+pub record CleanFile (letters : List ℕ) (k : ℕ) (file : File) (n : Numbers) : Type 0 where
   pub no-fault : fileFault file ≡ none
   pub numbers : n ≡ fileNumbers (rankIn letters) k file
-  pub short : length file ≤ 16777216
+  pub short : length (file .bytes) ≤ 16777216
 
 -- A clearing of places for so many classes to which only the grounds 6 and 7 may still apply.
 abbrev pub ClearsPlaces : ℕ → (t : List ℕ) → Outcome ℕ → (t′ : List ℕ) → Type 0

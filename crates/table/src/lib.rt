@@ -4,6 +4,7 @@ use counting::batches;
 use counting::counts;
 use fasta::Answer;
 use fasta::Numbers;
+use files::Kind;
 use kernels::Coder;
 use kernels::Kernel;
 use settings::Checked;
@@ -17,7 +18,7 @@ ghost use Prim.Native.Nat.{_≤_};
 ghost use lib.ListN.{length};
 ghost use Rattle.settings.specs.Grounds.{outcome, ofFilling};
 ghost use Rattle.settings.specs.Settings.{classes, settingsGround, settingsOf, ofChecked};
-ghost use Rattle.fasta.specs.File.{fileWindows};
+ghost use Rattle.files.specs.File.{fileOf, fileWindows};
 ghost use Rattle.fasta.specs.Scan.{ofAnswer};
 ghost use Rattle.settings.specs.RankTables.{rankByTable, RankTable, RanksBelow};
 ghost use Rattle.kernels.specs.Needs.{Takes, ReadyCoder};
@@ -75,6 +76,7 @@ fn kernel_for(s: u64, m: Mirror) -> Kernel
 // The second pass over a file, in the counts alone: all its windows are counted, or none where some count is too high for them.
 fn count_unless_full(
     counts: &mut [u32],
+    kind: Kind,
     file: &[u8],
     ranks: &[u8; 256],
     c: Coder,
@@ -84,16 +86,16 @@ fn count_unless_full(
     requires { ⌜ ReadyCoder c (now powers) ⌝ }
     requires { ⌜ RanksBelow (c .s) (now ranks) ⌝ }
     requires { ⌜ length (now counts) ≡ classes (c .s) (c .mirror) (c .k) ⌝ }
-    requires { ⌜ n .windows ≡ length (fileWindows (rankByTable (now ranks)) (c .k) (now file)) ⌝ }
+    requires { ⌜ n .windows ≡ length (fileWindows (rankByTable (now ranks)) (c .k) (fileOf kind (now file))) ⌝ }
     requires { ⌜ _≤_ (n .windows) 16777216 ⌝ }
     ensures { λ r.
-        ⌜ CountedUnlessFull n (codesBy c (fileWindows (rankByTable (now (ranks .entry))) (c .k) (now (file .entry))))
+        ⌜ CountedUnlessFull n (codesBy c (fileWindows (rankByTable (now (ranks .entry))) (c .k) (fileOf kind (now (file .entry)))))
         (now (counts .entry)) (ofAnswer r) (now (counts .exit)) ⌝ }
 {
     if counts::too_full(counts, n.windows) {
         return Answer::Refused(Refusal::CountsFull);
     }
-    batches::count_file(counts, file, ranks, c, powers);
+    batches::count_file(counts, file, files::start_of(kind), ranks, c, powers);
     Answer::Taken(n)
 }
 
@@ -103,6 +105,7 @@ fn add_scanned(
     k: usize,
     mirror: u64,
     table: &mut [u32],
+    kind: Kind,
     file: &[u8],
     st: Settings,
     ranks: &[u8; 256],
@@ -111,16 +114,16 @@ fn add_scanned(
     requires { ⌜ settingsGround (now letters) k mirror ≡ none ⌝ }
     requires { ⌜ st ≡ settingsOf (now letters) k mirror ⌝ }
     requires { ⌜ RankTable (now letters) (now ranks) ⌝ }
-    requires { ⌜ CleanFile (now letters) k (now file) n ⌝ }
+    requires { ⌜ CleanFile (now letters) k (fileOf kind (now file)) n ⌝ }
     requires { ⌜ classCount (now letters) k mirror ≤ length (now table) ⌝ }
-    ensures { λ r. ⌜ AddedUnlessFull (now (letters .entry)) k mirror (now (table .entry)) (now (file .entry)) (ofAnswer r) (now (table .exit)) ⌝ }
+    ensures { λ r. ⌜ AddedUnlessFull (now (letters .entry)) k mirror (now (table .entry)) (fileOf kind (now (file .entry))) (ofAnswer r) (now (table .exit)) ⌝ }
 {
     let m = st.mirror;
     let kernel = kernel_for(st.s, m);
     let powers = kernels::power_table(st.s, k);
     let classes = st.classes as usize;
     let c = kernels::coder_of(st, kernel);
-    count_unless_full(&mut table[..classes], file, ranks, c, &powers, n)
+    count_unless_full(&mut table[..classes], kind, file, ranks, c, &powers, n)
 }
 
 // Whether a file may be read for an add: the settings, where no ground among 1, 2, 4, 6 and 7 applies.
@@ -152,46 +155,57 @@ fn add_checked(
     k: usize,
     mirror: u64,
     table: &mut [u32],
+    kind: Kind,
     file: &[u8],
     st: Settings,
 ) -> Answer
     requires { ⌜ readyGround (now letters) k mirror (length (now table)) (now file) ≡ none ⌝ }
     requires { ⌜ st ≡ settingsOf (now letters) k mirror ⌝ }
-    ensures { λ r. ⌜ Added (now (letters .entry)) k mirror (now (table .entry)) (now (file .entry)) (ofAnswer r) (now (table .exit)) ⌝ }
+    ensures { λ r. ⌜ Added (now (letters .entry)) k mirror (now (table .entry)) (fileOf kind (now (file .entry))) (ofAnswer r) (now (table .exit)) ⌝ }
 {
     let ranks = settings::rank_table(letters);
-    match fasta::scan_file(file, &ranks, k) {
+    match files::scan_file(kind, file, &ranks, k) {
         Answer::Refused(f) => Answer::Refused(f),
-        Answer::Taken(n) => add_scanned(letters, k, mirror, table, file, st, &ranks, n),
+        Answer::Taken(n) => add_scanned(letters, k, mirror, table, kind, file, st, &ranks, n),
     }
 }
 
-// Adds 1 for each window of a file, or refuses the file on the grounds 1, 2, 4, 6, 7, 10, 11 or 12 and changes no count.
-pub fn add(letters: &[u8], k: usize, mirror: u64, table: &mut [u32], file: &[u8]) -> Answer
-    ensures { λ r. ⌜ Added (now (letters .entry)) k mirror (now (table .entry)) (now (file .entry)) (ofAnswer r) (now (table .exit)) ⌝ }
+// Adds 1 for each window of a file, or refuses the file on the grounds 1, 2, 4, 6, 7, those of its kind or 12, and changes no count.
+pub fn add(
+    letters: &[u8],
+    k: usize,
+    mirror: u64,
+    table: &mut [u32],
+    kind: Kind,
+    file: &[u8],
+) -> Answer
+    ensures { λ r. ⌜ Added (now (letters .entry)) k mirror (now (table .entry)) (fileOf kind (now (file .entry))) (ofAnswer r) (now (table .exit)) ⌝ }
 {
     match ready(letters, k, mirror, table.len(), file) {
         Checked::Bad(f) => Answer::Refused(f),
-        Checked::Good(st) => add_checked(letters, k, mirror, table, file, st),
+        Checked::Good(st) => add_checked(letters, k, mirror, table, kind, file, st),
     }
 }
 
-// Clears the table and adds two files, one after the other. No program calls it: it is here so that demand 3, a claim about a list of calls,
+// Clears the table and adds two files, each of its kind, one after the other. No program calls it: it is here so that demand 3, a claim about a list of calls,
 // stands in the contract of one compiled function too, proved from the contracts of the calls in its body.
 pub fn survey_two(
     letters: &[u8],
     k: usize,
     mirror: u64,
     table: &mut [u32],
+    one_kind: Kind,
     one: &[u8],
+    other_kind: Kind,
     other: &[u8],
 ) -> Survey
     ensures { λ r.
-        ⌜ Surveyed (now (letters .entry)) k mirror (now (table .entry)) (now (one .entry)) (now (other .entry)) r (now (table .exit)) ⌝ }
+        ⌜ Surveyed (now (letters .entry)) k mirror (now (table .entry)) (fileOf «one_kind» (now (one .entry))) (fileOf «other_kind» (now (other .entry))) r
+        (now (table .exit)) ⌝ }
 {
     let cleared = clear(letters, k, mirror, table);
-    let first = add(letters, k, mirror, table, one);
-    let second = add(letters, k, mirror, table, other);
+    let first = add(letters, k, mirror, table, one_kind, one);
+    let second = add(letters, k, mirror, table, other_kind, other);
     Survey {
         cleared,
         first,

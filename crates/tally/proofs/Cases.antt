@@ -1,10 +1,12 @@
 -- The definitions computed on small files, with ACGT, k 2 and complement: the example of document 01, "Listing and counter program", in the book and in
--- the table; an empty file; a file that is refused and changes nothing.
+-- the table; an empty file; a file that is refused and changes nothing; the example's reads as FASTQ, alone and in a list that mixes both kinds of file.
 use mathlib.Core.Path.{_≡_, refl}
-use mathlib.Core.List.{List, [], _∷_}
-use Prim.Native.Nat.{ℕ}
+use mathlib.Core.Bool.{true}
+use mathlib.Core.Option.{some}
+use mathlib.Core.List.{[], _∷_}
 use lib.ListN.{replicate}
 use Rattle.laws.specs.Text.{bytes}
+use Rattle.lines.specs.Lines.{lines, textOf, firstByteIs}
 use Rattle.settings.specs.Grounds.{Outcome, given, refused}
 use Rattle.settings.specs.Settings.{isCapital, isIn, differentCapitals, goodLetters, capitalOf, placeFrom, isOdd, halfUp, classes, badSize, settingsGround}
 use Rattle.encoding.specs.Words.{Complement, mirrorRank, mirror, plain, canonical}
@@ -13,14 +15,17 @@ use Rattle.fasta.specs.declared.Numbers.{Numbers}
 use Rattle.laws.specs.Windows.{windows}
 use Rattle.fasta.specs.Items.{recordsIn, lettersIn, oneIfForeign, foreignIn, marks, onFirst, runs, edge, edgesOf, windowsOf}
 use Rattle.fasta.specs.File.{isLetter, lfNext, lineItem, item, next, itemsFrom, faultFrom}
-use Rattle.fasta.specs.Scan.{tooLong}
+use Rattle.fastq.specs.Fastq.{isThere, unlessAt, firstFailing, isQuality, recordFault, fastqFault}
+use Rattle.files.specs.declared.Kind.the-variants.{Fasta, Fastq}
+use Rattle.files.specs.File.{File, fileOf}
+use Rattle.files.specs.Scan.{tooLong}
 use Rattle.tally.specs.Table.{windowsOfFile, bump, bumps, places, full, tooMany, readyGround, addGround}
-use Rattle.tally.specs.Book.{sameWord, sameClass, hits, withFront, allWords, canonicalOnes, clearedBook, tallies, bookAnswer, bookAfter}
+use Rattle.tally.specs.Book.{sameWord, sameClass, hits, withFront, allWords, canonicalOnes, clearedBook, tallies, bookAnswer, bookAfter, bookAnswers}
 
-abbrev example : List ℕ
-example = bytes ">a\nACGTN\n>b\nAG\nCT\n"
+abbrev example : File
+example = fileOf Fasta (bytes ">a\nACGTN\n>b\nAG\nCT\n")
 
-abbrev answerTo : List ℕ → Outcome Numbers
+abbrev answerTo : File → Outcome Numbers
 answerTo file = bookAnswer (bytes "ACGT") 2 1 clearedBook file
 
 -- "(file (records 2) (letters 9) (foreign 1) (edge 2) (windows 6))"
@@ -44,19 +49,54 @@ unfolding addGround readyGround settingsGround goodLetters differentCapitals isC
 example-tallies = refl
 
 -- "An empty file is taken in with all five numbers 0."
-empty-file : answerTo [] ≡ given (record { records = 0; letters = 0; foreign = 0; edge = 0; windows = 0 })
+empty-file : answerTo (fileOf Fasta []) ≡ given (record { records = 0; letters = 0; foreign = 0; edge = 0; windows = 0 })
 unfolding addGround readyGround settingsGround goodLetters differentCapitals isCapital isIn isOdd halfUp classes badSize tooLong tooMany faultFrom itemsFrom
     recordsIn lettersIn foreignIn marks runs windowsOf windows edgesOf edge windowsOfFile full allWords withFront canonicalOnes sameWord canonical plain mirror
     mirrorRank
 empty-file = refl
 
 -- A stray byte behind two letters: refused with its offset, and no tally changes.
-stray-answer : answerTo (bytes ">a\nAC-GT") ≡ refused (10, 5)
+stray-answer : answerTo (fileOf Fasta (bytes ">a\nAC-GT")) ≡ refused (10, 5)
 unfolding addGround readyGround settingsGround goodLetters differentCapitals isCapital isIn isOdd halfUp classes badSize tooLong tooMany faultFrom
     itemsFrom item next lineItem isLetter lfNext
 stray-answer = refl
 
-stray-tallies : tallies 4 Complement 2 (bookAfter (bytes "ACGT") 2 1 clearedBook (bytes ">a\nAC-GT")) ≡ replicate 10 0
+stray-tallies : tallies 4 Complement 2 (bookAfter (bytes "ACGT") 2 1 clearedBook (fileOf Fasta (bytes ">a\nAC-GT"))) ≡ replicate 10 0
 unfolding addGround readyGround settingsGround goodLetters differentCapitals isCapital isIn isOdd halfUp classes badSize tooLong tooMany faultFrom
     itemsFrom item next lineItem isLetter lfNext allWords withFront canonicalOnes sameWord canonical plain mirror mirrorRank
 stray-tallies = refl
+
+-- ---- document 02, K1
+
+-- The example's reads as FASTQ. "Only the sequence counts": header, + and quality lines hold settings letters too.
+abbrev reads : File
+reads = fileOf Fastq (bytes "@AC\nACGTN\n+GT\nACGTA\n@b\nAGCT\n+\nCCCC")
+
+reads-counts : bumps (replicate 10 0) (places (bytes "ACGT") 2 1 reads) ≡ 0 ∷ 1 ∷ 1 ∷ 0 ∷ 2 ∷ 2 ∷ 0 ∷ 0 ∷ 0 ∷ 0 ∷ []
+unfolding bumps bump windowsOfFile windowsOf windows runs marks onFirst itemsFrom item next lineItem isLetter lfNext placeFrom capitalOf code codeOfCanonical
+    canonical plain mirror mirrorRank digits pairRank differingPair shift oddShift halfUp isOdd
+reads-counts = refl
+
+-- A list that mixes both kinds of file: the example, the same reads as FASTQ, these called FASTA, and a FASTQ file whose second record lacks a quality.
+mixed-answers : bookAnswers (bytes "ACGT") 2 1 clearedBook
+    (example ∷ reads ∷ fileOf Fasta (reads .bytes) ∷ fileOf Fastq (bytes "@a\nAC\n+\nII\n@b\nAC\n+\nI\n") ∷ [])
+    ≡ answerTo example ∷ answerTo example ∷ refused (10, 0) ∷ refused (16, 19) ∷ []
+unfolding addGround readyGround settingsGround goodLetters differentCapitals isCapital isIn isOdd halfUp classes badSize tooLong tooMany faultFrom
+    itemsFrom item next lineItem isLetter lfNext recordsIn lettersIn foreignIn oneIfForeign marks runs onFirst windowsOf windows edgesOf edge placeFrom
+    capitalOf windowsOfFile full allWords withFront canonicalOnes sameWord sameClass hits canonical plain mirror mirrorRank bookAnswers lines textOf firstByteIs
+    isThere unlessAt firstFailing isQuality recordFault fastqFault
+mixed-answers = refl
+
+-- An empty file is taken in as FASTQ too.
+empty-reads : answerTo (fileOf Fastq []) ≡ given (record { records = 0; letters = 0; foreign = 0; edge = 0; windows = 0 })
+unfolding addGround readyGround settingsGround goodLetters differentCapitals isCapital isIn isOdd halfUp classes badSize tooLong tooMany itemsFrom
+    recordsIn lettersIn foreignIn marks runs windowsOf windows edgesOf edge windowsOfFile full allWords withFront canonicalOnes sameWord canonical plain mirror
+    mirrorRank lines fastqFault
+empty-reads = refl
+
+-- "these stand where 10 and 11 stood": after 7, the table being one place short, and before 12.
+fault-before-full : (addGround (bytes "ACGT") 2 1 10 true (fileOf Fastq (bytes "*")) ≡ some (15, 0))
+    × (addGround (bytes "ACGT") 2 1 9 true (fileOf Fastq (bytes "*")) ≡ some (7, 10))
+unfolding addGround readyGround settingsGround goodLetters differentCapitals isCapital isIn isOdd halfUp classes badSize tooLong tooMany lfNext onFirst lines
+    textOf firstByteIs isLetter isThere unlessAt firstFailing isQuality recordFault fastqFault
+fault-before-full = (refl, refl)

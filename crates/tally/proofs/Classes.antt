@@ -14,6 +14,7 @@ use Rattle.encoding.specs.Codes.{code}
 use Rattle.encoding.specs.WordsOfCodes.{wordOf}
 use Rattle.encoding.proofs.Codes.{is-canonical, canonical-low}
 use Rattle.encoding.proofs.Theorems.{code-below-classes, same-code, word-of-code, word-of-code-unique, canonical-is-one}
+use Rattle.files.specs.File.{File}
 use Rattle.tally.specs.Table.{classCount, placeOf, windowsOfFile, places}
 use Rattle.tally.specs.Book.{sameClass, hits, CanonicalWord}
 use Rattle.tally.specs.Demand.{OnePlaceAClass}
@@ -70,7 +71,7 @@ module _ (letters : List ℕ) (k m : ℕ) (good : settingsGround letters k m ≡
   occurrences-are-hits w (v ∷ vs) i a = rw (place-test w v i (a .0), occurrences-are-hits w vs i (a .1))
 
   -- The places of a file's windows are below the number of classes.
-  pub places-below : (file : List ℕ) → Each (Below (classCount letters k m)) (places letters k m file)
+  pub places-below : (file : File) → Each (Below (classCount letters k m)) (places letters k m file)
   places-below file = codes-below (mirrorOf m) within (windowsOfFile letters k file) (windows-are-words letters k file)
 
   -- The canonical word of a word, and its place.

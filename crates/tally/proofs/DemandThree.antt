@@ -13,6 +13,7 @@ use Rattle.settings.specs.Settings.{mirrorOf, settingsGround}
 use Rattle.settings.proofs.SettingsGrounds.{good-settings}
 use Rattle.fasta.specs.declared.Numbers.{Numbers}
 use Rattle.encoding.specs.Words.{IsWord, canonical}
+use Rattle.files.specs.File.{File}
 use Rattle.tally.specs.Table.{classCount, placeOf, clearGround, Clears}
 use Rattle.tally.specs.Book.{hits, Book, clearedBook, bookAfter, bookAnswers, bookAfterAll}
 use Rattle.tally.specs.Demand.{Adds, takenIn, windowsOfFiles, counts, Agrees, Kept, DemandThree, SameCountsExactlyWhen}
@@ -25,7 +26,7 @@ use Rattle.tally.proofs.Clearing.{settings-good, cleared-agrees, cleare
 module _ (letters : List ℕ) (k m : ℕ) (good : settingsGround letters k m ≡ none) where
   -- A list of adds from any table, beside a book that agrees with it: each answer is the book's, each count is its class's tally, later places never
   -- change, and the counts grow by the windows of the files taken in.
-  pub kept : (book : Book) {t t′ : List ℕ} {files : List (List ℕ)} {answers : List (Outcome Numbers)} → Agrees letters k m t book
+  pub kept : (book : Book) {t t′ : List ℕ} {files : List File} {answers : List (Outcome Numbers)} → Agrees letters k m t book
       → Adds letters k m t files answers t′
       → Kept letters k m book t files answers t′
   unfolding bookAnswers bookAfterAll takenIn windowsOfFiles
@@ -50,7 +51,7 @@ module _ (letters : List ℕ) (k m : ℕ) (good : settingsGround letters k m ≡
 
   -- From a table that agrees with the cleared book, the count of each word's class is the number of windows, in the files taken in, that are equal to the
   -- word or its mirror.
-  counted : {t t′ : List ℕ} {files : List (List ℕ)} {answers : List (Outcome Numbers)} → Agrees letters k m t clearedBook
+  counted : {t t′ : List ℕ} {files : List File} {answers : List (Outcome Numbers)} → Agrees letters k m t clearedBook
       → Adds letters k m t files answers t′
       → (w : List ℕ) → IsWord (length letters) k w
       → getD (counts letters k m t′) (placeOf letters k m w) 0 ≡ hits (length letters) (mirrorOf m) w (windowsOfFiles letters k (takenIn files answers))
@@ -64,16 +65,16 @@ module _ (letters : List ℕ) (k m : ℕ) (good : settingsGround letters k m ≡
       ∙ K .each-count-equals-its-class's-tally .each-count-is-its-class's-tally c (canonical-word letters k m good w i)
       ∙ tally-is-hits letters k m clearedBook files c
       ∙ zero-add (hits (length letters) (mirrorOf m) c (windowsOfFiles letters k (takenIn files (bookAnswers letters k m clearedBook files))))
-      ∙ ap (λ (fs : List (List ℕ)). hits (length letters) (mirrorOf m) c (windowsOfFiles letters k fs)) same
+      ∙ ap (λ (fs : List File). hits (length letters) (mirrorOf m) c (windowsOfFiles letters k fs)) same
       ∙ hits-of-canonical letters k m good w (windowsOfFiles letters k (takenIn files answers)) i (all-windows-are-words letters k (takenIn files answers))
 
-  as-many : {t t′ : List ℕ} {files : List (List ℕ)} {answers : List (Outcome Numbers)} → Agrees letters k m t clearedBook → Adds letters k m t files answers t′
+  as-many : {t t′ : List ℕ} {files : List File} {answers : List (Outcome Numbers)} → Agrees letters k m t clearedBook → Adds letters k m t files answers t′
       → length (counts letters k m t′) ≡ classCount letters k m
   as-many {t′ = t′} A adds =
       length-take-le (classCount letters k m) t′ (kept clearedBook A adds .each-count-equals-its-class's-tally .one-place-a-class)
 
   -- Two lists leave the same counts exactly when, for every word of k letters, their files taken in hold as many windows equal to the word or its mirror.
-  same-counts : {t u t′ u′ : List ℕ} {files files′ : List (List ℕ)} {answers answers′ : List (Outcome Numbers)} → Agrees letters k m t clearedBook
+  same-counts : {t u t′ u′ : List ℕ} {files files′ : List File} {answers answers′ : List (Outcome Numbers)} → Agrees letters k m t clearedBook
       → Agrees letters k m u clearedBook
       → Adds letters k m t files answers t′
       → Adds letters k m u files′ answers′ u′
@@ -90,7 +91,7 @@ module _ (letters : List ℕ) (k m : ℕ) (good : settingsGround letters k m ≡
 -- Demand 3, "for every list of add calls, refused ones included, made with the same settings from a cleared table": every answer is the book's,
 -- every count its class's tally, later places are as before the clearing, places and classes match one to one, and the sum of the counts is
 -- letters - foreign - edge over the files taken in, where no subtraction is cut off.
-pub demand-three : (letters : List ℕ) (k m : ℕ) {t₀ t t′ : List ℕ} {cleared : Outcome ℕ} {files : List (List ℕ)} {answers : List (Outcome Numbers)}
+pub demand-three : (letters : List ℕ) (k m : ℕ) {t₀ t t′ : List ℕ} {cleared : Outcome ℕ} {files : List File} {answers : List (Outcome Numbers)}
     → clearGround letters k m (length t₀) ≡ none
     → Clears letters k m t₀ cleared t
     → Adds letters k m t files answers t′
@@ -115,7 +116,7 @@ demand-three letters k m {files = files} {answers = answers} no-ground clearing 
 
 -- "Two such lists with the same settings", each from a cleared table of its own: they leave the same counts exactly when, for every word of k letters,
 -- their files taken in hold as many windows equal to it or its mirror.
-pub demand-three-same-counts : (letters : List ℕ) (k m : ℕ) {t₀ t t′ u₀ u u′ : List ℕ} {cleared cleared′ : Outcome ℕ} {files files′ : List (List ℕ)}
+pub demand-three-same-counts : (letters : List ℕ) (k m : ℕ) {t₀ t t′ u₀ u u′ : List ℕ} {cleared cleared′ : Outcome ℕ} {files files′ : List File}
     {answers answers′ : List (Outcome Numbers)}
     → clearGround letters k m (length t₀) ≡ none
     → Clears letters k m t₀ cleared t

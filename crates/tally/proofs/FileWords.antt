@@ -15,7 +15,7 @@ use Rattle.fasta.specs.declared.Item.{Item}
 use Rattle.fasta.specs.declared.Item.the-variants.{Opens, Skip, Stray, Letter}
 use Rattle.laws.specs.Windows.{windows}
 use Rattle.fasta.specs.Items.{marks, onFirst, runs, windowsOf}
-use Rattle.fasta.specs.File.{items}
+use Rattle.files.specs.File.{File, items}
 use Rattle.settings.proofs.Ranks.{rank-below-count}
 use Rattle.tally.specs.Table.{windowsOfFile}
 use Rattle.laws.specs.Each.{Each}
@@ -69,7 +69,7 @@ module _ (letters : List ℕ) (k : ℕ) where
   ranked-marks (Letter b ∷ is) = (ranked b (rankIn letters b) refl, ranked-marks is)
 
   -- The windows of a file are words of k letters.
-  pub windows-are-words : (file : List ℕ) → Each (IsWord (length letters) k) (windowsOfFile letters k file)
+  pub windows-are-words : (file : File) → Each (IsWord (length letters) k) (windowsOfFile letters k file)
   unfolding windowsOfFile
   windows-are-words file =
       let ms = marks (rankIn letters) (items file) in

@@ -5,10 +5,11 @@ use mathlib.Core.List.{List, [], _∷_}
 use Prim.Native.Nat.{ℕ}
 use Rattle.settings.specs.Grounds.{Ground, ground, _orElse_}
 use Rattle.settings.specs.Settings.{isIn, RefusedOnlyBy}
-use Rattle.settings.proofs.FirstGround.{Has, NumberIn, test-has, then-has, sizes-has}
-use Rattle.fasta.specs.File.{fileFault}
-use Rattle.fasta.specs.Scan.{tooLong}
-use Rattle.fasta.proofs.RefusalNumbers.{fault-has}
+use Rattle.settings.proofs.FirstGround.{Has, NumberIn, in-behind, test-has, then-has, sizes-has}
+use Rattle.files.specs.File.{File, fileFault}
+use Rattle.files.specs.Scan.{tooLong}
+use Rattle.files.specs.declared.Kind.{Kind}
+use Rattle.files.proofs.FaultNumbers.{faultNumbers, fault-numbers}
 use Rattle.tally.specs.Table.{classCount, tooMany, readyGround, addGround, clearGround}
 
 -- A clearing is refused 1, 2, 4, 6 or 7.
@@ -22,29 +23,32 @@ clear-numbers letters k m room =
     (λ _ _ _ _. refl)
 
 -- So is an add before its file is read.
-pub ready-has : (Q : Ground → Type 0) (letters : List ℕ) (k m room : ℕ) (file : List ℕ) → Q (1, 0) → Q (2, 0) → Q (4, 0) → Q (6, 0) → ((p : ℕ) → Q (7, p))
-    → Has Q (readyGround letters k m room file)
+pub ready-has : (Q : Ground → Type 0) (letters : List ℕ) (k m room : ℕ) (bytes : List ℕ) → Q (1, 0) → Q (2, 0) → Q (4, 0) → Q (6, 0) → ((p : ℕ) → Q (7, p))
+    → Has Q (readyGround letters k m room bytes)
 unfolding readyGround
-ready-has Q letters k m room file one two four six seven =
-    sizes-has Q letters k m (tooLong file || tooMany (classCount letters k m)) room (classCount letters k m) one two four six (λ _ _ p _. seven p)
+ready-has Q letters k m room bytes one two four six seven =
+    sizes-has Q letters k m (tooLong bytes || tooMany (classCount letters k m)) room (classCount letters k m) one two four six (λ _ _ p _. seven p)
 
-pub ready-numbers : (letters : List ℕ) (k m room : ℕ) (file : List ℕ) → RefusedOnlyBy clearNumbers (readyGround letters k m room file)
+pub ready-numbers : (letters : List ℕ) (k m room : ℕ) (bytes : List ℕ) → RefusedOnlyBy clearNumbers (readyGround letters k m room bytes)
 unfolding isIn
-ready-numbers letters k m room file = ready-has (NumberIn clearNumbers) letters k m room file refl refl refl refl (λ _. refl)
+ready-numbers letters k m room bytes = ready-has (NumberIn clearNumbers) letters k m room bytes refl refl refl refl (λ _. refl)
 
--- An add is refused 1, 2, 4, 6, 7, 10, 11 or 12.
-abbrev pub addNumbers : List ℕ
-addNumbers = 1 ∷ 2 ∷ 4 ∷ 6 ∷ 7 ∷ 10 ∷ 11 ∷ 12 ∷ []
+-- An add is refused by these, by 12, or by the numbers of its kind of file.
+abbrev pub addNumbers : Kind → List ℕ
+addNumbers kind = 1 ∷ 2 ∷ 4 ∷ 6 ∷ 7 ∷ 12 ∷ faultNumbers kind
 
 -- After 7 comes the file's fault, then 12.
-pub file-numbers : (isFull : Bool) (file : List ℕ) → RefusedOnlyBy addNumbers (fileFault file orElse ground 12 isFull)
+pub file-numbers : (isFull : Bool) (file : File) → RefusedOnlyBy (addNumbers (file .kind)) (fileFault file orElse ground 12 isFull)
 unfolding isIn
 file-numbers isFull file =
-    then-has (NumberIn addNumbers) (fileFault file) (ground 12 isFull) (fault-has (NumberIn addNumbers) (λ _. refl) (λ _. refl) file)
-    (λ _. test-has (NumberIn addNumbers) 12 isFull refl)
+    let Q = NumberIn (addNumbers (file .kind)) in
+    then-has Q (fileFault file) (ground 12 isFull)
+    (λ f e. in-behind (f .0) (1 ∷ 2 ∷ 4 ∷ 6 ∷ 7 ∷ 12 ∷ []) (faultNumbers (file .kind)) (fault-numbers file f e)) (λ _. test-has Q 12 isFull refl)
 
-pub add-numbers : (letters : List ℕ) (k m room : ℕ) (isFull : Bool) (file : List ℕ) → RefusedOnlyBy addNumbers (addGround letters k m room isFull file)
+pub add-numbers : (letters : List ℕ) (k m room : ℕ) (isFull : Bool) (file : File)
+    → RefusedOnlyBy (addNumbers (file .kind)) (addGround letters k m room isFull file)
 unfolding isIn addGround
 add-numbers letters k m room isFull file =
-    then-has (NumberIn addNumbers) (readyGround letters k m room file) (fileFault file orElse ground 12 isFull)
-    (ready-has (NumberIn addNumbers) letters k m room file refl refl refl refl (λ _. refl)) (λ _. file-numbers isFull file)
+    let Q = NumberIn (addNumbers (file .kind)) in
+    then-has Q (readyGround letters k m room (file .bytes)) (fileFault file orElse ground 12 isFull)
+    (ready-has Q letters k m room (file .bytes) refl refl refl refl (λ _. refl)) (λ _. file-numbers isFull file)

@@ -12,7 +12,7 @@ use Rattle.laws.proofs.Tests.{bool-ext}
 use Rattle.settings.specs.Grounds.{Ground, Outcome, given, refused, outcome, unlessRefused}
 use Rattle.settings.specs.Settings.{rankIn, mirrorOf, settingsGround}
 use Rattle.fasta.specs.declared.Numbers.{Numbers}
-use Rattle.fasta.specs.File.{fileNumbers}
+use Rattle.files.specs.File.{File, fileNumbers}
 use Rattle.tally.specs.Table.{classCount, placeOf, windowsOfFile, places, bumps, readyGround, addGround, tableFull, tableGround, Added}
 use Rattle.tally.specs.Book.{Book, bookFull, canonicalOnes, allWords, bookGround, bookAnswer, bookAfter}
 use Rattle.tally.specs.Demand.{sum, counts, Agrees}
@@ -28,7 +28,7 @@ taken (given x) n = n
 taken (refused f) n = 0
 
 -- What an add does beside the book.
-pub record Stepped (letters : List ℕ) (k m : ℕ) (book : Book) (t file : List ℕ) (answer : Outcome Numbers) (t′ : List ℕ) : Type 0 where
+pub record Stepped (letters : List ℕ) (k m : ℕ) (book : Book) (t : List ℕ) (file : File) (answer : Outcome Numbers) (t′ : List ℕ) : Type 0 where
   pub same-answer : answer ≡ bookAnswer letters k m book file
   pub agrees : Agrees letters k m t′ (bookAfter letters k m book file)
   pub later : drop (classCount letters k m) t′ ≡ drop (classCount letters k m) t
@@ -37,7 +37,7 @@ pub record Stepped (letters : List ℕ) (k m : ℕ) (book : Book) (t file : List
 
 module _ (letters : List ℕ) (k m : ℕ) (good : settingsGround letters k m ≡ none) where
   -- Ground 12 is read alike from the counts and from the tallies.
-  full-same : (t : List ℕ) (book : Book) (file : List ℕ) → Agrees letters k m t book → tableFull letters k m t file ≡ bookFull letters k m book file
+  full-same : (t : List ℕ) (book : Book) (file : File) → Agrees letters k m t book → tableFull letters k m t file ≡ bookFull letters k m book file
   full-same t book file A = bool-ext (tableFull letters k m t file) (bookFull letters k m book file) to from
     where
       n : ℕ
@@ -64,18 +64,18 @@ module _ (letters : List ℕ) (k m : ℕ) (good : settingsGround letters k m ≡
           (omega (arith, length-take-le (classCount letters k m) t (A .one-place-a-class))) (rw same at g)
 
   -- A table with a place for each class is long enough, as the book is.
-  room-same : (room : ℕ) (isFull : Bool) (file : List ℕ) → classCount letters k m ≤ room
+  room-same : (room : ℕ) (isFull : Bool) (file : File) → classCount letters k m ≤ room
       → addGround letters k m room isFull file ≡ addGround letters k m (classCount letters k m) isFull file
   unfolding addGround readyGround
   room-same room isFull file h = rw (le-ltb room (classCount letters k m) h, le-ltb (classCount letters k m) (classCount letters k m) (omega arith))
 
-  ground-same : (t : List ℕ) (book : Book) (file : List ℕ) → Agrees letters k m t book → tableGround letters k m t file ≡ bookGround letters k m book file
+  ground-same : (t : List ℕ) (book : Book) (file : File) → Agrees letters k m t book → tableGround letters k m t file ≡ bookGround letters k m book file
   ground-same t book file A =
       ap (λ (isFull : Bool). addGround letters k m (length t) isFull file) (full-same t book file A)
       ∙ room-same (length t) (bookFull letters k m book file) file (A .one-place-a-class)
 
   -- The table and the book after an add to which the ground g applies, or none.
-  step-by : (t : List ℕ) (book : Book) (file : List ℕ) (g : Option Ground) → bookGround letters k m book file ≡ g → Agrees letters k m t book
+  step-by : (t : List ℕ) (book : Book) (file : File) (g : Option Ground) → bookGround letters k m book file ≡ g → Agrees letters k m t book
       → Stepped letters k m book t file (outcome g (fileNumbers (rankIn letters) k file)) (unlessRefused g (bumps t (places letters k m file)) t)
   step-by t book file (some g) e A =
       record {
@@ -105,7 +105,7 @@ module _ (letters : List ℕ) (k m : ℕ) (good : settingsGround letters k m ≡
       }
 
   -- One add on a table that agrees with a book: what `Stepped` says.
-  pub step : (t file t′ : List ℕ) (answer : Outcome Numbers) (book : Book) → Added letters k m t file answer t′ → Agrees letters k m t book
+  pub step : (t : List ℕ) (file : File) (t′ : List ℕ) (answer : Outcome Numbers) (book : Book) → Added letters k m t file answer t′ → Agrees letters k m t book
       → Stepped letters k m book t file answer t′
   step t file t′ answer book h A =
       let e = ground-same t book file A in

@@ -10,7 +10,7 @@ use Rattle.settings.specs.Grounds.{Ground, Outcome, given, refused, outcome}
 use Rattle.settings.specs.Settings.{rankIn, mirrorOf}
 use Rattle.encoding.specs.Words.{Mirror, IsWord}
 use Rattle.fasta.specs.declared.Numbers.{Numbers}
-use Rattle.fasta.specs.File.{fileNumbers, fileWindows}
+use Rattle.files.specs.File.{File, items, fileNumbers, fileWindows}
 use Rattle.fasta.proofs.Runs.{letters-are}
 use Rattle.tally.specs.Table.{windowsOfFile}
 use Rattle.tally.specs.Book.{hits, Book, bookGround, bookAfter, bookAnswers, bookAfterAll}
@@ -27,7 +27,7 @@ hits-append s m w (u ∷ us) vs = omega (arith, hits-append s m w us vs)
 
 module _ (letters : List ℕ) (k : ℕ) where
   -- The windows of some files are words of k letters.
-  pub all-windows-are-words : (files : List (List ℕ)) → Each (IsWord (length letters) k) (windowsOfFiles letters k files)
+  pub all-windows-are-words : (files : List File) → Each (IsWord (length letters) k) (windowsOfFiles letters k files)
   unfolding windowsOfFiles
   all-windows-are-words [] = tt
   all-windows-are-words (file ∷ files) =
@@ -35,7 +35,7 @@ module _ (letters : List ℕ) (k : ℕ) where
       (windows-are-words letters k file) (all-windows-are-words files)
 
   -- One call more takes in the windows of its file, or none.
-  pub taken-more : (answer : Outcome Numbers) (file : List ℕ) (files : List (List ℕ)) (answers : List (Outcome Numbers))
+  pub taken-more : (answer : Outcome Numbers) (file : File) (files : List File) (answers : List (Outcome Numbers))
       → length (windowsOfFiles letters k (takenIn (file ∷ files) (answer ∷ answers)))
       ≡ taken answer (length (windowsOfFile letters k file)) + length (windowsOfFiles letters k (takenIn files answers))
   unfolding takenIn windowsOfFiles
@@ -43,16 +43,16 @@ module _ (letters : List ℕ) (k : ℕ) where
   taken-more (refused g) file files answers = omega arith
 
   -- The windows of some files are as many as their letters less the foreign ones and the edge letters, each added up.
-  pub added-up : (files : List (List ℕ)) → 1 ≤ k
+  pub added-up : (files : List File) → 1 ≤ k
       → addedUp (lettersOf letters k) files ≡ length (windowsOfFiles letters k files) + addedUp (foreignOf letters k) files + addedUp (edgeOf letters k) files
   unfolding addedUp windowsOfFiles windowsOfFile
   added-up [] h = omega arith
   added-up (file ∷ files) h =
       let both = length-append (fileWindows (rankIn letters) k file) (windowsOfFiles letters k files) in
-      omega (arith, letters-are (rankIn letters) k file h, added-up files h)
+      omega (arith, letters-are (rankIn letters) k (items file) h, added-up files h)
 
   -- A tally is what it was, and the windows of the files taken in that are of its class.
-  pub tally-is-hits : (m : ℕ) (book : Book) (files : List (List ℕ)) (w : List ℕ)
+  pub tally-is-hits : (m : ℕ) (book : Book) (files : List File) (w : List ℕ)
       → bookAfterAll letters k m book files w
       ≡ book w + hits (length letters) (mirrorOf m) w (windowsOfFiles letters k (takenIn files (bookAnswers letters k m book files)))
   unfolding bookAfterAll bookAnswers takenIn windowsOfFiles hits
@@ -62,7 +62,7 @@ module _ (letters : List ℕ) (k : ℕ) where
       after : Book
       after = bookAfter letters k m book file
 
-      more : List (List ℕ)
+      more : List File
       more = takenIn files (bookAnswers letters k m after files)
 
       go : (g : Option Ground) → bookGround letters k m book file ≡ g

@@ -12,6 +12,7 @@ use Rattle.settings.specs.Grounds.{Ground, Outcome, unlessRefused}
 use Rattle.settings.specs.Settings.{mirrorOf}
 use Rattle.encoding.specs.Words.{Mirror, IsWord, mirror, canonical}
 use Rattle.fasta.specs.declared.Numbers.{Numbers}
+use Rattle.files.specs.File.{File}
 use Rattle.tally.specs.Table.{classCount, windowsOfFile, full, addGround, addAnswer}
 
 -- ---- words and classes
@@ -67,32 +68,32 @@ abbrev pub tallies : ℕ → Mirror → ℕ → Book → List ℕ
 tallies s m k book = map book (canonicalOnes s m (allWords s k))
 
 -- "12 read with the tallies instead of the table's places"
-abbrev pub bookFull : (letters : List ℕ) (k mirror : ℕ) → Book → (file : List ℕ) → Bool
+abbrev pub bookFull : (letters : List ℕ) (k mirror : ℕ) → Book → (file : File) → Bool
 bookFull letters k m book file = full (length (windowsOfFile letters k file)) (tallies (length letters) (mirrorOf m) k book)
 
 -- "Where any ground for refusing applies to an add": the book has room for each class, so that ground 7 never applies to it; neither did it to
 -- the clearing.
-abbrev pub bookGround : (letters : List ℕ) (k mirror : ℕ) → Book → (file : List ℕ) → Option Ground
+abbrev pub bookGround : (letters : List ℕ) (k mirror : ℕ) → Book → (file : File) → Option Ground
 bookGround letters k m book file = addGround letters k m (classCount letters k m) (bookFull letters k m book file) file
 
 -- "the book answers the number and P that the rules for the grounds give", "and the book answers the file's numbers"
-abbrev pub bookAnswer : (letters : List ℕ) (k mirror : ℕ) → Book → (file : List ℕ) → Outcome Numbers
+abbrev pub bookAnswer : (letters : List ℕ) (k mirror : ℕ) → Book → (file : File) → Outcome Numbers
 bookAnswer letters k m book file = addAnswer letters k m (classCount letters k m) (bookFull letters k m book file) file
 
 -- "no tally changes. Otherwise .. each class's tally grows by the number of the file's windows equal to its canonical word or to that
 -- word's mirror"
-abbrev pub bookAfter : (letters : List ℕ) (k mirror : ℕ) → Book → (file : List ℕ) → Book
+abbrev pub bookAfter : (letters : List ℕ) (k mirror : ℕ) → Book → (file : File) → Book
 bookAfter letters k m book file w =
     unlessRefused (bookGround letters k m book file) (book w + hits (length letters) (mirrorOf m) w (windowsOfFile letters k file)) (book w)
 
 -- ---- a list of adds
 
 -- What the book answers to some files, one after the other.
-unfoldable pub bookAnswers : (letters : List ℕ) (k mirror : ℕ) → Book → List (List ℕ) → List (Outcome Numbers)
+unfoldable pub bookAnswers : (letters : List ℕ) (k mirror : ℕ) → Book → List File → List (Outcome Numbers)
 bookAnswers letters k m book [] = []
 bookAnswers letters k m book (file ∷ files) = bookAnswer letters k m book file ∷ bookAnswers letters k m (bookAfter letters k m book file) files
 
 -- The book after them.
-unfoldable pub bookAfterAll : (letters : List ℕ) (k mirror : ℕ) → Book → List (List ℕ) → Book
+unfoldable pub bookAfterAll : (letters : List ℕ) (k mirror : ℕ) → Book → List File → Book
 bookAfterAll letters k m book [] = book
 bookAfterAll letters k m book (file ∷ files) = bookAfterAll letters k m (bookAfter letters k m book file) files

@@ -9,7 +9,7 @@ use Rattle.settings.specs.Grounds.{Outcome, given, refused}
 use Rattle.settings.specs.Settings.{rankIn, mirrorOf}
 use Rattle.encoding.specs.Words.{IsWord, mirror}
 use Rattle.fasta.specs.declared.Numbers.{Numbers}
-use Rattle.fasta.specs.File.{fileNumbers}
+use Rattle.files.specs.File.{File, fileNumbers}
 use Rattle.tally.specs.Table.{classCount, placeOf, windowsOfFile, Added}
 use Rattle.tally.specs.Book.{CanonicalWord, hits, Book, clearedBook, bookAnswers, bookAfterAll}
 
@@ -22,24 +22,24 @@ pub data Calls {C A : Type 0} (Step : List ℕ → C → A → List ℕ → Type
   then : {t t′ t″ : List ℕ} {c : C} {cs : List C} {a : A} {later : List A} → Step t c a t′ → Calls Step t′ cs later t″
       → Calls Step t (c ∷ cs) (a ∷ later) t″
 
--- A list of adds with the same settings.
-abbrev pub Adds : (letters : List ℕ) (k mirror : ℕ) → (t : List ℕ) (files : List (List ℕ)) (answers : List (Outcome Numbers)) (t′ : List ℕ) → Type 0
-Adds letters k m = Calls (λ (t file : List ℕ) (a : Outcome Numbers) (t′ : List ℕ). Added letters k m t file a t′)
+-- A list of adds with the same settings. "All of demand 3 must hold for lists mixing both kinds of file" (document 02, K1): each file has its own kind.
+abbrev pub Adds : (letters : List ℕ) (k mirror : ℕ) → (t : List ℕ) (files : List File) (answers : List (Outcome Numbers)) (t′ : List ℕ) → Type 0
+Adds letters k m = Calls (λ (t : List ℕ) (file : File) (a : Outcome Numbers) (t′ : List ℕ). Added letters k m t file a t′)
 
 -- The files taken in: those whose adds answered with numbers.
-unfoldable pub takenIn : List (List ℕ) → List (Outcome Numbers) → List (List ℕ)
+unfoldable pub takenIn : List File → List (Outcome Numbers) → List File
 takenIn [] answers = []
 takenIn (file ∷ files) [] = []
 takenIn (file ∷ files) (given n ∷ answers) = file ∷ takenIn files answers
 takenIn (file ∷ files) (refused g ∷ answers) = takenIn files answers
 
 -- The windows of some files.
-unfoldable pub windowsOfFiles : (letters : List ℕ) (k : ℕ) → List (List ℕ) → List (List ℕ)
+unfoldable pub windowsOfFiles : (letters : List ℕ) (k : ℕ) → List File → List (List ℕ)
 windowsOfFiles letters k [] = []
 windowsOfFiles letters k (file ∷ files) = windowsOfFile letters k file ++ windowsOfFiles letters k files
 
 -- A number of each file "added up over the files".
-unfoldable pub addedUp : (List ℕ → ℕ) → List (List ℕ) → ℕ
+unfoldable pub addedUp : (File → ℕ) → List File → ℕ
 addedUp number [] = 0
 addedUp number (file ∷ files) = number file + addedUp number files
 
@@ -61,7 +61,7 @@ pub record Agrees (letters : List ℕ) (k mirror : ℕ) (t : List ℕ) (book : B
       → getD t (placeOf letters k mirror w) 0 ≡ book w
 
 -- What holds after a list of adds that began with a table t₀ and a book that agreed.
-pub record Kept (letters : List ℕ) (k mirror : ℕ) (book : Book) (t₀ : List ℕ) (files : List (List ℕ)) (answers : List (Outcome Numbers)) (t : List ℕ)
+pub record Kept (letters : List ℕ) (k mirror : ℕ) (book : Book) (t₀ : List ℕ) (files : List File) (answers : List (Outcome Numbers)) (t : List ℕ)
     : Type 0 where
   pub each-add-answered-what-the-book-did : answers ≡ bookAnswers letters k mirror book files
   pub each-count-equals-its-class's-tally : Agrees letters k mirror t (bookAfterAll letters k mirror book files)
@@ -83,17 +83,17 @@ pub record OnePlaceAClass (letters : List ℕ) (k m : ℕ) : Type 0 where
       → (placeOf letters k m v ≡ placeOf letters k m w) ↔ ((v ≡ w) ⊎ (v ≡ mirror (length letters) (mirrorOf m) w))
 
 -- Letters, foreign letters and edge letters of a file.
-abbrev pub lettersOf : (letters : List ℕ) (k : ℕ) (file : List ℕ) → ℕ
+abbrev pub lettersOf : (letters : List ℕ) (k : ℕ) (file : File) → ℕ
 lettersOf letters k file = fileNumbers (rankIn letters) k file .letters
 
-abbrev pub foreignOf : (letters : List ℕ) (k : ℕ) (file : List ℕ) → ℕ
+abbrev pub foreignOf : (letters : List ℕ) (k : ℕ) (file : File) → ℕ
 foreignOf letters k file = fileNumbers (rankIn letters) k file .foreign
 
-abbrev pub edgeOf : (letters : List ℕ) (k : ℕ) (file : List ℕ) → ℕ
+abbrev pub edgeOf : (letters : List ℕ) (k : ℕ) (file : File) → ℕ
 edgeOf letters k file = fileNumbers (rankIn letters) k file .edge
 
 -- Demand 3 for a list of adds from a cleared table: t₀ is the table before the clearing, t the one that the list left.
-pub record DemandThree (letters : List ℕ) (k mirror : ℕ) (t₀ : List ℕ) (files : List (List ℕ)) (answers : List (Outcome Numbers)) (t : List ℕ) : Type 0 where
+pub record DemandThree (letters : List ℕ) (k mirror : ℕ) (t₀ : List ℕ) (files : List File) (answers : List (Outcome Numbers)) (t : List ℕ) : Type 0 where
   pub each-add-answered-what-the-book-did : answers ≡ bookAnswers letters k mirror clearedBook files
   pub each-count-equals-its-class's-tally : Agrees letters k mirror t (bookAfterAll letters k mirror clearedBook files)
   pub later-places-never-change : drop (classCount letters k mirror) t ≡ drop (classCount letters k mirror) t₀
@@ -112,8 +112,8 @@ pub record DemandThree (letters : List ℕ) (k mirror : ℕ) (t₀ : List ℕ) (
 
 -- "Two such lists with the same settings leave the same counts exactly when, for every word of k letters, the files taken in by the one hold
 -- as many windows equal to that word or its mirror as the files taken in by the other."
-abbrev pub SameCountsExactlyWhen : (letters : List ℕ) (k mirror : ℕ) (files : List (List ℕ)) (answers : List (Outcome Numbers)) (t : List ℕ)
-    (files′ : List (List ℕ)) (answers′ : List (Outcome Numbers)) (t′ : List ℕ) → Type 0
+abbrev pub SameCountsExactlyWhen : (letters : List ℕ) (k mirror : ℕ) (files : List File) (answers : List (Outcome Numbers)) (t : List ℕ)
+    (files′ : List File) (answers′ : List (Outcome Numbers)) (t′ : List ℕ) → Type 0
 SameCountsExactlyWhen letters k m files answers t files′ answers′ t′ =
     (counts letters k m t ≡ counts letters k m t′)
     ↔ ((w : List ℕ) → IsWord (length letters) k w

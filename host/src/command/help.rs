@@ -3,7 +3,7 @@
 pub const ALL: &str = "\
 wontirje counts canonical k-mers: a word of k letters and its reverse complement are one class.
 
-  wontirje count FILE...       count the words of FASTA files and print a listing
+  wontirje count FILE...       count the words of FASTA and FASTQ files and print a listing
   wontirje code WORD...        print the code of each word's class
   wontirje word CODE...        print the canonical word of each code
   wontirje classes [K...]      print the number of classes and the size of their table
@@ -25,15 +25,17 @@ See wontirje COMMAND --help. Codes and counts are the library's, which is proved
 ";
 
 pub const COUNT: &str = "\
-wontirje count [--letters ACGT] [--k 11] [--mirror complement] [--output FILE] [--strict] [--no-listing]
-               FILE...
+wontirje count [--letters ACGT] [--k 11] [--mirror complement] [--kind KIND] [--output FILE] [--strict]
+               [--no-listing] FILE...
 
-Clears a table, adds each FASTA file in order, and prints the listing: the survey line, a line for each
-class with its count, and the total. - is standard input. On standard error is a line for each file: its
-records, letters, foreign letters (not in --letters), edge letters (too near a run's end to begin a word)
-and windows (words counted); or why it was refused, where, and what to do. A refused file changes no count
-and does not stop the others.
+Clears a table, adds each file in order, and prints the listing: the survey line, a line for each class with
+its count, and the total. - is standard input. A file whose first byte is @ is taken for FASTQ, any other for
+FASTA; both may be given together. Of FASTQ, four lines a record, only the sequence line counts. On standard
+error is a line for each file: its records, letters, foreign letters (not in --letters), edge letters (too
+near a run's end to begin a word) and windows (words counted); or why it was refused, where, and what to do.
+A refused file changes no count and does not stop the others.
 
+  --kind KIND     fasta or fastq: take all files for this kind, whatever their first byte is
   --output FILE   write the listing to a new file, which appears only when it is whole; a file that is there
                   already is not overwritten
   --strict        stop at the first file that is refused or not read, and print no listing
@@ -43,7 +45,7 @@ A file has at most 16,777,216 bytes; split larger ones between records. For ACGT
 most 12.
 
 Examples:
-  wontirje count --k 12 --output counts.txt lake-1.fa lake-2.fa
+  wontirje count --k 12 --output counts.txt lake-1.fa lake-2.fq
   gzip -dc reads.fa.gz | wontirje count -           (in jellyfish: count -C -m 11, then dump)
 ";
 

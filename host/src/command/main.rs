@@ -6,6 +6,7 @@ mod bars;
 mod classes;
 mod count;
 mod failure;
+mod fault;
 mod help;
 mod histogram;
 mod input;

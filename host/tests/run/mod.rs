@@ -1,7 +1,10 @@
-//! What the tests of the command share: runs of it, folders of their own, and the settings of tests/ lent to
-//! this crate. Each test file uses some of it.
+//! What the tests of the command share: runs of it, folders of their own, drawn files of either kind, and the
+//! settings and kinds of tests/ lent to this crate. Each test file uses some of it.
 #![allow(dead_code)]
 
+use kmer_tests::draw::Random;
+use kmer_tests::draw_fastq::{damaged_of, drawn_of};
+use kmer_tests::files::Kind;
 use kmer_tests::settings::{Settings, COMPLEMENT};
 use std::ffi::{OsStr, OsString};
 use std::fs;
@@ -121,6 +124,23 @@ impl Drop for Folder {
 pub fn lent(settings: &Settings) -> wontirje::Settings<'_> {
     let mirror = if settings.mirror == COMPLEMENT { Mirror::Complement } else { Mirror::Reversal };
     wontirje::Settings { letters: &settings.letters, k: settings.k, mirror }
+}
+
+/// A kind of tests/, lent to this crate.
+pub fn lent_kind(kind: Kind) -> wontirje::Kind {
+    match kind {
+        Kind::Fasta => wontirje::Kind::Fasta,
+        Kind::Fastq => wontirje::Kind::Fastq,
+    }
+}
+
+/// A file of either kind, about one in three with a damage.
+pub fn drawn_of_either_kind(random: &mut Random, settings: &Settings, length: u64) -> (Kind, Vec<u8>) {
+    let is_damaged = random.below(3) == 0;
+    let kind = if random.below(2) == 0 { Kind::Fasta } else { Kind::Fastq };
+    let whole = drawn_of(random, kind, settings, length);
+    let file = if is_damaged { damaged_of(random, kind, settings, whole) } else { whole };
+    (kind, file)
 }
 
 /// The options that give these settings.

@@ -3,6 +3,7 @@ use mathlib.Core.Path.{sym, _∙_}
 use native.Mathlib.Omega.{arith}
 use borrow.Author.Needs.{needs}
 use Rattle.fasta.specs.File.{isLetter, lineItem}
+use Rattle.lines.proofs.Lines.{lf-is-next}
 use Rattle.fasta.proofs.Bytes.{capital, small, below, between, above}
 use Rattle.fasta.proofs.line_item.Statement.{statement}
 use Rattle.fasta.proofs.line_item.Tie as tie
@@ -10,11 +11,11 @@ use Rattle.fasta.proofs.line_item.Tie as tie
 shared-slice-read-b : tie.Need-shared-slice-read-b
 shared-slice-read-b c = search needs
 
-add-lf-at : tie.Need-add-lf-at
-add-lf-at c = search needs
+add-byte-is : tie.Need-add-byte-is
+add-byte-is c = search needs
 
-lf-at-requires : tie.Need-lf-at-requires
-lf-at-requires c κs = search needs
+byte-is-requires : tie.Need-byte-is-requires
+byte-is-requires c κs = search needs
 
 returns : tie.Need-returns
 unfolding lineItem
@@ -22,11 +23,11 @@ returns c = rw (c .match .keys1)
 
 returns-2 : tie.Need-returns-2
 unfolding lineItem
-returns-2 c = rw (c .before .before .match .keys2, sym (c .before .lf-at .ensures) ∙ c .if1 .taken)
+returns-2 c = rw (c .before .before .match .keys2, sym (c .before .byte-is .ensures ∙ lf-is-next _) ∙ c .if1 .taken)
 
 returns-3 : tie.Need-returns-3
 unfolding lineItem isLetter
-returns-3 c = rw (c .before .before .match .keys2, sym (c .before .lf-at .ensures) ∙ c .if1 .left)
+returns-3 c = rw (c .before .before .match .keys2, sym (c .before .byte-is .ensures ∙ lf-is-next _) ∙ c .if1 .left)
 
 returns-4 : tie.Need-returns-4
 returns-4 c = capital _ _ (c .before .if2 .left) (omega arith)
@@ -48,8 +49,8 @@ line-item-spec =
     tie.close
     (tie.spec
     shared-slice-read-b
-    add-lf-at
-    lf-at-requires
+    add-byte-is
+    byte-is-requires
     returns
     returns-2
     returns-3

@@ -8,6 +8,7 @@ use lib.Seq.{length-take-le}
 use Rattle.settings.specs.declared.Settings.{Settings}
 use Rattle.tally.specs.Table.{classCount}
 use Rattle.fasta.specs.Scan.{ofAnswer}
+use Rattle.files.specs.File.{fileOf}
 use Rattle.program.proofs.Outputs.{SmallNumbers, TakenIn, refused-text, taken-in, taken-prints}
 use Rattle.program.proofs.put_counted.Statement.{statement}
 use Rattle.program.proofs.put_counted.Tie as tie
@@ -38,7 +39,7 @@ classes-are : (c : tie.Start) → c .args .st .classes ≡ classCount (now (c .a
 classes-are c = ap (λ (st : Settings). st .classes) (c .pre .1)
 
 abbrev taken : (c : tie.After-n) → let a = start c .args in
-    (table : List ℕ) × TakenIn (now (a .letters)) (a .k) (a .mirror) (now (a .file)) (a .st .classes) table
+    (table : List ℕ) × TakenIn (now (a .letters)) (a .k) (a .mirror) (fileOf (a .kind) (now (a .file))) (a .st .classes) table
 taken c =
     let add = c .before .before .before in
     let cleared = add .before .before .cleared-table .ensures in
@@ -66,7 +67,7 @@ returns c =
     let add = told .before .before .before in
     let table = add .before .before in
     let a = table .before .before .before .before .args in
-    let text = refused-text (now (a .letters)) (a .k) (a .mirror) (now (a .file)) _ (ap ofAnswer (told .f .given .1)) in
+    let text = refused-text (now (a .letters)) (a .k) (a .mirror) (fileOf (a .kind) (now (a .file))) _ (ap ofAnswer (told .f .given .1)) in
     rw (text (table .cleared-table .ensures) (add .add .ensures)) (line .put-refused .ensures)
 
 same-length-2 : tie.Need-same-length-2

@@ -4,6 +4,7 @@ use mathlib.Core.Path.{sym, ap, _∙_}
 use denote.Ref.{now}
 use Rattle.settings.specs.Settings.{ofChecked}
 use Rattle.settings.proofs.Outcomes.{passed}
+use Rattle.files.specs.File.{fileOf}
 use Rattle.program.proofs.Outputs.{settings-text}
 use Rattle.program.proofs.put_output.Statement.{statement}
 use Rattle.program.proofs.put_output.Tie as tie
@@ -34,7 +35,8 @@ returns c =
     let line = c .before .before in
     let told = line .before .before .before in
     let a = told .before .before .before .before .before .before .args in
-    rw (settings-text (now (a .letters)) (a .k) (a .mirror) (now (a .file)) _ (ap ofChecked (sym (told .f .given .1)) ∙ told .before .before .check .ensures))
+    let bad = ap ofChecked (sym (told .f .given .1)) ∙ told .before .before .check .ensures in
+    rw (settings-text (now (a .letters)) (a .k) (a .mirror) (fileOf (a .kind) (now (a .file))) _ bad)
     (line .put-refused .ensures)
 
 same-length-2 : tie.Need-same-length-2

@@ -4,6 +4,7 @@ use Rattle.settings.proofs.SettingsGrounds.{good-settings}
 use denote.Ref.{now}
 use Rattle.fasta.specs.declared.Numbers.{Numbers}
 use Rattle.fasta.specs.Scan.{ofAnswer}
+use Rattle.files.specs.File.{fileOf}
 use Rattle.table.specs.Needs.{CleanFile}
 use Rattle.table.proofs.CallGrounds.{ready-settings, ready-file, ready-room, faulty, clean, added}
 use borrow.Author.Needs.{needs}
@@ -30,7 +31,7 @@ enum-known-n c = search needs
 
 -- What the scan found, where it found no fault.
 abbrev CleanFrom : tie.Start → Numbers → Type 0
-CleanFrom c n = let a = c .args in CleanFile (now (a .letters)) (a .k) (now (a .file)) n
+CleanFrom c n = let a = c .args in CleanFile (now (a .letters)) (a .k) (fileOf (a .kind) (now (a .file))) n
 
 clean-file : (c : tie.After-n) → CleanFrom (start (c .before .before .before .before .before)) (c .n .given .0 .0)
 clean-file c =

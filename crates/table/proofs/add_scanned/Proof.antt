@@ -9,7 +9,7 @@ use denote.Ref.{now}
 use Rattle.settings.specs.declared.Settings.{Settings}
 use Rattle.settings.specs.Settings.{mirrorOf}
 use Rattle.settings.specs.RankTables.{rankByTable}
-use Rattle.fasta.specs.File.{fileWindows}
+use Rattle.files.specs.File.{fileOf, fileWindows}
 use Rattle.kernels.specs.declared.Coder.{Coder}
 use Rattle.kernels.specs.Needs.{Takes, coderOf}
 use Rattle.tally.specs.Table.{classCount}
@@ -89,8 +89,8 @@ returns c =
     let st-is = start kernel .pre .1 .0 in
     let pre = start kernel .pre .1 .1 in
     let a = start kernel .args in
-    let codes-are = ap (λ (c : Coder). codesBy c (fileWindows (rankByTable (now (a .ranks))) (c .k) (now (a .file)))) (made coder) in
-    let places-are = codes-are ∙ places-by-table _ (a .k) (a .mirror) _ (now (a .file)) _ st-is (pre .0) in
+    let codes-are = ap (λ (c : Coder). codesBy c (fileWindows (rankByTable (now (a .ranks))) (c .k) (fileOf (a .kind) (now (a .file))))) (made coder) in
+    let places-are = codes-are ∙ places-by-table _ (a .k) (a .mirror) _ (fileOf (a .kind) (now (a .file))) _ st-is (pre .0) in
     whole-table _ _ _ _ _ good _ (pre .1 .0) _ _ _ _ (classes-are (start kernel)) places-are (count .count-unless-full .ensures)
 
 pub add-scanned-spec : {M : Type 1} → statement M

@@ -11,7 +11,7 @@ use Rattle.counting.proofs.batches.count_file.Statement.{statement}
 use Rattle.counting.proofs.batches.count_file.Tie as tie
 
 abbrev Inv-loop : tie.InvT-loop
-Inv-loop counts₀ file table c powers array₀ at₀ mode₀ n₀ counts array at mode n = Counting c table file counts₀ counts array at mode n
+Inv-loop counts₀ file table c powers array₀ at₀ mode₀ n₀ counts array at mode n = Counting c table file mode₀ counts₀ counts array at mode n
 
 abbrev μ-loop : tie.MeasureT-loop
 μ-loop counts₀ file table c powers array₀ at₀ mode₀ n₀ counts array at mode n = length file - at
@@ -24,7 +24,7 @@ no-ranks-requires : tie.Need-no-ranks-requires Inv-loop μ-loop
 no-ranks-requires c κs = search needs
 
 loop-holds : tie.Need-loop-holds Inv-loop μ-loop
-loop-holds c = let start = c .before .before .before in counting-none (start .pre .0) _ _ _ _ (c .no-ranks .ensures) (start .pre .1 .1 .1)
+loop-holds c = let start = c .before .before .before in counting-none (start .pre .0) _ _ _ _ _ (c .no-ranks .ensures) (start .pre .1 .1 .1)
 
 slice-aggregate-gather : tie.Need-slice-aggregate-gather Inv-loop μ-loop
 slice-aggregate-gather c = sym (c .before .before .loop .inv .size)
