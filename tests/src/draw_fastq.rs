@@ -28,12 +28,12 @@ pub fn drawn_quality(random: &mut Random, length: usize) -> Vec<u8> {
 
 /// A FASTQ file whose records have these letters, with LF, CR LF or both. The last line may have no end, but
 /// not an empty one, which would be no line.
-pub fn drawn_fastq_of(random: &mut Random, sequences: &[Vec<u8>]) -> Vec<u8> {
+pub fn drawn_fastq_of(random: &mut Random, sequences: &[impl AsRef<[u8]>]) -> Vec<u8> {
     let ends = random.below(3);
     let mut file = Vec::new();
-    for sequence in sequences {
+    for sequence in sequences.iter().map(AsRef::as_ref) {
         let (header, third) = (drawn_marked(random, b'@'), drawn_marked(random, b'+'));
-        for line in [header, sequence.clone(), third, drawn_quality(random, sequence.len())] {
+        for line in [header, sequence.to_vec(), third, drawn_quality(random, sequence.len())] {
             file.extend(line);
             let end = match ends {
                 0 => b"\n",
@@ -43,7 +43,7 @@ pub fn drawn_fastq_of(random: &mut Random, sequences: &[Vec<u8>]) -> Vec<u8> {
             file.extend(end);
         }
     }
-    if random.below(2) == 0 && sequences.last().is_some_and(|sequence| !sequence.is_empty()) {
+    if random.below(2) == 0 && sequences.last().is_some_and(|sequence| !sequence.as_ref().is_empty()) {
         file.truncate(bare(&file).len());
     }
     file

@@ -5,6 +5,7 @@
 use crate::book::{class_count, table_ground, Book, Numbers, TOP};
 use crate::c_calls::{kmer_add, kmer_clear, kmer_listing};
 use crate::draw::{first_capitals, Random};
+use crate::draw_files::{drawn_letters, foreign_letters};
 use crate::expected::Refusal;
 use crate::files::Kind;
 use crate::lent::{check_places, Lent};
@@ -139,6 +140,23 @@ pub fn lengths_about_batches(k: usize) -> Vec<usize> {
     lengths.sort();
     lengths.dedup();
     lengths
+}
+
+/// Runs of lengths about the library's batches: `check` gets each with a table of its settings, with another run
+/// of nearly a batch, and both with a foreign letter between them. The table's sum is checked at the end.
+pub fn check_about_batches(seed: u64, check: impl Fn(&mut Random, &mut Book, &mut Table, [&[u8]; 3])) {
+    let mut random = Random::new(seed);
+    for settings in some_settings() {
+        let foreign = foreign_letters(&settings.letters)[0];
+        let (mut book, mut table) = cleared(&settings, 2);
+        for length in lengths_about_batches(settings.k) {
+            let run = drawn_letters(&mut random, &settings, length, 0);
+            let other = drawn_letters(&mut random, &settings, BATCH - 1, 0);
+            let two = [&run[..], &other].join(&foreign);
+            check(&mut random, &mut book, &mut table, [&run, &other, &two]);
+        }
+        check_sum(&book, &table);
+    }
 }
 
 /// The sizes whose tables have at most so many places.

@@ -4,7 +4,6 @@
 use kmer_tests::book::*;
 use kmer_tests::draw::*;
 use kmer_tests::draw_fastq::*;
-use kmer_tests::draw_files::*;
 use kmer_tests::expected::Refusal;
 use kmer_tests::files::{as_fasta, FASTA, FASTQ};
 use kmer_tests::sequences::two_bit_settings;
@@ -78,25 +77,16 @@ fn every_byte_at_every_kind_of_place() {
 /// the same with the last quality byte at fault, which leaves no letter counted.
 #[test]
 fn sequences_about_a_batch() {
-    let mut random = Random::new(73);
-    for settings in some_settings() {
-        let foreign = foreign_letters(&settings.letters)[0];
-        let (mut book, mut table) = cleared(&settings, 2);
-        for length in lengths_about_batches(settings.k) {
-            let run = drawn_letters(&mut random, &settings, length, 0);
-            let other = drawn_letters(&mut random, &settings, BATCH - 1, 0);
-            let two = [&run[..], &other].join(&foreign);
-            for sequences in [vec![run.clone()], vec![two], vec![run.clone(), other, run]] {
-                let mut file = drawn_fastq_of(&mut random, &sequences);
-                check_add(&mut book, &mut table, FASTQ, &file, 5).expect("a file without damage");
-                let last = file.iter().rposition(|byte| !byte.is_ascii_whitespace()).expect("a quality byte");
-                file[last] = 127;
-                let right = refused(17, last as u64);
-                assert_eq!(check_add(&mut book, &mut table, FASTQ, &file, 5), right, "{settings}: {length}");
-            }
+    check_about_batches(73, |random, book, table, [run, other, two]| {
+        for sequences in [&[run][..], &[two], &[run, other, run]] {
+            let mut file = drawn_fastq_of(random, sequences);
+            check_add(book, table, FASTQ, &file, 5).expect("a file without damage");
+            let last = file.iter().rposition(|byte| !byte.is_ascii_whitespace()).expect("a quality byte");
+            file[last] = 127;
+            let right = refused(17, last as u64);
+            assert_eq!(check_add(book, table, FASTQ, &file, 5), right, "a run of {}", run.len());
         }
-        check_sum(&book, &table);
-    }
+    });
 }
 
 /// A first line pushes the others forward byte by byte, over multiples of 1,024 and 4,096: a whole file and one

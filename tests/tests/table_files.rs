@@ -12,22 +12,38 @@ use kmer_tests::tables::*;
 
 #[test]
 fn runs_about_a_batch() {
-    let mut random = Random::new(34);
-    for settings in some_settings() {
-        let foreign = foreign_letters(&settings.letters)[0];
-        let (mut book, mut table) = cleared(&settings, 2);
-        for length in lengths_about_batches(settings.k) {
-            let run = drawn_letters(&mut random, &settings, length, 0);
-            let other = drawn_letters(&mut random, &settings, BATCH - 1, 0);
-            let lines: Vec<&[u8]> = run.chunks(64).collect();
-            let two = [&run[..], &other].join(&foreign);
-            let records = [&run[..], b"\n>\n", &other, b"\r\n>second\r\n", &run].concat();
-            for sequence in [run.clone(), lines.join(&b"\r\n"[..]), two, records] {
-                check_add(&mut book, &mut table, FASTA, &record(&sequence), 5)
-                    .expect("a file without damage");
-            }
+    check_about_batches(34, |_, book, table, [run, other, two]| {
+        let lines: Vec<&[u8]> = run.chunks(64).collect();
+        let records = [run, b"\n>\n", other, b"\r\n>second\r\n", run].concat();
+        for sequence in [run, &lines.join(&b"\r\n"[..]), two, &records] {
+            check_add(book, table, FASTA, &record(sequence), 5).expect("a file without damage");
         }
-        check_sum(&book, &table);
+    });
+}
+
+/// Header lines are passed over in blocks of 16 bytes: headers of every length over three of them, from every
+/// offset in a block, with either line end and cut off by the file's end. ACGT under complement, k 2.
+#[test]
+fn headers_of_every_length_about_a_block_of_16() {
+    let settings = two_bit_settings(2);
+    for (before, length) in (0..16).flat_map(|before| (0..=50).map(move |length| (before, length))) {
+        let header = [&vec![b'\n'; before][..], b">", &vec![b'>'; length]].concat();
+        assert_eq!(check_file(&settings, FASTA, &header), Ok([1, 0, 0, 0, 0]), "{before}, {length}");
+        for end in [&b"\n"[..], b"\r\n"] {
+            let file = [&header[..], end, b"ACGT"].concat();
+            assert_eq!(
+                check_file(&settings, FASTA, &file),
+                Ok([1, 4, 0, 1, 3]),
+                "{before}, {length}, {end:?}"
+            );
+            let stray = [&header[..], end, b"AC*"].concat();
+            let place = (header.len() + end.len() + 2) as u64;
+            assert_eq!(
+                check_file(&settings, FASTA, &stray),
+                refused(10, place),
+                "{before}, {length}, {end:?}"
+            );
+        }
     }
 }
 

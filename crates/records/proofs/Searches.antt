@@ -1,12 +1,14 @@
--- One step of a search that the record reader makes, for a header or for LF, and what each of its functions answers, from the definitions.
-use mathlib.Core.Path.{_≡_}
-use Prim.Native.Nat.{ℕ, suc, _+_, _-_, _<_, _≤_}
+-- A search that the record reader makes, for a header or for LF, step by step and whole, and what each of its functions answers, from the definitions.
+use mathlib.Core.Path.{_≡_, refl, sym, _∙_}
+use Prim.Native.Nat.{ℕ, zero, suc, _+_, _-_, _<_, _≤_}
 use native.Mathlib.Numerals.{add-one}
 use native.Mathlib.Omega.{arith}
 use mathlib.Core.Bool.{Bool, true, false}
 use mathlib.Core.List.{List}
 use lib.ListN.{length, getD}
-use borrow.Author.Tests.{eq-eqb, ne-eqb, lt-ltb, le-ltb}
+use lib.Dec.{ltb}
+use borrow.Author.Tests.{eq-eqb, ne-eqb, lt-ltb, le-ltb, ltb-true, ltb-false}
+use Rattle.lines.specs.Needs.{LineEnd}
 use Rattle.records.specs.declared.Found.the-variants.{Record, Nothing}
 use Rattle.records.specs.Records.{isLf, isHeader, firstFrom, headerAt, lineEnd, recordTo, recordFrom}
 
@@ -29,6 +31,35 @@ module _ (test : ℕ → Bool) (end i : ℕ) where
   pub first-none : end ≤ i → firstFrom test i (end - i) ≡ i
   unfolding firstFrom
   first-none h = rw (none-left h)
+
+-- The whole search: e is the first place that passes, or the end.
+first-is : (test : ℕ → Bool) (end e : ℕ) → e ≤ end → (e < end → test e ≡ true) → (d i : ℕ) → i + d ≡ e
+    → ((j : ℕ) → i ≤ j → j < e → test j ≡ false) → firstFrom test i (end - i) ≡ e
+first-is test end e h there zero i z none = let same : i ≡ e = omega arith in rw same (at-last (ltb e end) refl)
+  where
+    at-last : (t : Bool) → ltb e end ≡ t → firstFrom test e (end - e) ≡ e
+    at-last true g = let below = ltb-true e end g in first-here test end e below (there below)
+    at-last false g = first-none test end e (ltb-false e end g)
+first-is test end e h there (suc d) i z none =
+    first-next test end i (omega arith) (none i (omega arith) (omega arith))
+    ∙ first-is test end e h there d (i + 1) (omega arith) (λ j x y. none j (omega arith) y)
+
+-- The end of a header's line, as `lines::line_end` finds it.
+pub line-end-is : {file : List ℕ} {h e : ℕ} → h < length file → LineEnd file (h + 1) e → e ≡ lineEnd file h
+line-end-is {file} {h} {e} g E =
+    let N = E .none-before in
+    let on = N .on in
+    sym
+    (first-is
+    (isLf file)
+    (length file)
+    e
+    (N .inside (omega arith))
+    (λ x. eq-eqb _ 10 (E .there x))
+    (e - (h + 1))
+    (h + 1)
+    (omega arith)
+    (λ j x y. ne-eqb _ 10 (N .bytes j x y)))
 
 module _ (file : List ℕ) (i : ℕ) where
   pub no-mark : (getD file i 0 ≡ 62 → ⊥) → false ≡ isHeader file i

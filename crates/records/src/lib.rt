@@ -2,7 +2,7 @@
 ghost use mathlib.Core.Path.{_≡_};
 ghost use Prim.Native.Nat.{_<_, _≤_};
 ghost use lib.ListN.{length};
-ghost use Rattle.records.specs.Records.{isHeader, headerAt, lineEnd, recordTo, recordFrom, offsetAfter};
+ghost use Rattle.records.specs.Records.{isHeader, headerAt, recordTo, recordFrom, offsetAfter};
 
 // A record as the offset and length of its header line and of what follows it.
 pub enum Found {
@@ -49,21 +49,6 @@ fn header_at(file: &[u8], at: usize) -> usize
     i
 }
 
-// The LF that ends the line of the header at h; the file's length where there is none.
-fn line_end(file: &[u8], h: usize) -> usize
-    requires { ⌜ h < length (now file) ⌝ }
-    ensures { λ r. ⌜ (r ≡ lineEnd (now (file .entry)) h) × (h < r) × (r ≤ length (now (file .entry))) ⌝ }
-{
-    let mut i = h + 1;
-    while i < file.len() {
-        if file[i] == b'\n' {
-            return i;
-        }
-        i += 1;
-    }
-    i
-}
-
 // The record whose header starts at h and whose header line's LF is at e, the file's length where the file's end cuts it off.
 fn record_to(file: &[u8], h: usize, e: usize) -> Found
     requires { ⌜ (h < e) × (e ≤ length (now file)) ⌝ }
@@ -101,7 +86,7 @@ pub fn record_at(file: &[u8], at: usize) -> Found
 {
     let h = header_at(file, at);
     if h < file.len() {
-        let e = line_end(file, h);
+        let e = lines::line_end(file, h + 1);
         record_to(file, h, e)
     } else {
         Found::Nothing
