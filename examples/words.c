@@ -103,6 +103,14 @@ static void an_odd_alphabet(void)
     print_word(&three, 15, LONGEST);
 }
 
+/* RNA: U is read as T where the letters have T and no U; under ACGU it is a letter of its own, and T is none. */
+static void rna(void)
+{
+    const char *const two[] = {"UA", "TA"};
+    print_codes(&(struct settings){"ACGT", 2, KMER_COMPLEMENT}, two, COUNT(two));
+    print_codes(&(struct settings){"ACGU", 2, KMER_COMPLEMENT}, two, COUNT(two));
+}
+
 static void some_words(void)
 {
     const struct settings longest = {"ACGT", 31, KMER_COMPLEMENT};
@@ -138,6 +146,7 @@ int main(void)
     some_codes();
     some_words();
     an_odd_alphabet();
+    rna();
     some_refusals();
     return 0;
 }

@@ -10,6 +10,9 @@
  * Settings, the first arguments of every call (kmer_codes_two_bit takes only k):
  *   letters, letters_len  the alphabet: 2 to 16 different capitals A to Z, one byte each, no end byte.
  *                         A letter's rank is its place in this list, from 0. s is their number. DNA is ACGT.
+ *                         Words, sequences and files may have small letters, which count as their capitals;
+ *                         and where the letters have T and no U, U counts as T in them, so that RNA is read
+ *                         under ACGT. What is written has the letters of this list alone.
  *   k                     the letters in a word: at least 1, and s^k at most 2^62. The largest k is 62
  *                         for two letters, 39 for three, 31 for four, 15 for sixteen.
  *   mirror                KMER_REVERSAL or KMER_COMPLEMENT. Under the latter the letter of rank i pairs with
@@ -89,8 +92,8 @@ enum kmer_grounds {
 
 /*
  * Codes a word.
- *   word, word_len  the k-mer, k bytes. A small letter counts as its capital. It need not be
- *                   canonical: a word and its mirror have the same code.
+ *   word, word_len  the k-mer, k bytes. A small letter counts as its capital, and U as T where the letters
+ *                   have T and no U. It need not be canonical: a word and its mirror have the same code.
  * Returns the code of the word's class, below 2^62, or 2^63 + the number of the first ground that
  * applies of 1, 2, 4, 5, 9. No P is returned. Nothing is written.
  */
@@ -110,7 +113,7 @@ uint64_t kmer_word(const uint8_t *letters, size_t letters_len, size_t k, uint64_
 
 /*
  * Mirrors a word: its reversal or its reverse complement, as mirror says.
- *   word, word_len  the k-mer, k bytes. A small letter counts as its capital.
+ *   word, word_len  the k-mer, k bytes, as for kmer_code.
  *   out, out_len    the buffer for the mirror, at least k bytes. Its first k bytes receive the mirror,
  *                   in capitals and with no end byte; later bytes keep what they held.
  * Returns k, or 2^63 + P * 256 + the number of the first ground that applies of 1, 2, 4, 5, 7, 9,
@@ -123,7 +126,8 @@ uint64_t kmer_mirror(const uint8_t *letters, size_t letters_len, size_t k, uint6
 /*
  * Codes every window of k letters along a plain sequence.
  *   sequence, sequence_len  the bytes of the sequence, at most 16,777,216. A small letter counts as its
- *                           capital; any byte may stand in it.
+ *                           capital, and U as T where the letters have T and no U; any byte may stand in
+ *                           it.
  *   codes, codes_len        the list for the codes and its length in 64-bit numbers. Its place j, from 0,
  *                           receives the code of the k bytes from place j of the sequence, or KMER_NO_CODE
  *                           where one of them is no letter of the settings; it needs a place for each

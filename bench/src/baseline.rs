@@ -2,12 +2,15 @@
 
 use wontirje::{Mirror, Settings, NO_CODE};
 
-/// The rank of every byte, 255 for none.
+/// The rank of every byte, 255 for none; U has T's where the letters have T and no U.
 pub fn rank_table(letters: &[u8]) -> [u8; 256] {
     let mut table = [255; 256];
     for (rank, &letter) in letters.iter().enumerate() {
         table[letter as usize] = rank as u8;
         table[letter.to_ascii_lowercase() as usize] = rank as u8;
+    }
+    if !letters.contains(&b'U') {
+        (table[b'U' as usize], table[b'u' as usize]) = (table[b'T' as usize], table[b't' as usize]);
     }
     table
 }

@@ -42,7 +42,8 @@ impl Mirror {
 /// ```
 #[derive(Clone, Copy, Debug, PartialEq, Eq)]
 pub struct Settings<'a> {
-    /// 2 to 16 different capitals A to Z, in the order of their ranks.
+    /// 2 to 16 different capitals A to Z, in the order of their ranks. Where they have T and no U, U in words,
+    /// sequences and files is read as T.
     pub letters: &'a [u8],
     /// The letters in a word: at least 1, and s^k at most 2^62.
     pub k: usize,

@@ -19,14 +19,15 @@ pub struct Code(pub u64);
 const LONGEST: usize = 62;
 
 impl Settings<'_> {
-    /// The code of a word's class. A small letter counts as its capital. Refused on the grounds 1, 4, 5
-    /// and 9.
+    /// The code of a word's class. A small letter counts as its capital, and U as T where the letters have T
+    /// and no U. Refused on the grounds 1, 4, 5 and 9.
     ///
     /// ```
     /// use wontirje::{Code, Settings};
     /// let settings = Settings::dna(5);
     /// assert_eq!(settings.code(b"AACTT"), Ok(Code(0)));
     /// assert_eq!(settings.code(b"aaGTT"), Ok(Code(0)));
+    /// assert_eq!(settings.code(b"AACUU"), Ok(Code(0)));
     /// assert_eq!(settings.code(b"AANTT").unwrap_err().number, 9);
     /// ```
     ///

@@ -37,6 +37,23 @@ fn settings_by_default_are_those_of_dna_and_k_11() {
     assert_eq!(run.complaints(), ["standard input: records 1, letters 11, foreign 0, edge 10, windows 1"]);
 }
 
+/// Document 02, K2: RNA under letters with T and no U gives the listing of its copy with T. Under letters with U that
+/// is a letter of its own, and T is foreign.
+#[test]
+fn rna_is_counted_as_its_copy_with_t() {
+    let folder = Folder::new();
+    let (rna, dna) = (folder.file("rna.fa", b">a\nACGUN\n>b\nag\ncu\n"), folder.file("dna.fa", EXAMPLE));
+    let told = |file: &Path, numbers: &str| [format!("{}: {numbers}", file.display())];
+    let run = count(&[], &[&rna]);
+    assert_eq!((run.status, run.text()), (0, LISTING));
+    assert_eq!(run.complaints(), told(&rna, NUMBERS));
+    let run = count(&["--letters", "ACGU"], &[&rna]);
+    assert_eq!((run.status, run.text()), (0, &LISTING.replace("ACGT", "ACGU")[..]));
+    assert_eq!(run.complaints(), told(&rna, NUMBERS));
+    let run = count(&["--letters", "ACGU"], &[&dna]);
+    assert_eq!(run.complaints(), told(&dna, "records 2, letters 9, foreign 3, edge 2, windows 4"));
+}
+
 /// Each way to give an option, anywhere in the line.
 #[test]
 fn options_in_every_form() {

@@ -58,6 +58,7 @@ fn the_examples_print_what_the_help_says() {
             let printed = run(&arguments).text().to_string();
             let right = match prints {
                 "1571 twice" => "1571\n1571\n",
+                "3, the code of TA" => "3\n",
                 "TACGGCTA" => "TACGGCTA\n",
                 "2097152 and 8390656 classes" => {
                     "k 11: 2097152 classes, table 8388608 bytes\nk 12: 8390656 classes, table 33562624 bytes\n"
@@ -68,7 +69,7 @@ fn the_examples_print_what_the_help_says() {
             tried += 1;
         }
     }
-    assert_eq!(tried, 3);
+    assert_eq!(tried, 4);
 }
 
 /// One line on standard error, nothing printed, status 2.

@@ -5,7 +5,7 @@ use crate::expected::{coder, settings_ground, Refusal};
 use crate::files::{fastq_sequences, lines, Kind};
 use crate::second_coder::Coder;
 use crate::sequences::MOST_BYTES;
-use crate::settings::Settings;
+use crate::settings::{rank, Settings};
 use std::collections::HashMap;
 
 /// The most classes that a table may have.
@@ -39,8 +39,8 @@ impl Contents {
     /// A letter goes to the last run, and a foreign one ends it.
     fn take_letter(&mut self, letters: &[u8], letter: u8) {
         self.letters += 1;
-        match letters.iter().position(|&other| other == letter.to_ascii_uppercase()) {
-            Some(rank) => self.runs.last_mut().expect("a run").push(rank as u8),
+        match rank(letters, letter) {
+            Some(rank) => self.runs.last_mut().expect("a run").push(rank),
             None => {
                 self.foreign += 1;
                 self.runs.push(Vec::new());

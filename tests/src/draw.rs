@@ -70,10 +70,15 @@ pub fn spelled(letters: &[u8], word: &[u8]) -> Vec<u8> {
     word.iter().map(|&rank| letters[rank as usize]).collect()
 }
 
-/// Ranks as letters, about half of them small: a small letter counts as its capital.
+/// Ranks as letters, about half of them small: a small letter counts as its capital. Where the letters have T and
+/// no U, about half of the T are U, which has T's rank there.
 pub fn spelled_mixed(random: &mut Random, letters: &[u8], word: &[u8]) -> Vec<u8> {
+    let u_for_t = letters.contains(&b'T') && !letters.contains(&b'U');
     let mut spelling = spelled(letters, word);
     for byte in spelling.iter_mut() {
+        if u_for_t && *byte == b'T' && random.below(2) == 1 {
+            *byte = b'U';
+        }
         if random.below(2) == 1 {
             byte.make_ascii_lowercase();
         }

@@ -3,7 +3,7 @@
 
 use crate::draw::{drawn_near_palindrome, drawn_word, spelled_mixed, Random};
 use crate::files::bare;
-use crate::settings::{Settings, COMPLEMENT};
+use crate::settings::{rank, Settings, COMPLEMENT};
 
 /// One of some bytes.
 pub fn drawn_byte(random: &mut Random, bytes: &[u8]) -> u8 {
@@ -13,13 +13,13 @@ pub fn drawn_byte(random: &mut Random, bytes: &[u8]) -> u8 {
 /// Bytes that are no letter of the settings, likely ones first.
 pub fn foreign_bytes(letters: &[u8]) -> Vec<u8> {
     let likely = b"N-Xn*@[`{ \n>".iter().copied();
-    likely.chain(0..=255).filter(|byte| !letters.contains(&byte.to_ascii_uppercase())).collect()
+    likely.chain(0..=255).filter(|&byte| rank(letters, byte).is_none()).collect()
 }
 
 /// The letters that are not in the settings, capitals first.
 pub fn foreign_letters(letters: &[u8]) -> Vec<u8> {
     let all = (b'A'..=b'Z').chain(b'a'..=b'z');
-    all.filter(|letter| !letters.contains(&letter.to_ascii_uppercase())).collect()
+    all.filter(|&letter| rank(letters, letter).is_none()).collect()
 }
 
 /// Letters of words and near palindromes, about half of them small, with one of the foreign bytes about once

@@ -5,7 +5,7 @@ use crate::calls::{self, REFUSED};
 use crate::draw::spelled;
 use crate::lent::filled;
 use crate::second_coder::Coder;
-use crate::settings::{shown, Settings, COMPLEMENT, MOST_WORDS, REVERSAL};
+use crate::settings::{rank, shown, Settings, COMPLEMENT, MOST_WORDS, REVERSAL};
 
 /// A ground for refusing, by its number in document 01, with P.
 #[derive(Clone, Copy, Debug, PartialEq)]
@@ -68,11 +68,10 @@ fn room_ground(settings: &Settings, room: usize) -> Result<(), Refusal> {
 
 /// The ranks of a word, or ground 9 with the first place of a byte that is no letter.
 pub fn ranks(settings: &Settings, word: &[u8]) -> Result<Vec<u8>, Refusal> {
-    let rank = |byte: &u8| settings.letters.iter().position(|letter| *letter == byte.to_ascii_uppercase());
-    let found: Vec<Option<usize>> = word.iter().map(rank).collect();
+    let found: Vec<Option<u8>> = word.iter().map(|&byte| rank(&settings.letters, byte)).collect();
     match found.iter().position(Option::is_none) {
         Some(place) => Err(Refusal { number: 9, p: place as u64 }),
-        None => Ok(found.into_iter().flatten().map(|rank| rank as u8).collect()),
+        None => Ok(found.into_iter().flatten().collect()),
     }
 }
 

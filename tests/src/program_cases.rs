@@ -1,6 +1,6 @@
 //! Reads the stored runs of the counter program, vectors/program.txt, vectors/k10_program.txt,
-//! vectors/k01_program.txt, program/cases.txt and program/fastq.txt, and the lines of program/malformed.txt;
-//! the heads of these files say how they are written.
+//! vectors/k01_program.txt, vectors/k02_program.txt, program/cases.txt and program/fastq.txt, and the lines of
+//! program/malformed.txt; the heads of these files say how they are written.
 
 use crate::program::check_prints;
 use crate::second_counter::answer;
@@ -63,12 +63,15 @@ fn cases(text: &'static str, count: usize) -> Vec<Case> {
 }
 
 /// The stored answers of independent reference implementations: so many to document 01 alone, to document 01
-/// with document 02, K10, and to these with K1.
-pub fn vectors(counts: [usize; 3]) -> Vec<Case> {
-    let mut found = cases(include_str!("../vectors/program.txt"), counts[0]);
-    found.extend(cases(include_str!("../vectors/k10_program.txt"), counts[1]));
-    found.extend(cases(include_str!("../vectors/k01_program.txt"), counts[2]));
-    found
+/// with document 02, K10, to these with K1, and to these with K2.
+pub fn vectors(counts: [usize; 4]) -> Vec<Case> {
+    let files = [
+        include_str!("../vectors/program.txt"),
+        include_str!("../vectors/k10_program.txt"),
+        include_str!("../vectors/k01_program.txt"),
+        include_str!("../vectors/k02_program.txt"),
+    ];
+    files.into_iter().zip(counts).flat_map(|(text, count)| cases(text, count)).collect()
 }
 
 /// The cases whose outputs were worked out by hand.

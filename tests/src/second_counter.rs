@@ -6,7 +6,7 @@
 use crate::book::{table_ground, Numbers};
 use crate::expected::{coder, Refusal};
 use crate::files::{as_fasta, fastq_sequences, Kind};
-use crate::settings::{Settings, COMPLEMENT, REVERSAL};
+use crate::settings::{rank, Settings, COMPLEMENT, REVERSAL};
 use std::collections::BTreeMap;
 
 /// Ground 14 refuses more bytes than this.
@@ -140,8 +140,8 @@ fn read(letters: &[u8], file: &[u8]) -> Result<Contents, Refusal> {
             return Err(Refusal { number: 11, p: place as u64 });
         };
         found.letters += 1;
-        match letters.iter().position(|&letter| letter == byte.to_ascii_uppercase()) {
-            Some(rank) => run.push(rank as u8),
+        match rank(letters, byte) {
+            Some(rank) => run.push(rank),
             None => {
                 found.foreign += 1;
                 found.runs.push(Vec::new());

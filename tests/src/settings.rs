@@ -29,6 +29,16 @@ impl fmt::Display for Settings {
     }
 }
 
+/// A byte's rank: its place among the letters. "A small letter counts as its capital." And "Where the settings have
+/// T and no U, U and u have T's rank" (document 02, K2).
+pub fn rank(letters: &[u8], byte: u8) -> Option<u8> {
+    let place = |capital: u8| letters.iter().position(|&letter| letter == capital).map(|place| place as u8);
+    match byte.to_ascii_uppercase() {
+        b'U' => place(b'U').or(place(b'T')),
+        capital => place(capital),
+    }
+}
+
 /// Bytes as a Rust byte string, so that a failure can be repeated; cut after 80 bytes.
 pub fn shown(bytes: &[u8]) -> String {
     let head = &bytes[..bytes.len().min(80)];

@@ -1,7 +1,7 @@
 //! Reads the stored answers of independent reference implementations for clearing and adding:
 //! vectors/tables.txt, those to document 01 alone, vectors/k10_tables.txt, those to document 01 with document
-//! 02, K10, and vectors/k01_tables.txt, those with K1 too, whose files are FASTQ; the heads of these files say
-//! what their columns are.
+//! 02, K10, vectors/k01_tables.txt, those with K1 too, whose files are FASTQ, and vectors/k02_tables.txt and
+//! vectors/k02_fastq_tables.txt, those with K2 too; the heads of these files say what their columns are.
 
 use crate::expected::Refusal;
 use crate::files::{FASTA, FASTQ};
@@ -9,10 +9,12 @@ use crate::settings::Settings;
 use crate::vectors::{bytes, number, places, rows, StoredFile};
 
 /// The files of stored calls, each with the number that names the kind of its sequence files.
-const TABLES: [(StoredFile, u64); 3] = [
+const TABLES: [(StoredFile, u64); 5] = [
     (("tables.txt", include_str!("../vectors/tables.txt")), FASTA),
     (("k10_tables.txt", include_str!("../vectors/k10_tables.txt")), FASTA),
     (("k01_tables.txt", include_str!("../vectors/k01_tables.txt")), FASTQ),
+    (("k02_tables.txt", include_str!("../vectors/k02_tables.txt")), FASTA),
+    (("k02_fastq_tables.txt", include_str!("../vectors/k02_fastq_tables.txt")), FASTQ),
 ];
 
 /// A stored call.
@@ -47,7 +49,7 @@ fn parsed(fastq: u64, (line, columns): (String, Vec<&str>)) -> Stored {
 }
 
 /// The stored calls of one kind: so many of each file in turn, so that a cut file does not pass.
-pub fn stored(call: &str, counts: [usize; 3]) -> Vec<Stored> {
+pub fn stored(call: &str, counts: [usize; 5]) -> Vec<Stored> {
     let mut found = Vec::new();
     for ((file, fastq), count) in TABLES.into_iter().zip(counts) {
         found.extend(rows(file, call, count).into_iter().map(|row| parsed(fastq, row)));

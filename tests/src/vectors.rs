@@ -1,6 +1,7 @@
 //! Reads the stored answers of independent reference implementations: vectors/words.txt, those to document 01
-//! alone, and vectors/k10_calls.txt, those to document 01 with document 02, K10; the heads of these files say
-//! what their columns are. Holds the second coder and its grounds against them.
+//! alone, vectors/k10_calls.txt, those to document 01 with document 02, K10, and vectors/k02_calls.txt, those with
+//! K2 too; the heads of these files say what their columns are. Holds the second coder and its grounds against
+//! them.
 
 use crate::expected::Refusal;
 use crate::settings::Settings;
@@ -14,8 +15,11 @@ const CODE_BEFORE: u64 = 9;
 /// The name of a file of stored calls, and its text.
 pub type StoredFile = (&'static str, &'static str);
 
-const WORDS: StoredFile = ("words.txt", include_str!("../vectors/words.txt"));
-const K10_CALLS: StoredFile = ("k10_calls.txt", include_str!("../vectors/k10_calls.txt"));
+const CALLS: [StoredFile; 3] = [
+    ("words.txt", include_str!("../vectors/words.txt")),
+    ("k10_calls.txt", include_str!("../vectors/k10_calls.txt")),
+    ("k02_calls.txt", include_str!("../vectors/k02_calls.txt")),
+];
 
 pub struct Vector {
     /// The file and the line in it.
@@ -58,10 +62,9 @@ pub fn rows((name, text): StoredFile, call: &str, count: usize) -> Vec<(String, 
     found
 }
 
-/// The stored calls of one kind: so many of words.txt, then so many of k10_calls.txt.
-pub fn vectors(call: &str, counts: [usize; 2]) -> Vec<Vector> {
-    let rows = [rows(WORDS, call, counts[0]), rows(K10_CALLS, call, counts[1])].concat();
-    rows.into_iter().map(parsed).collect()
+/// The stored calls of one kind: so many of words.txt, then of k10_calls.txt, then of k02_calls.txt.
+pub fn vectors(call: &str, counts: [usize; 3]) -> Vec<Vector> {
+    CALLS.into_iter().zip(counts).flat_map(|(file, count)| rows(file, call, count)).map(parsed).collect()
 }
 
 fn parsed((line, columns): (String, Vec<&'static str>)) -> Vector {

@@ -53,6 +53,15 @@ fn acgt_complement_k_5_and_k_8() {
     assert_eq!(word("ACGT", 8, COMPLEMENT, 1571), "TACGGCTA");
 }
 
+/// Document 02, K2: "ACGT, complement, k 2, UA has code 3"; "Words that we write keep T".
+#[test]
+fn acgt_complement_k_2_with_u() {
+    for spelling in ["UA", "uA", "Ua", "ua", "TA"] {
+        assert_eq!(code("ACGT", 2, COMPLEMENT, spelling), 3, "{spelling}");
+    }
+    assert_eq!(word("ACGT", 2, COMPLEMENT, 3), "TA");
+}
+
 #[test]
 fn acgt_complement_k_1() {
     for (letter, expected) in [("C", 0), ("G", 0), ("A", 1), ("T", 1), ("c", 0), ("t", 1)] {

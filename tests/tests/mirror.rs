@@ -26,6 +26,9 @@ fn known_mirrors() {
         ("ABC", COMPLEMENT, "Bca", "CAB"),
         ("ABC", COMPLEMENT, "cBA", "CBA"),
         ("ACXGT", COMPLEMENT, "GATxaca", "TGTXATC"),
+        ("ACGT", REVERSAL, "UuA", "ATT"),
+        ("ACGT", COMPLEMENT, "AUu", "AAT"),
+        ("ACGU", COMPLEMENT, "AUu", "AAU"),
     ];
     for (letters, mirror, word, expected) in cases {
         let settings = Settings::new(letters.as_bytes(), word.len(), mirror);
@@ -89,7 +92,7 @@ fn long_buffers_and_long_words() {
 /// The stored answers of the independent references, held against the call and the second coder.
 #[test]
 fn stored_mirrors() {
-    for vector in vectors("mirror", [55, 29]) {
+    for vector in vectors("mirror", [54, 29, 1]) {
         let word = bytes(vector.given);
         check_mirror(&vector.settings, &word, vector.room, &vector.stored_bytes());
         vector.check_second_bytes(mirroring(&vector.settings, &word, vector.room));

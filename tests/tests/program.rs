@@ -20,12 +20,12 @@ const FILE: &[u8] = b">a\nACGTN\n>b\nAG\nCT\n";
 
 #[test]
 fn stored_answers() {
-    check_each(&vectors([245, 200, 200]), check_stored);
+    check_each(&vectors([232, 193, 198, 200]), check_stored);
 }
 
 #[test]
 fn cases_worked_out_by_hand() {
-    let cases = cases_by_hand(103);
+    let cases = cases_by_hand(107);
     check_each(&cases, check_stored);
     // The program gives these grounds, and each has its cases.
     for number in [1, 2, 4, 6, 7, 10, 11, 13, 14] {

@@ -197,10 +197,9 @@ fn a_foreign_byte_at_any_place_is_refused_9() {
             for byte in 0..=255u8 {
                 word[place] = byte;
                 let mut changed = ranks.clone();
-                let rank = settings.letters.iter().position(|&letter| letter == byte.to_ascii_uppercase());
-                let expected = match rank {
+                let expected = match rank(&settings.letters, byte) {
                     Some(rank) => {
-                        changed[place] = rank as u8;
+                        changed[place] = rank;
                         Ok(coder.code(&changed) as u64)
                     }
                     None => Err(Refusal { number: 9, p: place as u64 }),

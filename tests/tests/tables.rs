@@ -135,7 +135,7 @@ fn empty_files_are_taken_in() {
 
 #[test]
 fn stored_clears() {
-    for stored in stored("clear", [54, 14, 0]) {
+    for stored in stored("clear", [54, 14, 0, 0, 0]) {
         let mut table = Table::new(&stored.table);
         check_clear(&stored.settings, &mut table);
         assert_eq!(table.slice(), stored.after, "{}", stored.line);
@@ -147,7 +147,7 @@ fn stored_clears() {
 /// The stored answers against the book and the call.
 #[test]
 fn stored_adds() {
-    for stored in stored("add", [49, 19, 240]) {
+    for stored in stored("add", [48, 19, 234, 20, 12]) {
         let mut table = Table::new(&stored.table);
         let ground = table_ground(&stored.settings, false, stored.table.len());
         let counts = ground.map_or(&[][..], |classes| &stored.table[..classes]);

@@ -1,15 +1,15 @@
--- The starred cases of document 01, all of them, and the case of document 02, K10, with more of its kind, as one check of the definitions by computing.
+-- The starred cases of document 01, all of them, and the cases of document 02, K10 and K2, with more of their kind, as one check of the definitions by computing.
 use mathlib.Core.Path.{_≡_, refl}
 use mathlib.Core.List.{List, [], _∷_, map}
 use Prim.Native.Nat.{ℕ, zero, suc}
 use Prim.Native.String.{String}
 use Rattle.laws.specs.Text.{bytes}
 use Rattle.settings.specs.Grounds.{Outcome, given, refused}
-use Rattle.settings.specs.Settings.{isCapital, isIn, differentCapitals, goodLetters, capitalOf, placeFrom, isOdd, halfUp, classes, badSize, settingsGround}
+use Rattle.settings.specs.Settings.{isCapital, isIn, differentCapitals, goodLetters, capitalOf, readsUAsT, readAs, placeFrom, isOdd, halfUp, classes, badSize, settingsGround}
 use Rattle.encoding.specs.Words.{mirrorRank, mirror, plain, canonical}
 use Rattle.encoding.specs.Codes.{pairRank, digits, differingPair, shift, oddShift, codeOfCanonical, code}
 use Rattle.encoding.specs.WordsOfCodes.{wordOfPlain, pairOfRank, middleOfCode, wordOf}
-use Rattle.encoding.specs.Calls.{ranksOf, inCapitals, foreignFrom, codeGround, readGround, coding, reading, wordBytes}
+use Rattle.encoding.specs.Calls.{ranksOf, inCapitals, foreignFrom, codeGround, readGround, coding, reading, wordBytes, mirrorBytes}
 
 -- 0, 1, .. and so on, n numbers from i.
 abbrev numbers : ℕ → ℕ → List ℕ
@@ -61,10 +61,17 @@ pub starred-cases : record {
   odd-39-code : codeOf "ABC" 39 1 "BCCCCCCCCCCCCCCCCCCCCCCCCCCCCCCCCCCCCCA" ≡ given 2026277577090618866;
   odd-39-next : reading (bytes "ABC") 39 1 2026277577090618867 39 ≡ refused (8, 0);
   odd-40 : reading (bytes "ABC") 40 1 0 40 ≡ refused (4, 0);
+  -- Document 02, K2: "ACGT, complement, k 2, UA has code 3", as TA has; "U and u have T's rank"; "Words that we write keep T".
+  read-as-T : codesOf "ACGT" 2 1 ("UA" ∷ "uA" ∷ "TA" ∷ []) ≡ (given 3 ∷ given 3 ∷ given 3 ∷ []);
+  written-with-T : mirrorBytes (bytes "ACGT") 1 (bytes "AUu") ≡ bytes "AAT";
+  -- Letters with T and U, where each has its own rank; with U and no T, where T has none; with neither, where both have none.
+  T-and-U : codesOf "TU" 1 0 ("T" ∷ "U" ∷ "u" ∷ []) ≡ (given 0 ∷ given 1 ∷ given 1 ∷ []);
+  only-U : codesOf "ACGU" 1 0 ("u" ∷ "T" ∷ []) ≡ (given 3 ∷ refused (9, 0) ∷ []);
+  neither : codesOf "AB" 2 0 ("AU" ∷ "BT" ∷ []) ≡ (refused (9, 1) ∷ refused (9, 1) ∷ []);
 }
-unfolding isCapital isIn differentCapitals goodLetters capitalOf placeFrom isOdd halfUp classes badSize settingsGround
+unfolding isCapital isIn differentCapitals goodLetters capitalOf readsUAsT readAs placeFrom isOdd halfUp classes badSize settingsGround
     mirrorRank mirror plain canonical pairRank digits differingPair shift oddShift codeOfCanonical code
-    wordOfPlain pairOfRank middleOfCode wordOf ranksOf inCapitals foreignFrom codeGround readGround coding wordBytes
+    wordOfPlain pairOfRank middleOfCode wordOf ranksOf inCapitals foreignFrom codeGround readGround coding wordBytes mirrorBytes
 starred-cases = record {
   reversal-6 = refl;
   complement-5 = refl;
@@ -84,4 +91,9 @@ starred-cases = record {
   odd-39-code = refl;
   odd-39-next = refl;
   odd-40 = refl;
+  read-as-T = refl;
+  written-with-T = refl;
+  T-and-U = refl;
+  only-U = refl;
+  neither = refl;
 }

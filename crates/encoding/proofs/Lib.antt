@@ -12,5 +12,6 @@ pub mod Bounds
 pub mod ByRanks
 pub mod EqualPairs
 pub mod Palindromes
+pub mod Copies
 pub mod Cases
 pub mod Theorems

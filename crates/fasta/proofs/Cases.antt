@@ -7,7 +7,7 @@ use mathlib.Core.Option.{Option, none, some}
 use mathlib.Core.List.{List, [], _∷_}
 use Rattle.laws.specs.Text.{bytes}
 use Rattle.settings.specs.Grounds.{Ground}
-use Rattle.settings.specs.Settings.{capitalOf, placeFrom, rankIn}
+use Rattle.settings.specs.Settings.{isIn, capitalOf, readsUAsT, readAs, placeFrom, rankIn}
 use Rattle.fasta.specs.declared.Mode.the-variants.{Start, FastqStart}
 use Rattle.fasta.specs.declared.Item.{Item}
 use Rattle.fasta.specs.declared.Item.the-variants.{Opens, Skip, Stray, Letter}
@@ -24,7 +24,7 @@ fileFault file = faultFrom false 0 (items file)
 
 -- Files are read with the letters ACGT and k 2. A case that unfolds one of these computes with all that its `unfolding` line names.
 unfoldable windowsOfFile : List ℕ → List (List ℕ)
-unfolding isLetter lfNext lineItem item next itemsFrom capitalOf placeFrom marks onFirst runs windows windowsOf
+unfolding isLetter lfNext lineItem item next itemsFrom isIn capitalOf readsUAsT readAs placeFrom marks onFirst runs windows windowsOf
 windowsOfFile file = windowsIn (rankIn (bytes "ACGT")) 2 (items file)
 
 unfoldable numbersOfFile : List ℕ → Numbers
@@ -139,6 +139,11 @@ bare-records = refl
 all-foreign : numbersOfFile (bytes ">\nnXACg\nNn") ≡ five 1 7 4 1 2
 unfolding numbersOfFile
 all-foreign = refl
+
+-- Document 02, K2: with the letters ACGT "U and u have T's rank", so that no letter here is foreign.
+rna : numbersOfFile (bytes ">\nUGuA\n") ≡ five 1 4 0 1 3
+unfolding numbersOfFile
+rna = refl
 
 -- "An empty file is taken in with all five numbers 0."
 empty-file : numbersOfFile [] ≡ five 0 0 0 0 0

@@ -1,13 +1,16 @@
--- Windows of a list, from their definition (specs/Windows.antt): the first one, and how many there are. The laws of files and of sequences
--- both rest on these.
+-- Windows of a list, from their definition (specs/Windows.antt): the first one, how many there are, and those of a list that is mapped. The laws of files and
+-- of sequences both rest on these.
 use mathlib.Core.Path.{_≡_, refl, ap, _∙_}
-use mathlib.Core.List.{List, [], _∷_}
+use mathlib.Core.Bool.{Bool, true, false, cond}
+use mathlib.Core.List.{List, [], _∷_, map}
 use Prim.Native.Nat.{ℕ, suc, _+_, _-_, _<_, _≤_}
 use native.Mathlib.Decide.{decLe}
 use native.Mathlib.Omega.{arith}
 use borrow.Author.Tests.{le-leb, lt-leb}
-use lib.ListN.{length, take}
+use lib.Dec.{leb}
+use lib.ListN.{length, length-map, take}
 use Rattle.laws.specs.Windows.{windows}
+use Rattle.laws.proofs.Lists.{map-take}
 
 -- Fewer than k letters have no window.
 pub windows-none : (k : ℕ) (w : List ℕ) → length w < k → windows k w ≡ []
@@ -29,3 +32,14 @@ length-windows k some (x ∷ xs) =
       | yes h ↦ ap length (windows-first k x xs h) ∙ omega (arith, length-windows k some xs)
       | no h ↦ ap length (windows-none k (x ∷ xs) (omega arith)) ∙ omega arith
     ]
+
+-- The windows of a list that is mapped.
+pub windows-mapped : (f : ℕ → ℕ) (k : ℕ) (w : List ℕ) → windows k (map f w) ≡ map (map f) (windows k w)
+unfolding windows
+windows-mapped f k [] = refl
+windows-mapped f k (x ∷ xs) = rw (length-map xs f, map-take f k (x ∷ xs), windows-mapped f k xs) (go (leb k (suc (length xs))))
+  where
+    go : (t : Bool) → cond t (map f (take k (x ∷ xs)) ∷ map (map f) (windows k xs)) (map (map f) (windows k xs))
+        ≡ map (map f) (cond t (take k (x ∷ xs) ∷ windows k xs) (windows k xs))
+    go true = refl
+    go false = refl

@@ -76,7 +76,7 @@ fn drawn_words() {
     show(b"HUZYTELQWOC", 4, 0, b"LwWt", b"EThH");
 }
 
-// An independent reference's answers under complement with odd s, all of them (document 02, K10).
+// An independent reference's answers under complement with odd s (document 02, K10), all of them save one that K2 changed, which is with those of K2.
 
 // Equal words.
 fn equal_words_of_odd_alphabets() {
@@ -178,13 +178,6 @@ fn bad_long_words_of_odd_alphabets() {
         b"ILIaLOTTLTONTLOIAOA",
     );
     show(
-        b"TBPIM",
-        26,
-        1,
-        b"PpITIBMMPBIPBBPIIuPTTPPTPM",
-        b"PpITIBMMPBIPBBPIIuPTTPPTPI",
-    );
-    show(
         b"JSP",
         39,
         1,
@@ -197,6 +190,44 @@ fn bad_long_words_of_odd_alphabets() {
         1,
         b"AACBCBCCAAACBAAAAtCCBCBcCABAAcABUBABACC",
         b"AACBCBCCAAACBAAAAtCCBCBcCABAAcABUBABACC",
+    );
+}
+
+// Where the letters have T and no U, U is read as T (document 02, K2), and the word that comes back is as it was given. The first of two equal words, and
+// letters in which U has its own rank or none.
+fn words_with_u() {
+    show(b"ACGT", 2, 1, b"uA", b"TA");
+    show(b"ACGT", 2, 1, b"TA", b"UA");
+    show(b"ACGT", 2, 1, b"UC", b"TA");
+    show(b"TU", 1, 0, b"U", b"T");
+    show(b"ACGU", 1, 0, b"U", b"T");
+    show(b"ACG", 1, 0, b"U", b"A");
+}
+
+// An independent reference's answers with K2, all of them; and one of those to K10, which K2 changed: both words have a u.
+fn drawn_words_with_u() {
+    show(b"RT", 15, 1, b"TRTRuTRRTRTrTTR", b"RRRTTRRTRRTRTTT");
+    show(b"ACGT", 2, 0, b"Tu", b"CG");
+    show(
+        b"TN",
+        49,
+        1,
+        b"nTNNttNTNNNNTNtNnTnNTTTTTNNNNNTtNNTTTTNTTTTnTtTNn",
+        b"TNTnNTTNNNNtnuNNNNTTnTNNTNnTttNTTtNTNNTNTNNTtNNNT",
+    );
+    show(
+        b"IMZVSHDLRTX",
+        17,
+        0,
+        b"SHrLZNXIZLsSMVHhS",
+        b"VLvLRMVUIVMHRHTHZ",
+    );
+    show(
+        b"TBPIM",
+        26,
+        1,
+        b"PpITIBMMPBIPBBPIIuPTTPPTPM",
+        b"PpITIBMMPBIPBBPIIuPTTPPTPI",
     );
 }
 
@@ -213,4 +244,6 @@ fn main() {
     lower_first_long_words_of_odd_alphabets();
     bad_words_of_odd_alphabets();
     bad_long_words_of_odd_alphabets();
+    words_with_u();
+    drawn_words_with_u();
 }

@@ -6,7 +6,7 @@ use Prim.Native.String.{String}
 use Rattle.laws.specs.Text.{bytes}
 use Rattle.laws.specs.Windows.{windows}
 use Rattle.lines.specs.Lines.{lines, textOf, firstByteIs}
-use Rattle.settings.specs.Settings.{isCapital, isIn, differentCapitals, goodLetters, capitalOf, placeFrom, isOdd, halfUp, classes, badSize, settingsGround}
+use Rattle.settings.specs.Settings.{isCapital, isIn, differentCapitals, goodLetters, capitalOf, readsUAsT, readAs, placeFrom, isOdd, halfUp, classes, badSize, settingsGround}
 use Rattle.encoding.specs.Words.{mirrorRank, mirror, plain, canonical}
 use Rattle.encoding.specs.Codes.{pairRank, digits, differingPair, shift, oddShift, codeOfCanonical, code}
 use Rattle.encoding.specs.WordsOfCodes.{wordOfPlain, pairOfRank, middleOfCode, wordOf}
@@ -30,7 +30,7 @@ unfolding programText lineText kindByFirstByte surveyText refusedLine fileLine c
     wordBytes inCapitals wordOf wordOfPlain pairOfRank middleOfCode mirrorRank
     addGround readyGround settingsGround goodLetters differentCapitals isCapital isIn
     isOdd halfUp classes badSize tooLong tooMany faultFrom itemsFrom item next lineItem isLetter lfNext
-    recordsIn lettersIn foreignIn oneIfForeign marks runs onFirst windowsOf windows edgesOf edge placeFrom capitalOf windowsOfFile full bump bumps
+    recordsIn lettersIn foreignIn oneIfForeign marks runs onFirst windowsOf windows edgesOf edge placeFrom capitalOf readsUAsT readAs windowsOfFile full bump bumps
     code codeOfCanonical canonical plain mirror digits pairRank differingPair shift oddShift
     reading.readLine reading.lineFrom reading.headOf reading.took reading.lineEnd reading.endAfter reading.nextForm reading.formAt
     reading.formFrom reading.formOf reading.numberOf reading.mirrorNumber reading.sized reading.valueByte reading.stretch

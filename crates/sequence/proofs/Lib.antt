@@ -4,3 +4,4 @@ pub mod Blanks
 pub mod Pieces
 pub mod SequenceGrounds
 pub mod Theorems
+pub mod Copies

@@ -4,6 +4,7 @@ pub mod FirstGround
 pub mod Powers
 pub mod Limits
 pub mod Ranks
+pub mod Copies
 pub mod RankTables
 pub mod Letters
 pub mod Parity

@@ -1,6 +1,7 @@
--- A byte's rank, by what is left of the letters: one turn of the loop of `rank_of`. A rank is below the number of letters.
+-- What a byte is read as, by the tests of `reads_u_as_t` and `read_as`; its rank, by what is left of the letters: one turn of the loop of `rank_of`. A rank
+-- is below the number of letters.
 use mathlib.Core.Path.{_≡_, sym}
-use mathlib.Core.Bool.{Bool, cond, true, false}
+use mathlib.Core.Bool.{Bool, cond, true, false, and-true, and-false}
 use mathlib.Core.Option.{some, none}
 use mathlib.Core.List.{List, [], _∷_}
 use Prim.Native.Nat.{ℕ, _<_, _+_, _≤_, suc}
@@ -10,7 +11,33 @@ use borrow.Author.Tests.{eq-eqb, ne-eqb}
 use lib.Dec.{eqb}
 use lib.ListN.{length, getD, drop, drop-of-length-le}
 use lib.Seq.{drop-cons}
-use Rattle.settings.specs.Settings.{placeFrom, rankIn}
+use Rattle.settings.specs.Settings.{isIn, capitalOf, readsUAsT, readAs, placeFrom, rankIn}
+
+-- ---- what a byte is read as
+
+module _ (letters : List ℕ) where
+  pub with-U : true ≡ isIn 85 letters → false ≡ readsUAsT letters
+  unfolding readsUAsT
+  with-U e = rw (← e, and-false (isIn 84 letters))
+
+  pub without-U : false ≡ isIn 85 letters → isIn 84 letters ≡ readsUAsT letters
+  unfolding readsUAsT
+  without-U e = rw (← e, and-true (isIn 84 letters))
+
+  module _ (b : ℕ) where
+    pub read-U-as-T : capitalOf b ≡ 85 → true ≡ readsUAsT letters → 84 ≡ readAs letters b
+    unfolding readAs
+    read-U-as-T u reads = rw (u, ← reads)
+
+    pub read-U : false ≡ readsUAsT letters → capitalOf b ≡ readAs letters b
+    unfolding readAs
+    read-U reads = rw (← reads, and-false (eqb (capitalOf b) 85))
+
+    pub read-other : (capitalOf b ≡ 85 → ⊥) → capitalOf b ≡ readAs letters b
+    unfolding readAs
+    read-other no-u = rw (ne-eqb (capitalOf b) 85 no-u)
+
+-- ---- its place among the letters
 
 module _ (l : List ℕ) (i u : ℕ) where
   pub place-here : i < length l → getD l i 0 ≡ u → placeFrom i u (drop i l) ≡ some i

@@ -1,4 +1,4 @@
--- Document 01, "Letters, k and mirror", with the grounds for refusing settings, as document 02, K10 changes them.
+-- Document 01, "Letters, k and mirror", with the grounds for refusing settings, as document 02, K10 changes them, and a byte's rank, as K2 does.
 use Prim.Native.Nat.{ℕ, zero, suc, _+_, _-_, _/_, _%_, _^_}
 use mathlib.Core.Path.{_≡_}
 use mathlib.Core.Bool.{Bool, true, false, not, cond, _&&_, _||_}
@@ -42,9 +42,17 @@ unfoldable pub placeFrom : ℕ → ℕ → List ℕ → Option ℕ
 placeFrom n b [] = none
 placeFrom n b (l ∷ ls) = cond (eqb l b) (some n) (placeFrom (suc n) b ls)
 
--- "a letter's rank is its place in that list, from 0"; none for a byte that is no letter of the settings.
+-- "Where the settings have T and no U" (document 02, K2): T is 84, U 85.
+unfoldable pub readsUAsT : List ℕ → Bool
+readsUAsT letters = isIn 84 letters && not (isIn 85 letters)
+
+-- There "U and u have T's rank": the capital that a byte is read as.
+unfoldable pub readAs : List ℕ → ℕ → ℕ
+readAs letters b = cond (eqb (capitalOf b) 85 && readsUAsT letters) 84 (capitalOf b)
+
+-- "a letter's rank is its place in that list, from 0"; none for a byte that is read as no letter of the settings.
 abbrev pub rankIn : List ℕ → ℕ → Option ℕ
-rankIn letters b = placeFrom 0 (capitalOf b) letters
+rankIn letters b = placeFrom 0 (readAs letters b) letters
 
 -- "Mirror 0 is reversal. Mirror 1 is reverse complement": asked only of 0 and 1.
 abbrev pub mirrorOf : ℕ → Mirror

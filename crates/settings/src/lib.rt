@@ -5,7 +5,7 @@ ghost use Prim.Native.Nat.{_^_, _<_, _≤_, min};
 ghost use lib.ListN.{length, drop};
 ghost use Rattle.settings.specs.Grounds.{groundOf, ground, outcome};
 ghost use Rattle.settings.specs.RankTables.{asRank, RankTable};
-ghost use Rattle.settings.specs.Settings.{classes, capitalOf, rankIn, isIn, goodLetters, settingsGround, badSize, settingsFor, settingsOf, ofChecked, ofRank};
+ghost use Rattle.settings.specs.Settings.{classes, capitalOf, readsUAsT, readAs, rankIn, isIn, goodLetters, settingsGround, badSize, settingsFor, settingsOf, ofChecked, ofRank};
 
 // What the other strand makes of a word: read backwards, or read backwards with each rank i replaced by s - 1 - i.
 pub enum Mirror {
@@ -120,11 +120,34 @@ fn capital(b: u8) -> u8
     b
 }
 
+// Whether the letters have T and no U, so that U is read as T.
+fn reads_u_as_t(letters: &[u8]) -> bool
+    ensures { λ r. ⌜ r ≡ readsUAsT (now (letters .entry)) ⌝ }
+{
+    if is_in(letters, 0, 85) {
+        return false;
+    }
+    is_in(letters, 0, 84)
+}
+
+// The capital that a byte is read as: its own, save that U is T where the letters have T and no U.
+fn read_as(letters: &[u8], b: u8) -> u8
+    ensures { λ r. ⌜ r ≡ readAs (now (letters .entry)) b ⌝ }
+{
+    let c = capital(b);
+    if c == 85 {
+        if reads_u_as_t(letters) {
+            return 84;
+        }
+    }
+    c
+}
+
 // The rank of a byte among the settings' letters.
 pub fn rank_of(letters: &[u8], b: u8) -> Rank
     ensures { λ r. ⌜ ofRank r ≡ rankIn (now (letters .entry)) b ⌝ }
 {
-    let u = capital(b);
+    let u = read_as(letters, b);
     let mut i = 0;
     while i < letters.len() {
         if letters[i] == u {

@@ -8,7 +8,7 @@ use lib.ListN.{replicate}
 use Rattle.laws.specs.Text.{bytes}
 use Rattle.lines.specs.Lines.{lines, textOf, firstByteIs}
 use Rattle.settings.specs.Grounds.{Outcome, given, refused}
-use Rattle.settings.specs.Settings.{isCapital, isIn, differentCapitals, goodLetters, capitalOf, placeFrom, isOdd, halfUp, classes, badSize, settingsGround}
+use Rattle.settings.specs.Settings.{isCapital, isIn, differentCapitals, goodLetters, capitalOf, readsUAsT, readAs, placeFrom, isOdd, halfUp, classes, badSize, settingsGround}
 use Rattle.encoding.specs.Words.{Complement, mirrorRank, mirror, plain, canonical}
 use Rattle.encoding.specs.Codes.{pairRank, digits, differingPair, shift, oddShift, codeOfCanonical, code}
 use Rattle.fasta.specs.declared.Numbers.{Numbers}
@@ -32,19 +32,19 @@ answerTo file = bookAnswer (bytes "ACGT") 2 1 clearedBook file
 example-answer : answerTo example ≡ given (record { records = 2; letters = 9; foreign = 1; edge = 2; windows = 6 })
 unfolding addGround readyGround settingsGround goodLetters differentCapitals isCapital isIn isOdd halfUp classes badSize tooLong tooMany faultFrom
     itemsFrom item next lineItem isLetter lfNext recordsIn lettersIn foreignIn oneIfForeign marks runs onFirst windowsOf windows edgesOf edge placeFrom
-    capitalOf windowsOfFile full allWords withFront canonicalOnes sameWord canonical plain mirror mirrorRank
+    capitalOf readsUAsT readAs windowsOfFile full allWords withFront canonicalOnes sameWord canonical plain mirror mirrorRank
 example-answer = refl
 
 -- "(count CG 1) (count GC 1) (count AG 2) (count AC 2)": these are the codes 1, 2, 4 and 5 of the ten.
 example-counts : bumps (replicate 10 0) (places (bytes "ACGT") 2 1 example) ≡ 0 ∷ 1 ∷ 1 ∷ 0 ∷ 2 ∷ 2 ∷ 0 ∷ 0 ∷ 0 ∷ 0 ∷ []
-unfolding bumps bump windowsOfFile windowsOf windows runs marks onFirst itemsFrom item next lineItem isLetter lfNext placeFrom capitalOf code codeOfCanonical
+unfolding bumps bump windowsOfFile windowsOf windows runs marks onFirst itemsFrom item next lineItem isLetter lfNext placeFrom isIn capitalOf readsUAsT readAs code codeOfCanonical
     canonical plain mirror mirrorRank digits pairRank differingPair shift oddShift halfUp isOdd
 example-counts = refl
 
 -- The same in the book, by the canonical words AA AC AG AT CA CC CG GA GC TA.
 example-tallies : tallies 4 Complement 2 (bookAfter (bytes "ACGT") 2 1 clearedBook example) ≡ 0 ∷ 2 ∷ 2 ∷ 0 ∷ 0 ∷ 0 ∷ 1 ∷ 0 ∷ 1 ∷ 0 ∷ []
 unfolding addGround readyGround settingsGround goodLetters differentCapitals isCapital isIn isOdd halfUp classes badSize tooLong tooMany faultFrom
-    itemsFrom item next lineItem isLetter lfNext marks runs onFirst windowsOf windows placeFrom capitalOf windowsOfFile full allWords
+    itemsFrom item next lineItem isLetter lfNext marks runs onFirst windowsOf windows placeFrom capitalOf readsUAsT readAs windowsOfFile full allWords
     withFront canonicalOnes sameWord sameClass hits canonical plain mirror mirrorRank
 example-tallies = refl
 
@@ -73,7 +73,7 @@ abbrev reads : File
 reads = fileOf Fastq (bytes "@AC\nACGTN\n+GT\nACGTA\n@b\nAGCT\n+\nCCCC")
 
 reads-counts : bumps (replicate 10 0) (places (bytes "ACGT") 2 1 reads) ≡ 0 ∷ 1 ∷ 1 ∷ 0 ∷ 2 ∷ 2 ∷ 0 ∷ 0 ∷ 0 ∷ 0 ∷ []
-unfolding bumps bump windowsOfFile windowsOf windows runs marks onFirst itemsFrom item next lineItem isLetter lfNext placeFrom capitalOf code codeOfCanonical
+unfolding bumps bump windowsOfFile windowsOf windows runs marks onFirst itemsFrom item next lineItem isLetter lfNext placeFrom isIn capitalOf readsUAsT readAs code codeOfCanonical
     canonical plain mirror mirrorRank digits pairRank differingPair shift oddShift halfUp isOdd
 reads-counts = refl
 
@@ -83,7 +83,7 @@ mixed-answers : bookAnswers (bytes "ACGT") 2 1 clearedBook
     ≡ answerTo example ∷ answerTo example ∷ refused (10, 0) ∷ refused (16, 19) ∷ []
 unfolding addGround readyGround settingsGround goodLetters differentCapitals isCapital isIn isOdd halfUp classes badSize tooLong tooMany faultFrom
     itemsFrom item next lineItem isLetter lfNext recordsIn lettersIn foreignIn oneIfForeign marks runs onFirst windowsOf windows edgesOf edge placeFrom
-    capitalOf windowsOfFile full allWords withFront canonicalOnes sameWord sameClass hits canonical plain mirror mirrorRank bookAnswers lines textOf firstByteIs
+    capitalOf readsUAsT readAs windowsOfFile full allWords withFront canonicalOnes sameWord sameClass hits canonical plain mirror mirrorRank bookAnswers lines textOf firstByteIs
     isThere unlessAt firstFailing isQuality recordFault fastqFault
 mixed-answers = refl
 

@@ -11,7 +11,8 @@ wontirje counts canonical k-mers: a word of k letters and its reverse complement
   wontirje --version           print the version
 
 Settings of all but histogram, and what they are when not given:
-  --letters ACGT        2 to 16 different capitals, in the order of their ranks
+  --letters ACGT        2 to 16 different capitals, in the order of their ranks; where T is one and U is not,
+                        U is read as T and printed as T (so RNA needs no other letters)
   --k 11                letters in a word (-k 11 will do too)
   --mirror complement   or reversal: what a word is one class with; under complement the first letter pairs
                         with the last, and so on inwards, a middle one with itself (with N: ACNGT, k to 10)
@@ -31,9 +32,9 @@ wontirje count [--letters ACGT] [--k 11] [--mirror complement] [--kind KIND] [--
 Clears a table, adds each file in order, and prints the listing: the survey line, a line for each class with
 its count, and the total. - is standard input. A file whose first byte is @ is taken for FASTQ, any other for
 FASTA; both may be given together. Of FASTQ, four lines a record, only the sequence line counts. On standard
-error is a line for each file: its records, letters, foreign letters (not in --letters), edge letters (too
-near a run's end to begin a word) and windows (words counted); or why it was refused, where, and what to do.
-A refused file changes no count and does not stop the others.
+error is a line for each file: its records, letters, foreign letters (not in --letters; U is read as T where
+they have T and no U), edge letters (too near a run's end to begin a word) and windows (words counted); or
+why it was refused, where, and what to do. A refused file changes no count and does not stop the others.
 
   --kind KIND     fasta or fastq: take all files for this kind, whatever their first byte is
   --output FILE   write the listing to a new file, which appears only when it is whole; a file that is there
@@ -58,6 +59,7 @@ instead.
 
 Example:
   wontirje code --k 8 TACGGCTA TAGCCGTA             prints 1571 twice
+  wontirje code --k 2 UA                            prints 3, the code of TA
 ";
 
 pub const WORD: &str = "\

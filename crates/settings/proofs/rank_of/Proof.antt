@@ -16,8 +16,8 @@ Inv-loop letters b u i₀ i = (i ≤ length letters) × (placeFrom 0 u letters �
 abbrev μ-loop : tie.MeasureT-loop
 μ-loop letters b u i₀ i = length letters - i
 
-capital-requires : tie.Need-capital-requires Inv-loop μ-loop
-capital-requires c κs = search needs
+read-as-requires : tie.Need-read-as-requires Inv-loop μ-loop
+read-as-requires c κs = search needs
 
 loop-holds : tie.Need-loop-holds Inv-loop μ-loop
 loop-holds c = (omega arith, refl)
@@ -30,9 +30,9 @@ returns c =
     let at = c .before .before .before in
     let l = now (at .before .before .before .args .letters) in
     let i = at .loop .i in
-    let u = at .before .capital .result in
+    let u = at .before .read-as .result in
     sym (place-here l i u (c .before .before .loop-test .taken) (c .if1 .taken)) ∙ sym (at .loop .inv .1)
-    ∙ ap (λ (v : ℕ). placeFrom 0 v l) (at .before .capital .ensures)
+    ∙ ap (λ (v : ℕ). placeFrom 0 v l) (at .before .read-as .ensures)
 
 add-i : tie.Need-add-i Inv-loop μ-loop
 add-i c = omega arith
@@ -49,9 +49,9 @@ returns-2 : tie.Need-returns-2 Inv-loop μ-loop
 returns-2 c =
     let at = c .before in
     let l = now (at .before .before .before .args .letters) in
-    let u = at .before .capital .result in
+    let u = at .before .read-as .result in
     sym (place-none l (at .loop .i) u (c .loop-test .left)) ∙ sym (at .loop .inv .1)
-    ∙ ap (λ (v : ℕ). placeFrom 0 v l) (at .before .capital .ensures)
+    ∙ ap (λ (v : ℕ). placeFrom 0 v l) (at .before .read-as .ensures)
 
 pub rank-of-spec : {M : Type 1} → statement M
 rank-of-spec =
@@ -59,7 +59,7 @@ rank-of-spec =
     (tie.spec
     Inv-loop
     μ-loop
-    capital-requires
+    read-as-requires
     loop-holds
     shared-slice-read-if1
     returns

@@ -1,0 +1,47 @@
+-- Copies with T for U (document 02, K2) through the C calls: where the settings have T and no U, two lists of `kmer_add` calls from the same table, the one with
+-- copies in place of some or all of the other's files, return the same numbers and leave the same lists and the same table (`copies-from-c`). From the laws
+-- of copies in the crates files and tally, since what a call returns and leaves is said by its grounds and the file's windows and numbers.
+use mathlib.Core.Path.{_≡_, sym, ap₂, _∙_}
+use mathlib.Core.Bool.{true}
+use mathlib.Core.Option.{Option}
+use mathlib.Core.List.{List, Forall₂}
+use Prim.Native.Nat.{ℕ, _≤_}
+use lib.ListN.{length}
+use Rattle.settings.specs.Grounds.{Ground, overwritten}
+use Rattle.settings.specs.Settings.{readsUAsT}
+use Rattle.fasta.specs.declared.Numbers.{Numbers}
+use Rattle.files.specs.File.{File}
+use Rattle.files.specs.Copies.{FileCopy}
+use Rattle.files.proofs.Copies.{same-file-fault, same-file-numbers}
+use Rattle.tally.proofs.Copies.{same-calls, same-windows-of-file, same-ready-ground}
+use Rattle.kmer.specs.Adding.{addIntoGround, fiveNumbers, AddsInto}
+use Rattle.kmer.specs.Demand.{AddCalls}
+use Rattle.kmer.specs.Copies.{AskedAlike}
+
+module _ (letters : List ℕ) (reads : readsUAsT letters ≡ true) (k m : ℕ) where
+  module _ {file copy : File} (C : FileCopy file copy) where
+    same-ground : (t : List ℕ) (room : ℕ) → addIntoGround letters k m t file room ≡ addIntoGround letters k m t copy room
+    unfolding addIntoGround
+    same-ground t room = rw (same-windows-of-file letters reads k m C, same-ready-ground letters reads k m C (length t), same-file-fault C)
+
+    copy-added-into : {t lent t′ u′ new new′ : List ℕ} {r r′ : ℕ} → AddsInto letters k m t file lent r t′ new → AddsInto letters k m t copy lent r′ u′ new′
+        → _≡_ {A = ℕ × List ℕ} (r, new) (r′, new′) × (t′ ≡ u′)
+    copy-added-into {t} {lent} A B =
+        let ground = same-ground t (length lent) in
+        let list = ap₂ (λ (g : Option Ground) (n : Numbers). overwritten g (fiveNumbers n) lent) ground (same-file-numbers C letters reads k) in (
+          ap₂ (λ (x : ℕ) (l : List ℕ). (x, l)) (A .returns ∙ rw ground (sym (B .returns))) (A .answer-left ∙ list ∙ sym (B .answer-left)),
+          A .table-left ∙ rw (ground, same-windows-of-file letters reads k m C) (sym (B .table-left)),
+        )
+
+  call-alike : (t : List ℕ) (c d : File × List ℕ) (a b : ℕ × List ℕ) (t′ u′ : List ℕ) → AskedAlike c d
+      → (5 ≤ length (c .1)) × AddsInto letters k m t (c .0) (c .1) (a .0) t′ (a .1)
+      → (5 ≤ length (d .1)) × AddsInto letters k m t (d .0) (d .1) (b .0) u′ (b .1)
+      → (a ≡ b) × (t′ ≡ u′)
+  call-alike t c d a b t′ u′ C A B =
+      let other : AddsInto letters k m t (d .0) (c .1) (b .0) u′ (b .1) = rw (C .1) (B .1) in
+      copy-added-into (C .0) (A .1) other
+
+  pub copies-from-c : {asked asked′ : List (File × List ℕ)} → Forall₂ AskedAlike asked asked′
+      → {t t′ u′ : List ℕ} {told told′ : List (ℕ × List ℕ)} → AddCalls letters k m t asked told t′ → AddCalls letters k m t asked′ told′ u′
+      → (told ≡ told′) × (t′ ≡ u′)
+  copies-from-c = same-calls _ AskedAlike call-alike

@@ -1,0 +1,10 @@
+-- Document 02, K2, "a file and its copy with T for U", of calls from C.
+use mathlib.Core.Path.{_≡_}
+use mathlib.Core.List.{List}
+use Prim.Native.Nat.{ℕ}
+use Rattle.files.specs.File.{File}
+use Rattle.files.specs.Copies.{FileCopy}
+
+-- What two `kmer_add` calls are asked with: a file and its copy, and the same lent list.
+abbrev pub AskedAlike : (asked asked′ : File × List ℕ) → Type 0
+AskedAlike asked asked′ = FileCopy (asked .0) (asked′ .0) × (asked .1 ≡ asked′ .1)

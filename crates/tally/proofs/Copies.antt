@@ -1,0 +1,61 @@
+-- "There a file and its copy with T for U must now give equal tables" (document 02, K2): where the settings have T and no U, an add of a file and an add of its
+-- copy to the same table give the same answer, numbers or refusal and P, and leave the same table (`copy-added`); and so do two lists of adds, the one with
+-- copies in place of some or all of the other's files (`copies-added`). From the laws of copies in the crate files; list by list from `same-calls`.
+use mathlib.Core.Path.{_≡_, refl, sym, ap₂, _∙_}
+use mathlib.Core.Bool.{true}
+use mathlib.Core.List.{List, _∷_, Forall₂, Forall₂·nil, Forall₂·cons}
+use Prim.Native.Nat.{ℕ}
+use lib.ListN.{length}
+use Rattle.settings.specs.Grounds.{Outcome}
+use Rattle.settings.specs.Settings.{readsUAsT}
+use Rattle.fasta.specs.declared.Numbers.{Numbers}
+use Rattle.files.specs.File.{File}
+use Rattle.files.specs.Scan.{tooLong}
+use Rattle.files.specs.Copies.{FileCopy}
+use Rattle.files.proofs.Copies.{same-length, same-file-fault, same-file-windows, same-file-numbers}
+use Rattle.tally.specs.Table.{windowsOfFile, readyGround, addGround, tableGround, Added}
+use Rattle.tally.specs.Demand.{Calls, Adds}
+use Rattle.tally.specs.Demand.Calls.{done, then}
+
+-- ---- a list of calls
+
+-- Two lists of calls from the same table. Where calls with related arguments, on the same table, give the same answer and leave the same table, so do lists of
+-- such calls.
+pub same-calls : {C A : Type 0} (Step : List ℕ → C → A → List ℕ → Type 0) (R : C → C → Type 0)
+    → ((t : List ℕ) (c d : C) (a b : A) (t′ u′ : List ℕ) → R c d → Step t c a t′ → Step t d b u′ → (a ≡ b) × (t′ ≡ u′))
+    → {cs ds : List C} → Forall₂ R cs ds
+    → {t t′ u′ : List ℕ} {answers answers′ : List A} → Calls Step t cs answers t′ → Calls Step t ds answers′ u′ → (answers ≡ answers′) × (t′ ≡ u′)
+same-calls Step R same Forall₂·nil done done = (refl, refl)
+same-calls Step R same (Forall₂·cons {a = c} {b = d} {l₂ = ds} r rs) (then {t} {t′} {a = a} h calls) (then {t′ = u′} {t″ = u″} {a = b} {later = later} g others) =
+    let first = same t c d a b t′ u′ r h g in
+    let others-too : Calls Step t′ ds later u″ = rw (first .1) others in
+    let rest = same-calls Step R same rs calls others-too in
+    (ap₂ (λ x xs. x ∷ xs) (first .0) (rest .0), rest .1)
+
+-- ---- adds
+
+module _ (letters : List ℕ) (reads : readsUAsT letters ≡ true) (k m : ℕ) where
+  module _ {file copy : File} (C : FileCopy file copy) where
+    pub same-windows-of-file : windowsOfFile letters k file ≡ windowsOfFile letters k copy
+    unfolding windowsOfFile
+    same-windows-of-file = same-file-windows C letters reads k
+
+    pub same-ready-ground : (room : ℕ) → readyGround letters k m room (file .bytes) ≡ readyGround letters k m room (copy .bytes)
+    unfolding readyGround tooLong
+    same-ready-ground room = rw (same-length C)
+
+    same-ground : (t : List ℕ) → tableGround letters k m t file ≡ tableGround letters k m t copy
+    unfolding addGround
+    same-ground t = rw (same-windows-of-file, same-ready-ground (length t), same-file-fault C)
+
+    pub copy-added : {t t′ u′ : List ℕ} {answer answer′ : Outcome Numbers} → Added letters k m t file answer t′ → Added letters k m t copy answer′ u′
+        → (answer ≡ answer′) × (t′ ≡ u′)
+    copy-added {t} A B = (
+      A .answers ∙ rw (same-ground t, same-file-numbers C letters reads k) (sym (B .answers)),
+      A .leaves ∙ rw (same-ground t, same-windows-of-file) (sym (B .leaves)),
+    )
+
+  pub copies-added : {files copies : List File} → Forall₂ FileCopy files copies
+      → {t t′ u′ : List ℕ} {answers answers′ : List (Outcome Numbers)} → Adds letters k m t files answers t′ → Adds letters k m t copies answers′ u′
+      → (answers ≡ answers′) × (t′ ≡ u′)
+  copies-added = same-calls (Added letters k m) FileCopy (λ t file copy a b t′ u′ C A B. copy-added C A B)

@@ -1,0 +1,204 @@
+//! U read as T (document 02, K2). Words, sequences and files beside their copies with T for some or all of the U, through
+//! every call that takes bytes and through the program, each also beside the reference; and what each byte is read as
+//! under letters with T and no U, with U and no T, with both and with neither, written out.
+
+use kmer_tests::calls;
+use kmer_tests::calls::REFUSED;
+use kmer_tests::draw::*;
+use kmer_tests::draw_fastq::*;
+use kmer_tests::draw_files::*;
+use kmer_tests::expected::*;
+use kmer_tests::files::{Kind, FASTA, FASTQ};
+use kmer_tests::program::check_beside_second;
+use kmer_tests::second_counter::answer;
+use kmer_tests::sequences::{along, check_along, two_bit_settings};
+use kmer_tests::settings::*;
+use kmer_tests::tables::*;
+
+/// s different capitals in any order, T among them and no U.
+fn letters_with_t(random: &mut Random, s: usize) -> Vec<u8> {
+    let others = drawn_capitals(random, 26).into_iter().filter(|letter| !b"TU".contains(letter));
+    let mut letters: Vec<u8> = others.take(s - 1).collect();
+    letters.insert(random.below(s as u64) as usize, b'T');
+    letters
+}
+
+/// A copy with T for U and t for u: of all of them, or of about half.
+fn copied(random: &mut Random, bytes: &[u8]) -> Vec<u8> {
+    let all = random.below(2) == 0;
+    let mut copy = bytes.to_vec();
+    for byte in copy.iter_mut().filter(|byte| matches!(byte, b'U' | b'u')) {
+        if all || random.below(2) == 0 {
+            *byte -= 1;
+        }
+    }
+    copy
+}
+
+/// A whole or a damaged file of a drawn kind, with the number that names its kind.
+fn drawn_for_a_list(random: &mut Random, settings: &Settings) -> (u64, Vec<u8>) {
+    let fastq = [FASTA, FASTQ][random.below(2) as usize];
+    let file = drawn_of(random, Kind::named(fastq), settings, 300);
+    match random.below(3) {
+        0 => (fastq, damaged_of(random, Kind::named(fastq), settings, file)),
+        _ => (fastq, file),
+    }
+}
+
+/// "There a file and its copy with T for U must now give equal tables": lists of both kinds of file, and the same lists
+/// with copies; after every call the answers, refusals and their P included, and the whole tables are the same.
+#[test]
+fn files_and_their_copies_give_equal_tables() {
+    let mut random = Random::new(90);
+    let (mut taken, mut turned_away, mut replaced) = ([0; 2], [0; 18], 0);
+    for (s, mirror, k) in sizes_up_to(20_000) {
+        let settings = Settings::new(&letters_with_t(&mut random, s), k, mirror);
+        let (mut book, mut table) = cleared(&settings, 2);
+        let (mut other_book, mut other_table) = cleared(&settings, 2);
+        for _ in 0..12 {
+            let (fastq, file) = drawn_for_a_list(&mut random, &settings);
+            let copy = copied(&mut random, &file);
+            replaced += (copy != file) as usize;
+            let answer = check_add(&mut book, &mut table, fastq, &file, 5);
+            let other = check_add(&mut other_book, &mut other_table, fastq, &copy, 5);
+            assert_eq!(answer, other, "{settings}: {} and {}", shown_file(&file), shown_file(&copy));
+            assert!(table.slice() == other_table.slice(), "{settings}: {}", shown_file(&file));
+            match answer {
+                Ok(_) => taken[(fastq == FASTQ) as usize] += 1,
+                Err(refusal) => turned_away[refusal.number as usize] += 1,
+            }
+        }
+        check_sum(&book, &table);
+    }
+    // The lists are worth their name only where all kinds of calls are in them.
+    assert!(
+        taken.iter().all(|&count| count > 300) && replaced > 500,
+        "{taken:?} taken in, {replaced} replaced"
+    );
+    assert!([10, 11, 15, 16, 17].iter().all(|&number| turned_away[number] > 5), "{turned_away:?}");
+}
+
+/// On both paths where there are two, with other foreign bytes between the letters.
+#[test]
+fn sequences_and_their_copies_have_equal_codes() {
+    let mut random = Random::new(91);
+    let drawn = (2..=16).map(|s| Settings::new(&letters_with_t(&mut random, s), 1 + s % 5, s as u64 % 2));
+    let all: Vec<Settings> = drawn.chain((1..=31).map(two_bit_settings)).collect();
+    for settings in all {
+        for gap in [0, 9, 60] {
+            let sequence = drawn_sequence(&mut random, &settings, 400, gap);
+            let copy = copied(&mut random, &sequence);
+            assert!(copy != sequence, "{settings}: no U in {}", shown(&sequence));
+            for room in [400, 400 - settings.k, 0] {
+                check_along(&settings, &sequence, room);
+                check_along(&settings, &copy, room);
+                assert_eq!(along(&settings, &sequence, room), along(&settings, &copy, room), "{settings}");
+            }
+        }
+    }
+}
+
+/// Coded and mirrored, with and without a foreign byte. "Words that we write keep T."
+#[test]
+fn words_and_their_copies_are_answered_alike() {
+    let mut random = Random::new(92);
+    for (s, mirror, k) in good_sizes() {
+        let settings = Settings::new(&letters_with_t(&mut random, s), k, mirror);
+        for turn in 0..20 {
+            let word = drawn_word(&mut random, s, k);
+            let mut word = spelled_mixed(&mut random, &settings.letters, &word);
+            if turn % 4 == 0 {
+                word[random.below(k as u64) as usize] = b'#';
+            }
+            let copy = copied(&mut random, &word);
+            check_code(&settings, &word, coding(&settings, &word));
+            assert_eq!(
+                calls::code(&settings, &word),
+                calls::code(&settings, &copy),
+                "{settings}: {}",
+                shown(&word)
+            );
+            let mirrored = mirroring(&settings, &word, k + 1);
+            check_mirror(&settings, &word, k + 1, &mirrored);
+            check_mirror(&settings, &copy, k + 1, &mirrored);
+            assert!(!mirrored.is_ok_and(|written| written.contains(&b'U')), "{settings}: {}", shown(&word));
+        }
+    }
+}
+
+#[test]
+fn the_program_prints_the_same_for_a_copy() {
+    let mut random = Random::new(93);
+    let mut inputs = Vec::new();
+    for turn in 0..150 {
+        let settings =
+            Settings::new(&letters_with_t(&mut random, 2 + turn % 6), 1 + turn % 4, turn as u64 % 2);
+        let (_, file) = drawn_for_a_list(&mut random, &settings);
+        let name = ["reversal", "complement"][settings.mirror as usize];
+        let letters = String::from_utf8(settings.letters.clone()).expect("capitals");
+        let line = format!("(survey (letters {letters}) (k {}) (mirror {name}))\n", settings.k);
+        let copy = copied(&mut random, &file);
+        let [input, other] = [file, copy].map(|file| [line.as_bytes(), &file[..]].concat());
+        assert_eq!(answer(&input), answer(&other), "{}", shown_file(&input));
+        inputs.extend([input, other]);
+    }
+    let kinds = check_beside_second(&inputs);
+    assert!(kinds.len() > 3, "{kinds:?}");
+}
+
+/// What bytes T, t, U and u are under some letters: their ranks, which are their codes for k 1 and reversal, and none for
+/// those that are foreign.
+const READ: [(&str, [Option<u64>; 4]); 10] = [
+    ("ACGT", [Some(3), Some(3), Some(3), Some(3)]),
+    ("TGCA", [Some(0), Some(0), Some(0), Some(0)]),
+    ("AT", [Some(1), Some(1), Some(1), Some(1)]),
+    ("ACGU", [None, None, Some(3), Some(3)]),
+    ("UV", [None, None, Some(0), Some(0)]),
+    ("ACGTU", [Some(3), Some(3), Some(4), Some(4)]),
+    ("UT", [Some(1), Some(1), Some(0), Some(0)]),
+    ("TU", [Some(0), Some(0), Some(1), Some(1)]),
+    ("ACG", [None, None, None, None]),
+    ("SV", [None, None, None, None]),
+];
+
+/// In words, in sequences and in files of both kinds; every other byte is read as document 01 alone has it.
+#[test]
+fn every_byte_under_letters_with_and_without_t_and_u() {
+    for (letters, read) in READ {
+        let settings = Settings::new(letters.as_bytes(), 1, REVERSAL);
+        for byte in 0..=255u8 {
+            let rank = match b"TtUu".iter().position(|&other| other == byte) {
+                Some(place) => read[place],
+                None => letters.bytes().position(|l| l == byte.to_ascii_uppercase()).map(|rank| rank as u64),
+            };
+            let code = rank.unwrap_or(REFUSED + 9);
+            assert_eq!(calls::code(&settings, &[byte]), code, "{settings}: kmer_code of byte {byte}");
+            check_along(&settings, &[byte, byte], 2);
+            if byte.is_ascii_alphabetic() {
+                let foreign = rank.is_none() as u64;
+                let numbers = Ok([1, 1, foreign, 0, 1 - foreign]);
+                assert_eq!(
+                    check_file(&settings, FASTA, &record(&[byte])),
+                    numbers,
+                    "{settings}: byte {byte}"
+                );
+                let fastq = [b"@\n", &[byte][..], b"\n+\nI\n"].concat();
+                assert_eq!(check_file(&settings, FASTQ, &fastq), numbers, "{settings}: byte {byte} in FASTQ");
+            }
+        }
+    }
+}
+
+/// The settings' own letters are as before: U is a letter of its own, beside T too.
+#[test]
+fn letters_of_the_settings_are_as_before() {
+    for (letters, refused) in
+        [("ACGU", false), ("TU", false), ("UT", false), ("ACgU", true), ("UU", true), ("AU ", true)]
+    {
+        let settings = Settings::new(letters.as_bytes(), 2, REVERSAL);
+        let first = vec![letters.as_bytes()[0]; 2];
+        let right = if refused { REFUSED + 1 } else { 2 };
+        let (answer, left) = calls::word(&settings, 0, 2);
+        assert_eq!((answer, refused || left == first), (right, true), "{settings}");
+    }
+}
