@@ -36,7 +36,7 @@ impl Mirror {
 ///
 /// ```
 /// use wontirje::{Mirror, Settings};
-/// let groups = Settings { letters: b"AGTSNRYWIE", k: 4, mirror: Mirror::Reversal };
+/// let groups = Settings { letters: b"ACEFGHKLPS", k: 4, mirror: Mirror::Reversal };
 /// assert_eq!(groups.classes()?, 5050);
 /// # Ok::<(), wontirje::Refusal>(())
 /// ```

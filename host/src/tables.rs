@@ -20,7 +20,7 @@ pub struct Numbers {
     pub records: u64,
     /// Letters, foreign ones too.
     pub letters: u64,
-    /// Letters that are not in the settings.
+    /// Letters that are not in the settings; U is none of them where it is read as T.
     pub foreign: u64,
     /// Letters at the end of a run that begin no window.
     pub edge: u64,

@@ -46,6 +46,16 @@ fn the_help_of_count_says_the_kinds() {
     assert!(told.contains("A file whose first byte is @ is taken for FASTQ, any other for FASTA;"), "{told}");
 }
 
+/// What is said of RNA.
+#[test]
+fn the_help_says_what_u_is_read_as() {
+    let told = |arguments: &[&str]| run(arguments).text().split_whitespace().collect::<Vec<_>>().join(" ");
+    let rule = "where T is one and U is not, U is read as T and printed as T";
+    assert!(told(&["--help"]).contains(rule), "{}", told(&["--help"]));
+    let rule = "foreign letters (not in --letters; U is read as T where they have T and no U)";
+    assert!(told(&["help", "count"]).contains(rule), "{}", told(&["help", "count"]));
+}
+
 /// What the help says of an example's output.
 #[test]
 fn the_examples_print_what_the_help_says() {
@@ -58,7 +68,7 @@ fn the_examples_print_what_the_help_says() {
             let printed = run(&arguments).text().to_string();
             let right = match prints {
                 "1571 twice" => "1571\n1571\n",
-                "3, the code of TA" => "3\n",
+                "3, as for TA: U is read as T" => "3\n",
                 "TACGGCTA" => "TACGGCTA\n",
                 "2097152 and 8390656 classes" => {
                     "k 11: 2097152 classes, table 8388608 bytes\nk 12: 8390656 classes, table 33562624 bytes\n"

@@ -106,6 +106,19 @@ fn a_line_above_the_memory() {
     assert_eq!(run.complaints(), ["line 2: more than 65,536 bytes"]);
 }
 
+/// U in a word is read as T where the letters have T and no U; under letters with U it is T that is refused.
+#[test]
+fn words_with_u() {
+    let run = run(&["code", "--k", "2", "UA", "ua", "U*"]);
+    assert_eq!((run.status, run.text()), (1, "3\n3\n"));
+    let refused = "U*: refused 9: a byte of the word is no letter of the settings: letter 2 of the word";
+    assert_eq!(run.complaints(), [refused]);
+    let run = self::run(&["code", "--k", "2", "--letters", "ACGU", "UA", "TA"]);
+    assert_eq!((run.status, run.text()), (1, "3\n"));
+    let refused = "TA: refused 9: a byte of the word is no letter of the settings: letter 1 of the word";
+    assert_eq!(run.complaints(), [refused]);
+}
+
 /// Arguments are refused one by one too, an empty one among them.
 #[test]
 fn refused_arguments() {

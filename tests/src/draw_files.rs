@@ -22,8 +22,8 @@ pub fn foreign_letters(letters: &[u8]) -> Vec<u8> {
     all.filter(|&letter| rank(letters, letter).is_none()).collect()
 }
 
-/// Letters of words and near palindromes, about half of them small, with one of the foreign bytes about once
-/// in `gap` bytes; 0 for none.
+/// Letters of words and near palindromes, about half of them small and U for some T, with one of the foreign
+/// bytes about once in `gap` bytes; 0 for none.
 fn drawn_text(random: &mut Random, settings: &Settings, length: usize, gap: u64, foreign: &[u8]) -> Vec<u8> {
     let (s, complement) = (settings.letters.len(), settings.mirror == COMPLEMENT);
     let mut ranks = Vec::new();

@@ -1,7 +1,7 @@
-//! A second counter program, written from document 01 ("Listing and counter program") and document 02, K1, and
-//! not from the library: from the bytes of standard input to the bytes that are printed. Of the other
-//! references it uses the second coder, the grounds for table calls and the records of FASTQ files; the survey
-//! line, the FASTA file, the tallies and the printed lines are its own.
+//! A second counter program, written from document 01 ("Listing and counter program") and document 02, K1 and K2,
+//! and not from the library: from the bytes of standard input to the bytes that are printed. Of the other
+//! references it uses the second coder, the rank of a byte, the grounds for table calls and the records of FASTQ
+//! files; the survey line, the FASTA file, the tallies and the printed lines are its own.
 
 use crate::book::{table_ground, Numbers};
 use crate::expected::{coder, Refusal};

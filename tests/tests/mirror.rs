@@ -67,7 +67,8 @@ fn short_buffers_and_foreign_bytes() {
     let mut random = Random::new(12);
     for (s, mirror, k) in good_sizes() {
         let settings = Settings::new(&drawn_capitals(&mut random, s), k, mirror);
-        let mut word = spelled(&settings.letters, &drawn_word(&mut random, s, k));
+        let word = drawn_word(&mut random, s, k);
+        let mut word = spelled_mixed(&mut random, &settings.letters, &word);
         for room in 0..k {
             check_mirror(&settings, &word, room, &Err(Refusal { number: 7, p: k as u64 }));
         }

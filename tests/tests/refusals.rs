@@ -214,7 +214,7 @@ fn a_foreign_byte_at_any_place_is_refused_9() {
 /// reference.
 #[test]
 fn grounds_go_in_number_order() {
-    let cases: [Faulty; 15] = [
+    let cases: [Faulty; 18] = [
         (b"AcG", 0, 2, b"#", 0, (1, 1, (1, 0))),
         (b"ACG", 0, 2, b"#", 0, (2, 2, (2, 0))),
         (b"ACG", 0, 1, b"#", 0, (4, 4, (4, 0))),
@@ -230,6 +230,9 @@ fn grounds_go_in_number_order() {
         (b"ACGT", 3, 1, b"AC#", 3, (9, 8, (9, 2))),
         (b"ACGT", 3, 1, b"A##", 3, (9, 8, (9, 1))),
         (b"ACGT", 3, 1, b"#C#", 9, (9, 8, (9, 0))),
+        (b"ACGT", 3, 1, b"Uu#", 3, (9, 8, (9, 2))),
+        (b"ACGU", 3, 1, b"UtA", 3, (9, 8, (9, 1))),
+        (b"ACG", 3, 1, b"AuC", 3, (9, 8, (9, 1))),
     ];
     for (letters, k, mirror, word, room, (coding, reading, (number, p))) in cases {
         let settings = Settings::new(letters, k, mirror);

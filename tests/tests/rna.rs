@@ -1,7 +1,8 @@
-//! U read as T (document 02, K2). Words, sequences and files beside their copies with T for some or all of the U, through
-//! every call that takes bytes and through the program, each also beside the reference; and what each byte is read as
-//! under letters with T and no U, with U and no T, with both and with neither, written out.
+//! U read as T (document 02, K2). Words, sequences and files beside their copies with T for some or all of the
+//! U, through every call that takes bytes and through the program, each also beside the reference; and what each
+//! byte is read as under letters with T and no U, with U and no T, with both and with neither, written out.
 
+use kmer_tests::book::TOP;
 use kmer_tests::calls;
 use kmer_tests::calls::REFUSED;
 use kmer_tests::draw::*;
@@ -11,7 +12,7 @@ use kmer_tests::expected::*;
 use kmer_tests::files::{Kind, FASTA, FASTQ};
 use kmer_tests::program::check_beside_second;
 use kmer_tests::second_counter::answer;
-use kmer_tests::sequences::{along, check_along, two_bit_settings};
+use kmer_tests::sequences::{along, check_along, check_codes, two_bit_settings, NO_CODE};
 use kmer_tests::settings::*;
 use kmer_tests::tables::*;
 
@@ -45,8 +46,9 @@ fn drawn_for_a_list(random: &mut Random, settings: &Settings) -> (u64, Vec<u8>) 
     }
 }
 
-/// "There a file and its copy with T for U must now give equal tables": lists of both kinds of file, and the same lists
-/// with copies; after every call the answers, refusals and their P included, and the whole tables are the same.
+/// "There a file and its copy with T for U must now give equal tables": lists of both kinds of file, and the same
+/// lists with copies; after every call the answers, refusals and their P included, and the whole tables are the
+/// same.
 #[test]
 fn files_and_their_copies_give_equal_tables() {
     let mut random = Random::new(90);
@@ -59,8 +61,9 @@ fn files_and_their_copies_give_equal_tables() {
             let (fastq, file) = drawn_for_a_list(&mut random, &settings);
             let copy = copied(&mut random, &file);
             replaced += (copy != file) as usize;
-            let answer = check_add(&mut book, &mut table, fastq, &file, 5);
-            let other = check_add(&mut other_book, &mut other_table, fastq, &copy, 5);
+            let room = if random.below(16) == 0 { 4 } else { 5 };
+            let answer = check_add(&mut book, &mut table, fastq, &file, room);
+            let other = check_add(&mut other_book, &mut other_table, fastq, &copy, room);
             assert_eq!(answer, other, "{settings}: {} and {}", shown_file(&file), shown_file(&copy));
             assert!(table.slice() == other_table.slice(), "{settings}: {}", shown_file(&file));
             match answer {
@@ -75,7 +78,7 @@ fn files_and_their_copies_give_equal_tables() {
         taken.iter().all(|&count| count > 300) && replaced > 500,
         "{taken:?} taken in, {replaced} replaced"
     );
-    assert!([10, 11, 15, 16, 17].iter().all(|&number| turned_away[number] > 5), "{turned_away:?}");
+    assert!([7, 10, 11, 15, 16, 17].iter().all(|&number| turned_away[number] > 5), "{turned_away:?}");
 }
 
 /// On both paths where there are two, with other foreign bytes between the letters.
@@ -102,6 +105,7 @@ fn sequences_and_their_copies_have_equal_codes() {
 #[test]
 fn words_and_their_copies_are_answered_alike() {
     let mut random = Random::new(92);
+    let (mut replaced, mut foreign) = (0, 0);
     for (s, mirror, k) in good_sizes() {
         let settings = Settings::new(&letters_with_t(&mut random, s), k, mirror);
         for turn in 0..20 {
@@ -111,17 +115,31 @@ fn words_and_their_copies_are_answered_alike() {
                 word[random.below(k as u64) as usize] = b'#';
             }
             let copy = copied(&mut random, &word);
-            check_code(&settings, &word, coding(&settings, &word));
-            assert_eq!(
-                calls::code(&settings, &word),
-                calls::code(&settings, &copy),
-                "{settings}: {}",
-                shown(&word)
-            );
+            replaced += (copy != word) as usize;
+            let expected = coding(&settings, &word);
+            foreign += expected.is_err() as usize;
+            check_code(&settings, &word, expected);
+            check_code(&settings, &copy, expected);
             let mirrored = mirroring(&settings, &word, k + 1);
             check_mirror(&settings, &word, k + 1, &mirrored);
             check_mirror(&settings, &copy, k + 1, &mirrored);
-            assert!(!mirrored.is_ok_and(|written| written.contains(&b'U')), "{settings}: {}", shown(&word));
+        }
+    }
+    assert!(replaced > 2000 && foreign > 1000, "{replaced} replaced, {foreign} foreign");
+}
+
+/// Ground 12 beside a copy, in both kinds of file: two windows, taken in where the highest count can take two
+/// more, and refused where it can take one.
+#[test]
+fn full_counts_refuse_a_file_and_its_copy() {
+    let settings = Settings::new(b"ACGT", 2, COMPLEMENT);
+    for (fastq, file) in [(FASTA, b">\nUUa\n".to_vec()), (FASTQ, b"@\nUUa\n+\nIII\n".to_vec())] {
+        for bytes in [file.clone(), file.iter().map(|&byte| if byte == b'U' { b'T' } else { byte }).collect()]
+        {
+            for (count, answer) in [(TOP - 2, Ok([1, 3, 0, 1, 2])), (TOP - 1, refused(12, 0))] {
+                let (mut book, mut table) = table_with(&settings, 0, count);
+                assert_eq!(check_add(&mut book, &mut table, fastq, &bytes, 5), answer, "{}", shown(&bytes));
+            }
         }
     }
 }
@@ -129,7 +147,7 @@ fn words_and_their_copies_are_answered_alike() {
 #[test]
 fn the_program_prints_the_same_for_a_copy() {
     let mut random = Random::new(93);
-    let mut inputs = Vec::new();
+    let (mut inputs, mut replaced) = (Vec::new(), 0);
     for turn in 0..150 {
         let settings =
             Settings::new(&letters_with_t(&mut random, 2 + turn % 6), 1 + turn % 4, turn as u64 % 2);
@@ -138,16 +156,17 @@ fn the_program_prints_the_same_for_a_copy() {
         let letters = String::from_utf8(settings.letters.clone()).expect("capitals");
         let line = format!("(survey (letters {letters}) (k {}) (mirror {name}))\n", settings.k);
         let copy = copied(&mut random, &file);
+        replaced += (copy != file) as usize;
         let [input, other] = [file, copy].map(|file| [line.as_bytes(), &file[..]].concat());
         assert_eq!(answer(&input), answer(&other), "{}", shown_file(&input));
         inputs.extend([input, other]);
     }
     let kinds = check_beside_second(&inputs);
-    assert!(kinds.len() > 3, "{kinds:?}");
+    assert!(replaced > 50 && kinds["counted"] > 100 && kinds.len() > 3, "{replaced} replaced, {kinds:?}");
 }
 
-/// What bytes T, t, U and u are under some letters: their ranks, which are their codes for k 1 and reversal, and none for
-/// those that are foreign.
+/// What bytes T, t, U and u are under some letters: their ranks, which are their codes for k 1 and reversal, and
+/// none for those that are foreign.
 const READ: [(&str, [Option<u64>; 4]); 10] = [
     ("ACGT", [Some(3), Some(3), Some(3), Some(3)]),
     ("TGCA", [Some(0), Some(0), Some(0), Some(0)]),
@@ -167,15 +186,20 @@ fn every_byte_under_letters_with_and_without_t_and_u() {
     for (letters, read) in READ {
         let settings = Settings::new(letters.as_bytes(), 1, REVERSAL);
         for byte in 0..=255u8 {
-            let rank = match b"TtUu".iter().position(|&other| other == byte) {
+            let due = match b"TtUu".iter().position(|&other| other == byte) {
                 Some(place) => read[place],
                 None => letters.bytes().position(|l| l == byte.to_ascii_uppercase()).map(|rank| rank as u64),
             };
-            let code = rank.unwrap_or(REFUSED + 9);
+            assert_eq!(
+                rank(letters.as_bytes(), byte).map(u64::from),
+                due,
+                "{settings}: the reference, byte {byte}"
+            );
+            let code = due.unwrap_or(REFUSED + 9);
             assert_eq!(calls::code(&settings, &[byte]), code, "{settings}: kmer_code of byte {byte}");
-            check_along(&settings, &[byte, byte], 2);
+            check_codes(&settings, &[byte, byte], 2, &Ok(vec![due.unwrap_or(NO_CODE); 2]));
             if byte.is_ascii_alphabetic() {
-                let foreign = rank.is_none() as u64;
+                let foreign = due.is_none() as u64;
                 let numbers = Ok([1, 1, foreign, 0, 1 - foreign]);
                 assert_eq!(
                     check_file(&settings, FASTA, &record(&[byte])),
@@ -189,16 +213,27 @@ fn every_byte_under_letters_with_and_without_t_and_u() {
     }
 }
 
-/// The settings' own letters are as before: U is a letter of its own, beside T too.
+/// The two-bit path and the other, written out: A and T are one class, C and G the other.
+#[test]
+fn both_paths_read_u_as_t() {
+    let codes = vec![1, 1, 1, 1, 1, 0, 0, NO_CODE];
+    check_codes(&two_bit_settings(1), b"ATtUuCGN", 8, &Ok(codes));
+    check_codes(&two_bit_settings(2), b"UAuaN", 4, &Ok(vec![3, 0, 3, NO_CODE]));
+}
+
+/// The settings' own letters are as before: U is a letter of its own, beside T too, and a small letter is none.
 #[test]
 fn letters_of_the_settings_are_as_before() {
-    for (letters, refused) in
-        [("ACGU", false), ("TU", false), ("UT", false), ("ACgU", true), ("UU", true), ("AU ", true)]
-    {
+    for letters in ["ACGU", "TU", "UT", "ACGTU"] {
         let settings = Settings::new(letters.as_bytes(), 2, REVERSAL);
-        let first = vec![letters.as_bytes()[0]; 2];
-        let right = if refused { REFUSED + 1 } else { 2 };
-        let (answer, left) = calls::word(&settings, 0, 2);
-        assert_eq!((answer, refused || left == first), (right, true), "{settings}");
+        for letter in letters.bytes() {
+            let word = vec![letter; 2];
+            check_word(&settings, calls::code(&settings, &word), 3, &Ok(word));
+        }
+    }
+    for letters in ["ACgU", "Tu", "UU", "AU "] {
+        let settings = Settings::new(letters.as_bytes(), 2, REVERSAL);
+        check_code(&settings, b"UU", Err(Refusal { number: 1, p: 0 }));
+        check_word(&settings, 0, 2, &Err(Refusal { number: 1, p: 0 }));
     }
 }

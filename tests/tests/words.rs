@@ -21,7 +21,8 @@ fn each_settings(seed: u64, check: impl Fn(&Settings, &Coder, &mut Random)) {
     }
 }
 
-/// The code of the word as the second coder has it; the word is spelled with small letters mixed in.
+/// The code of the word as the second coder has it; the word is spelled with small letters, and U for
+/// some T, mixed in.
 fn check_coding(settings: &Settings, coder: &Coder, random: &mut Random, word: &[u8]) {
     let spelling = spelled_mixed(random, &settings.letters, word);
     check_code(settings, &spelling, Ok(coder.code(word) as u64));

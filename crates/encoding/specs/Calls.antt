@@ -14,7 +14,7 @@ use Rattle.encoding.specs.WordsOfCodes.{wordOf}
 
 -- ---- from bytes to ranks and back
 
--- A byte that is no letter stands as rank 0, which no answer shows: ground 9 refuses its word.
+-- A byte that has no rank stands as rank 0, which no answer shows: ground 9 refuses its word.
 abbrev pub rankOrZero : Option ℕ → ℕ
 rankOrZero none = 0
 rankOrZero (some rank) = rank
@@ -41,7 +41,7 @@ abbrev pub hereOr : Option ℕ → ℕ → Option ℕ → Option ℕ
 hereOr none n later = some n
 hereOr (some rank) n later = later
 
--- 9: "a byte of a word is no settings letter; P its place": the first such place, of bytes whose first has the place n.
+-- 9: "a byte of a word is no settings letter; P its place": the first that has no rank, of bytes whose first has the place n.
 unfoldable pub foreignFrom : List ℕ → ℕ → List ℕ → Option ℕ
 foreignFrom letters n [] = none
 foreignFrom letters n (b ∷ bs) = hereOr (rankIn letters b) n (foreignFrom letters (suc n) bs)

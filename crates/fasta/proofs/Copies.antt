@@ -5,10 +5,9 @@ use mathlib.Core.Bool.{Bool, true, false}
 use mathlib.Core.Option.{Option}
 use mathlib.Core.List.{List, [], _∷_, map}
 use Prim.Native.Nat.{ℕ, suc}
-use lib.Dec.{eqb}
 use Rattle.lines.proofs.Mapped.{lf-mapped}
 use Rattle.settings.specs.Copies.{tForU, CopyWithT}
-use Rattle.settings.proofs.Copies.{byte-cases, same-at, same-of-copies}
+use Rattle.settings.proofs.Copies.{byte-cases, same-at, same-lf, same-of-copies}
 use Rattle.fasta.specs.declared.Item.{Item}
 use Rattle.fasta.specs.declared.Item.the-variants.{Opens, Skip, Stray, Letter}
 use Rattle.fasta.specs.declared.Mode.{Mode}
@@ -62,7 +61,7 @@ items-copied : (m : Mode) (bytes : List ℕ) → itemsFrom m (map tForU bytes) �
 unfolding itemsFrom
 items-copied m [] = refl
 items-copied m (b ∷ bytes) =
-    rw (lf-mapped tForU (same-at (λ (b : ℕ). eqb b 10) refl refl) bytes, next-copied m b, items-copied (next m b) bytes)
+    rw (lf-mapped tForU same-lf bytes, next-copied m b, items-copied (next m b) bytes)
     (ap (λ (i : Item). i ∷ map copied (itemsFrom (next m b) bytes)) (item-copied m (lfNext bytes) b))
 
 -- ---- what is counted in it

@@ -26,7 +26,7 @@ lettersIn (Skip ∷ is) = lettersIn is
 lettersIn (Stray ∷ is) = lettersIn is
 lettersIn (Letter b ∷ is) = suc (lettersIn is)
 
--- "A letter not in the settings is foreign."
+-- "A letter not in the settings is foreign": one that has no rank.
 unfoldable pub oneIfForeign : Option ℕ → ℕ
 oneIfForeign none = 1
 oneIfForeign (some x) = 0

@@ -9,7 +9,7 @@ use lib.Dec.{eqb}
 use Rattle.lines.specs.Lines.{lines, textOf}
 use Rattle.lines.proofs.Mapped.{first-mapped, lines-mapped, text-mapped}
 use Rattle.settings.specs.Copies.{tForU, CopyWithT}
-use Rattle.settings.proofs.Copies.{same-at, same-of-copies}
+use Rattle.settings.proofs.Copies.{same-at, same-lf, same-of-copies}
 use Rattle.fasta.specs.File.{isLetter}
 use Rattle.fastq.specs.Fastq.{isThere, firstFailing, isQuality, recordFault, fastqFault}
 
@@ -23,7 +23,7 @@ there-copied [] = refl
 there-copied (b ∷ l) = refl
 
 text-copied : (l : List ℕ) → textOf (copied l) ≡ copied (textOf l)
-text-copied = text-mapped tForU (same-at (λ (b : ℕ). eqb b 10) refl refl) (same-at (λ (b : ℕ). eqb b 13) refl refl)
+text-copied = text-mapped tForU same-lf (same-at (λ (b : ℕ). eqb b 13) refl refl)
 
 -- Where a test takes U for T, and u for t, the first byte that fails it, in the copy of a line's text, has the same place.
 module _ (test : ℕ → Bool) (capital : test 85 ≡ test 84) (small : test 117 ≡ test 116) where
@@ -72,4 +72,4 @@ lines-copied at (h ∷ s ∷ p ∷ q ∷ ls) =
 pub same-fastq-fault : {bytes copy : List ℕ} → CopyWithT bytes copy → fastqFault 0 (lines bytes) ≡ fastqFault 0 (lines copy)
 same-fastq-fault =
     same-of-copies (λ (l : List ℕ). fastqFault 0 (lines l))
-    (λ l. ap (fastqFault 0) (lines-mapped tForU (same-at (λ (b : ℕ). eqb b 10) refl refl) l) ∙ lines-copied 0 (lines l))
+    (λ l. ap (fastqFault 0) (lines-mapped tForU same-lf l) ∙ lines-copied 0 (lines l))

@@ -1,6 +1,7 @@
--- Copies with T for U (document 02, K2) through the C calls: where the settings have T and no U, two lists of `kmer_add` calls from the same table, the one with
--- copies in place of some or all of the other's files, return the same numbers and leave the same lists and the same table (`copies-from-c`). From the laws
--- of copies in the crates files and tally, since what a call returns and leaves is said by its grounds and the file's windows and numbers.
+-- Copies with T for U (document 02, K2) through the C calls: where the settings have T and no U, a `kmer_add` of a file and one of its copy, on the same table
+-- and with the same lent list, return the same number and leave the same list and the same table (`copy-added-into`); so do two lists of such calls, the one
+-- with copies in place of some or all of the other's files (`copies-from-c`). From the laws of copies in the crates files and tally, since what a call returns
+-- and leaves is said by its grounds and the file's windows and numbers.
 use mathlib.Core.Path.{_≡_, sym, ap₂, _∙_}
 use mathlib.Core.Bool.{true}
 use mathlib.Core.Option.{Option}
@@ -24,7 +25,8 @@ module _ (letters : List ℕ) (reads : readsUAsT letters ≡ true) (k m : ℕ) w
     unfolding addIntoGround
     same-ground t room = rw (same-windows-of-file letters reads k m C, same-ready-ground letters reads k m C (length t), same-file-fault C)
 
-    copy-added-into : {t lent t′ u′ new new′ : List ℕ} {r r′ : ℕ} → AddsInto letters k m t file lent r t′ new → AddsInto letters k m t copy lent r′ u′ new′
+    -- Of one call, with a lent list of any length.
+    pub copy-added-into : {t lent t′ u′ new new′ : List ℕ} {r r′ : ℕ} → AddsInto letters k m t file lent r t′ new → AddsInto letters k m t copy lent r′ u′ new′
         → _≡_ {A = ℕ × List ℕ} (r, new) (r′, new′) × (t′ ≡ u′)
     copy-added-into {t} {lent} A B =
         let ground = same-ground t (length lent) in

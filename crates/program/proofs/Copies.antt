@@ -1,10 +1,12 @@
--- Copies with T for U (document 02, K2) in the program: where the settings have T and no U, the same text is printed for a file and for its copy
--- (`same-survey-text`), which the program takes for the same kind of file. From the laws of copies in the crates files and tally.
-use mathlib.Core.Path.{_≡_, refl, sym, _∙_}
+-- Copies with T for U (document 02, K2) in the program: for a survey line and a file, and for the same line and a copy of the file, it prints the same, where
+-- the line's letters have T and no U (`same-output`). From the laws of copies in the crates files and tally, and from what is proved of reading a survey line.
+use mathlib.Core.Path.{_≡_, refl, sym, ap, _∙_}
 use mathlib.Core.Bool.{true}
-use mathlib.Core.List.{List}
+use mathlib.Core.List.{List, _++_, Forall₂·nil, append-assoc, append-cancel-right}
 use Prim.Native.Nat.{ℕ}
+use lib.ListN.{length, length-append, length-map}
 use lib.Dec.{eqb}
+use Rattle.laws.specs.Text as text
 use Rattle.lines.proofs.Mapped.{first-mapped}
 use Rattle.settings.specs.Settings.{readsUAsT}
 use Rattle.settings.specs.Copies.{tForU, CopyWithT}
@@ -16,7 +18,11 @@ use Rattle.files.specs.Copies.{FileCopy}
 use Rattle.files.proofs.Copies.{same-file-fault, same-file-numbers}
 use Rattle.tally.specs.Table.{tableFull, addGround, addAnswer}
 use Rattle.tally.proofs.Copies.{same-windows-of-file, same-ready-ground}
-use Rattle.program.specs.Program.{clearedTable, answerText, surveyText, kindByFirstByte, programFile}
+use Rattle.survey.specs.Grammar.{LineEnd, SurveyInput}
+use Rattle.survey.specs.Grammar.LineEnd.{lf, crlf, with-the-input}
+use Rattle.survey.specs.Reading.{readLine}
+use Rattle.survey.proofs.Theorems.{reads-all}
+use Rattle.program.specs.Program.{clearedTable, answerText, surveyText, kindByFirstByte, programFile, lineText, programText}
 
 -- The copy of a file is of the kind that the file is taken for: neither byte is @.
 file-copy : {bytes copy : List ℕ} → CopyWithT bytes copy → FileCopy (programFile bytes) (programFile copy)
@@ -33,10 +39,55 @@ module _ (letters : List ℕ) (reads : readsUAsT letters ≡ true) (k m : ℕ) w
   same-answer-text D (given n) = rw (same-windows-of-file letters reads k m D)
   same-answer-text D (refused g) = refl
 
-  pub same-survey-text : {bytes copy : List ℕ} → CopyWithT bytes copy
+  same-survey-text : {bytes copy : List ℕ} → CopyWithT bytes copy
       → surveyText letters k m (programFile bytes) ≡ surveyText letters k m (programFile copy)
   unfolding surveyText addGround
   same-survey-text {bytes} C =
       let D = file-copy C in
       same-answer-text D (addAnswer letters k m 16384 (tableFull letters k m clearedTable (programFile bytes)) (programFile bytes))
       ∙ rw (same-windows-of-file letters reads k m D, same-ready-ground letters reads k m D 16384, same-file-fault D, same-file-numbers D letters reads k)
+
+  -- ---- the whole input
+
+  line-end-copied : {end file copy : List ℕ} → CopyWithT file copy → LineEnd end file → LineEnd end copy
+  line-end-copied C lf = lf
+  line-end-copied C crlf = crlf
+  line-end-copied Forall₂·nil with-the-input = with-the-input
+
+  -- With the copy in place of the file the input is the same survey line and then the copy.
+  survey-copied : (line : List ℕ) {file copy : List ℕ} → CopyWithT file copy → SurveyInput (line ++ file) letters k m file
+      → SurveyInput (line ++ copy) letters k m copy
+  survey-copied line {file} {copy} C S =
+      record {
+        kText = S .kText;
+        mirrorText = S .mirrorText;
+        forms = S .forms;
+        end = S .end;
+        letters-good = S .letters-good;
+        k-good = S .k-good;
+        mirror-good = S .mirror-good;
+        any-order = S .any-order;
+        ends = line-end-copied C (S .ends);
+        whole =
+            let front = text.bytes "(survey " ++ (S .forms ++ (text.bytes ")" ++ S .end)) in
+            let same : line ≡ front = append-cancel-right line front file (S .whole ∙ sym (regrouped file)) in
+            ap (λ (l : List ℕ). l ++ copy) same ∙ regrouped copy;
+      }
+    where
+      regrouped : (rest : List ℕ)
+          → (text.bytes "(survey " ++ (S .forms ++ (text.bytes ")" ++ S .end))) ++ rest
+          ≡ text.bytes "(survey " ++ (S .forms ++ (text.bytes ")" ++ (S .end ++ rest)))
+      regrouped rest = simp append-assoc
+
+  -- What is printed for a survey line and a file.
+  line-text : {input file : List ℕ} → SurveyInput input letters k m file → lineText input (readLine input) ≡ surveyText letters k m (programFile file)
+  unfolding lineText
+  line-text S = let A = reads-all S in rw (A .is, A .letters-there, A .file-there)
+
+  pub same-output : (line : List ℕ) {file copy : List ℕ} → CopyWithT file copy → SurveyInput (line ++ file) letters k m file
+      → programText (line ++ file) ≡ programText (line ++ copy)
+  unfolding programText
+  same-output line {file} {copy} C S =
+      let lengths : length (line ++ file) ≡ length (line ++ copy) =
+      length-append line file ∙ rw (same-of-copies length (λ l. length-map l tForU) C) (sym (length-append line copy)) in
+      rw (lengths, line-text S, line-text (survey-copied line C S), same-survey-text C)

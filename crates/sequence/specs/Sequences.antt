@@ -20,7 +20,7 @@ abbrev pub isRank : Option ℕ → Bool
 isRank none = false
 isRank (some rank) = true
 
--- Whether every byte is a letter of the settings.
+-- Whether every byte is a letter of the settings, that is, has a rank.
 unfoldable pub allLetters : List ℕ → List ℕ → Bool
 allLetters letters [] = true
 allLetters letters (b ∷ bs) = isRank (rankIn letters b) && allLetters letters bs

@@ -1,4 +1,5 @@
--- Document 02, K2: "a file and its copy with T for U": what a copy of a word, a sequence or a file's bytes is, of which theorems say that it is read as they are.
+-- Document 02, K2: "a file and its copy with T for U": what a copy of a word, a sequence or a file's bytes is, of which theorems say that it is read as
+-- they are.
 use mathlib.Core.Path.{_≡_}
 use mathlib.Core.Bool.{cond}
 use mathlib.Core.Logic.{_⊎_}
@@ -10,6 +11,6 @@ use lib.Dec.{eqb}
 unfoldable pub tForU : ℕ → ℕ
 tForU b = cond (eqb b 85) 84 (cond (eqb b 117) 116 b)
 
--- A copy with T for some or all of the U: place by place the byte itself, or T for U.
+-- A copy with T for some or all of the U, and t for some or all of the u: in each place the byte itself or what stands for it.
 abbrev pub CopyWithT : (bytes copy : List ℕ) → Type 0
 CopyWithT bytes copy = Forall₂ (λ (b c : ℕ). (c ≡ b) ⊎ (c ≡ tForU b)) bytes copy

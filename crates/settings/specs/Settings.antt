@@ -50,7 +50,8 @@ readsUAsT letters = isIn 84 letters && not (isIn 85 letters)
 unfoldable pub readAs : List ℕ → ℕ → ℕ
 readAs letters b = cond (eqb (capitalOf b) 85 && readsUAsT letters) 84 (capitalOf b)
 
--- "a letter's rank is its place in that list, from 0"; none for a byte that is read as no letter of the settings.
+-- "a letter's rank is its place in that list, from 0"; none for a byte that is read as no letter of the settings. A byte that has a rank is called a letter
+-- of the settings everywhere, U with T's rank too.
 abbrev pub rankIn : List ℕ → ℕ → Option ℕ
 rankIn letters b = placeFrom 0 (readAs letters b) letters
 

@@ -102,7 +102,7 @@ pub enum Checked {
     Bad(Refusal),
 }
 
-// A byte's rank among the letters, or that it is none of them.
+// A byte's rank among the letters, or that it is read as none of them.
 pub enum Rank {
     At(usize),
     NoLetter,

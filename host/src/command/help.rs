@@ -57,9 +57,9 @@ Prints the code of each word's class, one a line; the words are read from standa
 none is given, or only -. A word and its mirror have the same code. A refused word is named on standard error
 instead.
 
-Example:
+Examples:
   wontirje code --k 8 TACGGCTA TAGCCGTA             prints 1571 twice
-  wontirje code --k 2 UA                            prints 3, the code of TA
+  wontirje code --k 2 UA                            prints 3, as for TA: U is read as T
 ";
 
 pub const WORD: &str = "\
