@@ -12,8 +12,8 @@
  *                         A letter's rank is its place in this list, from 0. s is their number. DNA is ACGT.
  *                         Words, sequences and files may have small letters, which count as their capitals;
  *                         and where the letters have T and no U, U counts as T in them, so that RNA is read
- *                         under ACGT: below, such a U is a letter of the settings. What is written has the
- *                         letters of this list alone.
+ *                         under ACGT: below, such a U is a letter of the settings. Words that are written have
+ *                         the letters of this list alone.
  *   k                     the letters in a word: at least 1, and s^k at most 2^62. The largest k is 62
  *                         for two letters, 39 for three, 31 for four, 15 for sixteen.
  *   mirror                KMER_REVERSAL or KMER_COMPLEMENT. Under the latter the letter of rank i pairs with

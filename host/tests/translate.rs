@@ -109,14 +109,14 @@ fn a_line_above_the_memory() {
 /// U in a word is read as T where the letters have T and no U; under letters with U it is T that is refused.
 #[test]
 fn words_with_u() {
-    let run = run(&["code", "--k", "2", "UA", "ua", "U*"]);
-    assert_eq!((run.status, run.text()), (1, "3\n3\n"));
+    let under_t = run(&["code", "--k", "2", "UA", "ua", "U*"]);
+    assert_eq!((under_t.status, under_t.text()), (1, "3\n3\n"));
     let refused = "U*: refused 9: a byte of the word is no letter of the settings: letter 2 of the word";
-    assert_eq!(run.complaints(), [refused]);
-    let run = self::run(&["code", "--k", "2", "--letters", "ACGU", "UA", "TA"]);
-    assert_eq!((run.status, run.text()), (1, "3\n"));
+    assert_eq!(under_t.complaints(), [refused]);
+    let under_u = run(&["code", "--k", "2", "--letters", "ACGU", "UA", "TA"]);
+    assert_eq!((under_u.status, under_u.text()), (1, "3\n"));
     let refused = "TA: refused 9: a byte of the word is no letter of the settings: letter 1 of the word";
-    assert_eq!(run.complaints(), [refused]);
+    assert_eq!(under_u.complaints(), [refused]);
 }
 
 /// Arguments are refused one by one too, an empty one among them.

@@ -81,7 +81,7 @@ fn files_and_their_copies_give_equal_tables() {
     assert!([7, 10, 11, 15, 16, 17].iter().all(|&number| turned_away[number] > 5), "{turned_away:?}");
 }
 
-/// On both paths where there are two, with other foreign bytes between the letters.
+/// On both paths where there are two, with foreign bytes between the letters.
 #[test]
 fn sequences_and_their_copies_have_equal_codes() {
     let mut random = Random::new(91);
@@ -144,6 +144,7 @@ fn full_counts_refuse_a_file_and_its_copy() {
     }
 }
 
+/// The program's whole output, for files taken in and refused, beside the second counter's too.
 #[test]
 fn the_program_prints_the_same_for_a_copy() {
     let mut random = Random::new(93);

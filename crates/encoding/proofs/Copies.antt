@@ -4,10 +4,9 @@ use mathlib.Core.Path.{_≡_, refl}
 use mathlib.Core.Bool.{true}
 use mathlib.Core.List.{List, [], _∷_, map}
 use Prim.Native.Nat.{ℕ, suc}
-use lib.ListN.{length, length-map}
 use Rattle.settings.specs.Settings.{readsUAsT}
 use Rattle.settings.specs.Copies.{tForU, CopyWithT}
-use Rattle.settings.proofs.Copies.{same-rank, same-of-copies}
+use Rattle.settings.proofs.Copies.{same-rank, same-of-copies, same-length}
 use Rattle.encoding.specs.Calls.{ranksOf, foreignFrom, codeGround, mirrorGround, pickGround, coding, mirrorBytes, firstPicked}
 
 module _ (letters : List ℕ) (reads : readsUAsT letters ≡ true) where
@@ -22,18 +21,15 @@ module _ (letters : List ℕ) (reads : readsUAsT letters ≡ true) where
   foreign-copied n (b ∷ word) = rw (same-rank letters reads b, foreign-copied (suc n) word)
 
   module _ {word copy : List ℕ} (C : CopyWithT word copy) where
-    pub same-ranks : ranksOf letters word ≡ ranksOf letters copy
+    same-ranks : ranksOf letters word ≡ ranksOf letters copy
     same-ranks = same-of-copies (ranksOf letters) ranks-copied C
 
     same-foreign : foreignFrom letters 0 word ≡ foreignFrom letters 0 copy
     same-foreign = same-of-copies (foreignFrom letters 0) (foreign-copied 0) C
 
-    same-length : length word ≡ length copy
-    same-length = same-of-copies length (λ l. length-map l tForU) C
-
     code-ground : (k m : ℕ) → codeGround letters k m word ≡ codeGround letters k m copy
     unfolding codeGround
-    code-ground k m = rw (same-length, same-foreign)
+    code-ground k m = rw (same-length C, same-foreign)
 
     -- The code, or the refusal.
     pub same-coding : (k m : ℕ) → coding letters k m word ≡ coding letters k m copy
@@ -44,7 +40,7 @@ module _ (letters : List ℕ) (reads : readsUAsT letters ≡ true) where
     pub same-mirroring : (k m room : ℕ)
         → (mirrorGround letters k m word room ≡ mirrorGround letters k m copy room) × (mirrorBytes letters m word ≡ mirrorBytes letters m copy)
     unfolding mirrorGround mirrorBytes
-    same-mirroring k m room = (rw (same-length, same-foreign), rw same-ranks)
+    same-mirroring k m room = (rw (same-length C, same-foreign), rw same-ranks)
 
   -- Of two words, each or its copy.
   pub same-pick : (k m : ℕ) {first first′ second second′ : List ℕ} → CopyWithT first first′ → CopyWithT second second′

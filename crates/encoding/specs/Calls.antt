@@ -41,7 +41,7 @@ abbrev pub hereOr : Option ℕ → ℕ → Option ℕ → Option ℕ
 hereOr none n later = some n
 hereOr (some rank) n later = later
 
--- 9: "a byte of a word is no settings letter; P its place": the first that has no rank, of bytes whose first has the place n.
+-- 9: "a byte of a word is no settings letter; P its place": the place of the first that has no rank, of bytes whose first has the place n.
 unfoldable pub foreignFrom : List ℕ → ℕ → List ℕ → Option ℕ
 foreignFrom letters n [] = none
 foreignFrom letters n (b ∷ bs) = hereOr (rankIn letters b) n (foreignFrom letters (suc n) bs)

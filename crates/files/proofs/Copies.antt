@@ -4,11 +4,10 @@ use mathlib.Core.Path.{_≡_, sym, ap, _∙_}
 use mathlib.Core.Bool.{false, true}
 use mathlib.Core.List.{List}
 use Prim.Native.Nat.{ℕ}
-use lib.ListN.{length, length-map}
 use Rattle.settings.specs.Grounds.{outcome}
 use Rattle.settings.specs.Settings.{readsUAsT, rankIn}
-use Rattle.settings.specs.Copies.{tForU, CopyWithT}
-use Rattle.settings.proofs.Copies.{same-of-copies, same-rank}
+use Rattle.settings.specs.Copies.{CopyWithT}
+use Rattle.settings.proofs.Copies.{same-rank, same-length}
 use Rattle.fasta.specs.declared.Mode.the-variants.{Start}
 use Rattle.fasta.proofs.Copies.{same-fault, same-windows, same-numbers}
 use Rattle.fastq.proofs.Copies.{same-fastq-fault}
@@ -23,9 +22,6 @@ fault-of-kind Fasta = same-fault Start false 0
 fault-of-kind Fastq = same-fastq-fault
 
 module _ {file copy : File} (C : FileCopy file copy) where
-  pub same-length : length (file .bytes) ≡ length (copy .bytes)
-  same-length = same-of-copies length (λ l. length-map l tForU) (C .bytes)
-
   pub same-file-fault : fileFault file ≡ fileFault copy
   same-file-fault = fault-of-kind (file .kind) (C .bytes) ∙ ap (λ (kind : Kind). faultOf kind (copy .bytes)) (sym (C .kind))
 
@@ -40,4 +36,4 @@ module _ {file copy : File} (C : FileCopy file copy) where
         → outcome (scanGround letters k mirror file) (fileNumbers (rankIn letters) k file)
         ≡ outcome (scanGround letters k mirror copy) (fileNumbers (rankIn letters) k copy)
     unfolding scanGround tooLong
-    same-scan mirror = rw (same-length, same-file-fault, same-file-numbers)
+    same-scan mirror = rw (same-length (C .bytes), same-file-fault, same-file-numbers)

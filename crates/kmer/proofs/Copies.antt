@@ -23,7 +23,7 @@ module _ (letters : List ℕ) (reads : readsUAsT letters ≡ true) (k m : ℕ) w
   module _ {file copy : File} (C : FileCopy file copy) where
     same-ground : (t : List ℕ) (room : ℕ) → addIntoGround letters k m t file room ≡ addIntoGround letters k m t copy room
     unfolding addIntoGround
-    same-ground t room = rw (same-windows-of-file letters reads k m C, same-ready-ground letters reads k m C (length t), same-file-fault C)
+    same-ground t room = rw (same-windows-of-file letters k C reads, same-ready-ground letters k C m (length t), same-file-fault C)
 
     -- Of one call, with a lent list of any length.
     pub copy-added-into : {t lent t′ u′ new new′ : List ℕ} {r r′ : ℕ} → AddsInto letters k m t file lent r t′ new → AddsInto letters k m t copy lent r′ u′ new′
@@ -32,7 +32,7 @@ module _ (letters : List ℕ) (reads : readsUAsT letters ≡ true) (k m : ℕ) w
         let ground = same-ground t (length lent) in
         let list = ap₂ (λ (g : Option Ground) (n : Numbers). overwritten g (fiveNumbers n) lent) ground (same-file-numbers C letters reads k) in (
           ap₂ (λ (x : ℕ) (l : List ℕ). (x, l)) (A .returns ∙ rw ground (sym (B .returns))) (A .answer-left ∙ list ∙ sym (B .answer-left)),
-          A .table-left ∙ rw (ground, same-windows-of-file letters reads k m C) (sym (B .table-left)),
+          A .table-left ∙ rw (ground, same-windows-of-file letters k C reads) (sym (B .table-left)),
         )
 
   call-alike : (t : List ℕ) (c d : File × List ℕ) (a b : ℕ × List ℕ) (t′ u′ : List ℕ) → AskedAlike c d

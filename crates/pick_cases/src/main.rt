@@ -204,7 +204,7 @@ fn words_with_u() {
     show(b"ACG", 1, 0, b"U", b"A");
 }
 
-// An independent reference's answers with K2, all of them; and one of those to K10, which K2 changed: both words have a u.
+// An independent reference's answers with K2, all of them; last, a call of K10's, refused then for its u, of which the answer is worked out anew.
 fn drawn_words_with_u() {
     show(b"RT", 15, 1, b"TRTRuTRRTRTrTTR", b"RRRTTRRTRRTRTTT");
     show(b"ACGT", 2, 0, b"Tu", b"CG");

@@ -4,13 +4,13 @@ use mathlib.Core.Path.{_≡_, refl, sym, ap, _∙_}
 use mathlib.Core.Bool.{true}
 use mathlib.Core.List.{List, _++_, Forall₂·nil, append-assoc, append-cancel-right}
 use Prim.Native.Nat.{ℕ}
-use lib.ListN.{length, length-append, length-map}
+use lib.ListN.{length, length-append}
 use lib.Dec.{eqb}
 use Rattle.laws.specs.Text as text
 use Rattle.lines.proofs.Mapped.{first-mapped}
 use Rattle.settings.specs.Settings.{readsUAsT}
 use Rattle.settings.specs.Copies.{tForU, CopyWithT}
-use Rattle.settings.proofs.Copies.{same-at, same-of-copies}
+use Rattle.settings.proofs.Copies.{same-at, same-of-copies, same-length}
 use Rattle.settings.specs.Grounds.{Outcome, given, refused}
 use Rattle.fasta.specs.declared.Numbers.{Numbers}
 use Rattle.files.specs.File.{File}
@@ -24,6 +24,8 @@ use Rattle.survey.specs.Reading.{readLine}
 use Rattle.survey.proofs.Theorems.{reads-all}
 use Rattle.program.specs.Program.{clearedTable, answerText, surveyText, kindByFirstByte, programFile, lineText, programText}
 
+-- ---- a file
+
 -- The copy of a file is of the kind that the file is taken for: neither byte is @.
 file-copy : {bytes copy : List ℕ} → CopyWithT bytes copy → FileCopy (programFile bytes) (programFile copy)
 unfolding kindByFirstByte
@@ -36,7 +38,7 @@ file-copy C =
 module _ (letters : List ℕ) (reads : readsUAsT letters ≡ true) (k m : ℕ) where
   -- The same text at the same answer, since the places counted are the same.
   same-answer-text : {file copy : File} → FileCopy file copy → (answer : Outcome Numbers) → answerText letters k m file answer ≡ answerText letters k m copy answer
-  same-answer-text D (given n) = rw (same-windows-of-file letters reads k m D)
+  same-answer-text D (given n) = rw (same-windows-of-file letters k D reads)
   same-answer-text D (refused g) = refl
 
   same-survey-text : {bytes copy : List ℕ} → CopyWithT bytes copy
@@ -45,15 +47,16 @@ module _ (letters : List ℕ) (reads : readsUAsT letters ≡ true) (k m : ℕ) w
   same-survey-text {bytes} C =
       let D = file-copy C in
       same-answer-text D (addAnswer letters k m 16384 (tableFull letters k m clearedTable (programFile bytes)) (programFile bytes))
-      ∙ rw (same-windows-of-file letters reads k m D, same-ready-ground letters reads k m D 16384, same-file-fault D, same-file-numbers D letters reads k)
+      ∙ rw (same-windows-of-file letters k D reads, same-ready-ground letters k D m 16384, same-file-fault D, same-file-numbers D letters reads k)
 
-  -- ---- the whole input
+-- ---- the whole input
 
-  line-end-copied : {end file copy : List ℕ} → CopyWithT file copy → LineEnd end file → LineEnd end copy
-  line-end-copied C lf = lf
-  line-end-copied C crlf = crlf
-  line-end-copied Forall₂·nil with-the-input = with-the-input
+line-end-copied : {end file copy : List ℕ} → CopyWithT file copy → LineEnd end file → LineEnd end copy
+line-end-copied C lf = lf
+line-end-copied C crlf = crlf
+line-end-copied Forall₂·nil with-the-input = with-the-input
 
+module _ (letters : List ℕ) (k m : ℕ) where
   -- With the copy in place of the file the input is the same survey line and then the copy.
   survey-copied : (line : List ℕ) {file copy : List ℕ} → CopyWithT file copy → SurveyInput (line ++ file) letters k m file
       → SurveyInput (line ++ copy) letters k m copy
@@ -84,10 +87,9 @@ module _ (letters : List ℕ) (reads : readsUAsT letters ≡ true) (k m : ℕ) w
   unfolding lineText
   line-text S = let A = reads-all S in rw (A .is, A .letters-there, A .file-there)
 
-  pub same-output : (line : List ℕ) {file copy : List ℕ} → CopyWithT file copy → SurveyInput (line ++ file) letters k m file
+  pub same-output : readsUAsT letters ≡ true → (line : List ℕ) {file copy : List ℕ} → CopyWithT file copy → SurveyInput (line ++ file) letters k m file
       → programText (line ++ file) ≡ programText (line ++ copy)
   unfolding programText
-  same-output line {file} {copy} C S =
-      let lengths : length (line ++ file) ≡ length (line ++ copy) =
-      length-append line file ∙ rw (same-of-copies length (λ l. length-map l tForU) C) (sym (length-append line copy)) in
-      rw (lengths, line-text S, line-text (survey-copied line C S), same-survey-text C)
+  same-output reads line {file} {copy} C S =
+      let lengths : length (line ++ file) ≡ length (line ++ copy) = length-append line file ∙ rw (same-length C) (sym (length-append line copy)) in
+      rw (lengths, line-text S, line-text (survey-copied line C S), same-survey-text letters reads k m C)

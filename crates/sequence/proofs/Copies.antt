@@ -1,6 +1,6 @@
 -- Copies with T for U (document 02, K2) of sequences: where the settings have T and no U, a call along a sequence and one along its copy answer and leave the
 -- same, on both paths, of which the contract is one (`same-sequence`). Byte by byte and window by window.
-use mathlib.Core.Path.{_≡_, refl, ap, _∙_}
+use mathlib.Core.Path.{_≡_, refl, sym, ap, _∙_}
 use mathlib.Core.Bool.{true}
 use mathlib.Core.List.{List, [], _∷_, map}
 use Prim.Native.Nat.{ℕ}
@@ -8,9 +8,10 @@ use lib.ListN.{length, length-map}
 use Rattle.laws.specs.Windows.{windows}
 use Rattle.laws.proofs.Windows.{windows-mapped}
 use Rattle.settings.specs.declared.Filling.{Filling}
+use Rattle.settings.specs.Grounds.{ofFilling}
 use Rattle.settings.specs.Settings.{readsUAsT}
 use Rattle.settings.specs.Copies.{tForU, CopyWithT}
-use Rattle.settings.proofs.Copies.{same-rank, same-of-copies}
+use Rattle.settings.proofs.Copies.{same-rank, same-of-copies, same-length}
 use Rattle.encoding.proofs.Copies.{ranks-copied}
 use Rattle.sequence.specs.Sequences.{allLetters, codeOrNone, sequenceCodes, sequenceGround, FillsCodes}
 
@@ -32,7 +33,7 @@ module _ (letters : List ℕ) (reads : readsUAsT letters ≡ true) (k m : ℕ) w
 
     same-ground : (room : ℕ) → sequenceGround letters k m sequence room ≡ sequenceGround letters k m copy room
     unfolding sequenceGround
-    same-ground room = rw (same-count, same-of-copies length (λ l. length-map l tForU) C)
+    same-ground room = rw (same-count, same-length C)
 
     same-codes : sequenceCodes letters k m sequence ≡ sequenceCodes letters k m copy
     unfolding sequenceCodes
@@ -40,6 +41,10 @@ module _ (letters : List ℕ) (reads : readsUAsT letters ≡ true) (k m : ℕ) w
         same-of-copies (λ (l : List ℕ). map (codeOrNone letters k m) (windows k l))
         (λ l. ap (map (codeOrNone letters k m)) (windows-mapped tForU k l) ∙ codes-copied (windows k l)) C
 
-    -- So what a call answers and leaves of the sequence is what it answers and leaves of the copy, refused or not.
-    pub same-sequence : (old : List ℕ) (r : Filling) (new : List ℕ) → FillsCodes letters k m sequence old r new → FillsCodes letters k m copy old r new
-    same-sequence old r new F = rw (← (same-ground (length old)), ← same-count, ← same-codes) F
+    -- Two calls with the same lent list, one along the sequence and one along the copy, refused or not: the same answer, and the same list left.
+    pub same-sequence : (r r′ : Filling) {old new new′ : List ℕ} → FillsCodes letters k m sequence old r new → FillsCodes letters k m copy old r′ new′
+        → (ofFilling r ≡ ofFilling r′) × (new ≡ new′)
+    same-sequence r r′ {old} F G = (
+      F .answers ∙ rw (same-ground (length old), same-count) (sym (G .answers)),
+      F .leaves ∙ rw (same-ground (length old), same-codes) (sym (G .leaves)),
+    )

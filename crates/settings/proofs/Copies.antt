@@ -1,18 +1,19 @@
 -- The rank of U (document 02, K2), and copies with T for U. Where the settings have T and no U, U has T's rank (`rank-of-U`); else, and for all other bytes,
 -- the rank is as before (`rank-as-before`). A function that takes U for T, and u for t, takes a byte for what stands for it in a copy (`same-at`), and the rank is
--- such a function (`same-rank`). All copies of some bytes become the same by T for every U (`copies-meet`), so what that leaves as it is is the same for all
--- of them (`same-of-copies`). By cases on the two bytes, and byte by byte.
+-- such a function (`same-rank`). All copies of some bytes become the same by T for every U (`copies-meet`), so what this leaves as it was is the same for all
+-- of them (`same-of-copies`), their length too (`same-length`). By cases on the two bytes, and byte by byte.
 use mathlib.Core.Path.{_≡_, refl, sym, ap, ap₂, _∙_}
 use mathlib.Core.Bool.{Bool, true, false}
 use mathlib.Core.Logic.{_⊎_, _≢_, inl, inr, ⊎-elim}
 use mathlib.Core.List.{List, [], _∷_, map, Forall₂·nil, Forall₂·cons}
 use Prim.Native.Nat.{ℕ}
 use lib.Dec.{eqb}
+use lib.ListN.{length, length-map}
 use borrow.Author.Tests.{eqb-true}
 use Rattle.laws.specs.Text.{bytes}
 use Rattle.settings.specs.Settings.{capitalOf, placeFrom, readsUAsT, readAs, rankIn}
 use Rattle.settings.specs.Copies.{tForU, CopyWithT}
-use Rattle.settings.proofs.Ranks.{read-U, read-other}
+use Rattle.settings.proofs.Ranks.{read-own, read-other}
 
 -- ---- a byte
 
@@ -48,10 +49,10 @@ rank-of-U letters reads = (rw reads, rw reads)
 
 -- Under all other settings, and of all other bytes, the rank is that of document 01: the place of the byte's capital.
 pub rank-as-before : (letters : List ℕ) (b : ℕ) → (readsUAsT letters ≡ false) ⊎ (capitalOf b ≢ 85) → rankIn letters b ≡ placeFrom 0 (capitalOf b) letters
-rank-as-before letters b (inl none) = ap (λ (c : ℕ). placeFrom 0 c letters) (sym (read-U letters b (sym none)))
+rank-as-before letters b (inl none) = ap (λ (c : ℕ). placeFrom 0 c letters) (sym (read-own letters b (sym none)))
 rank-as-before letters b (inr other) = ap (λ (c : ℕ). placeFrom 0 c letters) (sym (read-other letters b other))
 
--- So a byte and what stands for it in a copy have the same rank.
+-- A byte and what stands for it in a copy have the same rank.
 pub same-rank : (letters : List ℕ) → readsUAsT letters ≡ true → (b : ℕ) → rankIn letters (tForU b) ≡ rankIn letters b
 unfolding readAs capitalOf
 same-rank letters reads = same-at (rankIn letters) (rw reads) (rw reads)
@@ -67,7 +68,7 @@ pub copy-of-none : (l : List ℕ) → CopyWithT l l
 copy-of-none [] = Forall₂·nil
 copy-of-none (b ∷ l) = Forall₂·cons (inl refl) (copy-of-none l)
 
-pub copies-meet : {l copy : List ℕ} → CopyWithT l copy → map tForU l ≡ map tForU copy
+copies-meet : {l copy : List ℕ} → CopyWithT l copy → map tForU l ≡ map tForU copy
 unfolding tForU
 copies-meet Forall₂·nil = refl
 copies-meet (Forall₂·cons {a = b} {b = c} same rest) =
@@ -75,3 +76,6 @@ copies-meet (Forall₂·cons {a = b} {b = c} same rest) =
 
 pub same-of-copies : {X : Type 0} (f : List ℕ → X) → ((l : List ℕ) → f (map tForU l) ≡ f l) → {l copy : List ℕ} → CopyWithT l copy → f l ≡ f copy
 same-of-copies f same {l} {copy} C = sym (same l) ∙ ap f (copies-meet C) ∙ same copy
+
+pub same-length : {l copy : List ℕ} → CopyWithT l copy → length l ≡ length copy
+same-length = same-of-copies length (λ l. length-map l tForU)

@@ -29,9 +29,9 @@ module _ (letters : List ℕ) where
     unfolding readAs
     read-U-as-T u reads = rw (u, ← reads)
 
-    pub read-U : false ≡ readsUAsT letters → capitalOf b ≡ readAs letters b
+    pub read-own : false ≡ readsUAsT letters → capitalOf b ≡ readAs letters b
     unfolding readAs
-    read-U reads = rw (← reads, and-false (eqb (capitalOf b) 85))
+    read-own unread = rw (← unread, and-false (eqb (capitalOf b) 85))
 
     pub read-other : (capitalOf b ≡ 85 → ⊥) → capitalOf b ≡ readAs letters b
     unfolding readAs

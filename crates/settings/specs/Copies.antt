@@ -1,5 +1,5 @@
 -- Document 02, K2: "a file and its copy with T for U": what a copy of a word, a sequence or a file's bytes is, of which theorems say that it is read as
--- they are.
+-- the original is.
 use mathlib.Core.Path.{_≡_}
 use mathlib.Core.Bool.{cond}
 use mathlib.Core.Logic.{_⊎_}

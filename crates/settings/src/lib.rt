@@ -120,7 +120,7 @@ fn capital(b: u8) -> u8
     b
 }
 
-// Whether the letters have T and no U, so that U is read as T.
+// Whether the letters have T (84) and no U (85), so that U is read as T (document 02, K2).
 fn reads_u_as_t(letters: &[u8]) -> bool
     ensures { λ r. ⌜ r ≡ readsUAsT (now (letters .entry)) ⌝ }
 {
@@ -147,10 +147,10 @@ fn read_as(letters: &[u8], b: u8) -> u8
 pub fn rank_of(letters: &[u8], b: u8) -> Rank
     ensures { λ r. ⌜ ofRank r ≡ rankIn (now (letters .entry)) b ⌝ }
 {
-    let u = read_as(letters, b);
+    let c = read_as(letters, b);
     let mut i = 0;
     while i < letters.len() {
-        if letters[i] == u {
+        if letters[i] == c {
             return Rank::At(i);
         }
         i += 1;

@@ -1,6 +1,6 @@
 -- "There a file and its copy with T for U must now give equal tables" (document 02, K2): where the settings have T and no U, an add of a file and an add of its
 -- copy to the same table give the same answer, numbers or refusal and P, and leave the same table (`copy-added`); and so do two lists of adds, the one with
--- copies in place of some or all of the other's files (`copies-added`). From the laws of copies in the crate files; list by list from `same-calls`.
+-- copies in place of some or all of the other's files (`copies-added`). From the laws of copies in the crate files; for lists call by call, by `same-calls`.
 use mathlib.Core.Path.{_≡_, refl, sym, ap₂, _∙_}
 use mathlib.Core.Bool.{true}
 use mathlib.Core.List.{List, _∷_, Forall₂, Forall₂·nil, Forall₂·cons}
@@ -8,11 +8,12 @@ use Prim.Native.Nat.{ℕ}
 use lib.ListN.{length}
 use Rattle.settings.specs.Grounds.{Outcome}
 use Rattle.settings.specs.Settings.{readsUAsT}
+use Rattle.settings.proofs.Copies.{same-length}
 use Rattle.fasta.specs.declared.Numbers.{Numbers}
 use Rattle.files.specs.File.{File}
 use Rattle.files.specs.Scan.{tooLong}
 use Rattle.files.specs.Copies.{FileCopy}
-use Rattle.files.proofs.Copies.{same-length, same-file-fault, same-file-windows, same-file-numbers}
+use Rattle.files.proofs.Copies.{same-file-fault, same-file-windows, same-file-numbers}
 use Rattle.tally.specs.Table.{windowsOfFile, readyGround, addGround, tableGround, Added}
 use Rattle.tally.specs.Demand.{Calls, Adds}
 use Rattle.tally.specs.Demand.Calls.{done, then}
@@ -34,25 +35,27 @@ same-calls Step R same (Forall₂·cons {a = c} {b = d} {l₂ = ds} r rs) (then 
 
 -- ---- adds
 
+module _ (letters : List ℕ) (k : ℕ) {file copy : File} (C : FileCopy file copy) where
+  pub same-windows-of-file : readsUAsT letters ≡ true → windowsOfFile letters k file ≡ windowsOfFile letters k copy
+  unfolding windowsOfFile
+  same-windows-of-file reads = same-file-windows C letters reads k
+
+  -- The grounds before the file is read, whatever the letters are.
+  pub same-ready-ground : (m room : ℕ) → readyGround letters k m room (file .bytes) ≡ readyGround letters k m room (copy .bytes)
+  unfolding readyGround tooLong
+  same-ready-ground m room = rw (same-length (C .bytes))
+
 module _ (letters : List ℕ) (reads : readsUAsT letters ≡ true) (k m : ℕ) where
   module _ {file copy : File} (C : FileCopy file copy) where
-    pub same-windows-of-file : windowsOfFile letters k file ≡ windowsOfFile letters k copy
-    unfolding windowsOfFile
-    same-windows-of-file = same-file-windows C letters reads k
-
-    pub same-ready-ground : (room : ℕ) → readyGround letters k m room (file .bytes) ≡ readyGround letters k m room (copy .bytes)
-    unfolding readyGround tooLong
-    same-ready-ground room = rw (same-length C)
-
     same-ground : (t : List ℕ) → tableGround letters k m t file ≡ tableGround letters k m t copy
     unfolding addGround
-    same-ground t = rw (same-windows-of-file, same-ready-ground (length t), same-file-fault C)
+    same-ground t = rw (same-windows-of-file letters k C reads, same-ready-ground letters k C m (length t), same-file-fault C)
 
     pub copy-added : {t t′ u′ : List ℕ} {answer answer′ : Outcome Numbers} → Added letters k m t file answer t′ → Added letters k m t copy answer′ u′
         → (answer ≡ answer′) × (t′ ≡ u′)
     copy-added {t} A B = (
       A .answers ∙ rw (same-ground t, same-file-numbers C letters reads k) (sym (B .answers)),
-      A .leaves ∙ rw (same-ground t, same-windows-of-file) (sym (B .leaves)),
+      A .leaves ∙ rw (same-ground t, same-windows-of-file letters k C reads) (sym (B .leaves)),
     )
 
   pub copies-added : {files copies : List File} → Forall₂ FileCopy files copies
