@@ -33,6 +33,14 @@ pub fn two_bit_settings(k: usize) -> Settings {
     Settings::new(b"ACGT", k, COMPLEMENT)
 }
 
+/// All 256 words of four letters of DNA, one after the other, twice: a window that slides over them has each of
+/// them at each of its places.
+pub fn all_fours() -> Vec<u8> {
+    let once: Vec<u8> =
+        (0..256).flat_map(|byte| [6, 4, 2, 0].map(|bits| b"ACGT"[byte >> bits & 3])).collect();
+    once.repeat(2)
+}
+
 /// The two-bit path on a filled list of `room` places: its answer and the list after it.
 pub fn codes_two_bit(k: usize, sequence: &[u8], room: usize) -> (u64, Vec<u64>) {
     let settings = two_bit_settings(k);

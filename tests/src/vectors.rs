@@ -1,7 +1,7 @@
 //! Reads the stored answers of independent reference implementations: vectors/words.txt, those to document 01
-//! alone, vectors/k10_calls.txt, those to document 01 with document 02, K10, and vectors/k02_calls.txt, those with
-//! K2 too; the heads of these files say what their columns are. Holds the second coder and its grounds against
-//! them.
+//! alone, vectors/k10_calls.txt, those to document 01 with document 02, K10, and vectors/k02_calls.txt and
+//! vectors/k03_calls.txt, those with K2 and with K3 too; the heads of these files say what their columns are. Holds
+//! the second coder and its grounds against them.
 
 use crate::expected::Refusal;
 use crate::settings::Settings;
@@ -15,10 +15,11 @@ const CODE_BEFORE: u64 = 9;
 /// The name of a file of stored calls, and its text.
 pub type StoredFile = (&'static str, &'static str);
 
-const CALLS: [StoredFile; 3] = [
+const CALLS: [StoredFile; 4] = [
     ("words.txt", include_str!("../vectors/words.txt")),
     ("k10_calls.txt", include_str!("../vectors/k10_calls.txt")),
     ("k02_calls.txt", include_str!("../vectors/k02_calls.txt")),
+    ("k03_calls.txt", include_str!("../vectors/k03_calls.txt")),
 ];
 
 pub struct Vector {
@@ -62,8 +63,8 @@ pub fn rows((name, text): StoredFile, call: &str, count: usize) -> Vec<(String, 
     found
 }
 
-/// The stored calls of one kind: so many of words.txt, then of k10_calls.txt, then of k02_calls.txt.
-pub fn vectors(call: &str, counts: [usize; 3]) -> Vec<Vector> {
+/// The stored calls of one kind: so many of words.txt, then of k10_calls.txt, of k02_calls.txt and of k03_calls.txt.
+pub fn vectors(call: &str, counts: [usize; 4]) -> Vec<Vector> {
     CALLS.into_iter().zip(counts).flat_map(|(file, count)| rows(file, call, count)).map(parsed).collect()
 }
 

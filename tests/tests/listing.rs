@@ -89,7 +89,7 @@ fn counts_of_all_lengths() {
 /// The stored answers of an independent reference, held against the call and the second counter's listing.
 #[test]
 fn stored_listings() {
-    for vector in vectors("listing", [0, 17, 0]) {
+    for vector in vectors("listing", [0, 17, 0, 0]) {
         let table: Vec<u32> = places(vector.given);
         check_right(&vector.settings, &table, vector.room, &vector.stored_bytes());
         vector.check_second_bytes(expected(&vector.settings, &table, vector.room));

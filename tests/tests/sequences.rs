@@ -38,6 +38,15 @@ fn dna_on_drawn_sequences() {
     }
 }
 
+/// Each entry of the table that gives the mirror of four letters is looked up for each four letters of a window.
+#[test]
+fn every_four_letters_at_every_place_of_a_window() {
+    let sequence = all_fours();
+    for k in 1..=31 {
+        check_along(&two_bit_settings(k), &sequence, sequence.len());
+    }
+}
+
 #[test]
 fn short_lengths_and_exact_room() {
     let mut random = Random::new(23);

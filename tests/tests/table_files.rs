@@ -5,8 +5,8 @@ use kmer_tests::book::*;
 use kmer_tests::draw::*;
 use kmer_tests::draw_files::*;
 use kmer_tests::expected::Refusal;
-use kmer_tests::files::FASTA;
-use kmer_tests::sequences::two_bit_settings;
+use kmer_tests::files::{FASTA, FASTQ};
+use kmer_tests::sequences::{all_fours, two_bit_settings};
 use kmer_tests::settings::*;
 use kmer_tests::tables::*;
 
@@ -19,6 +19,19 @@ fn runs_about_a_batch() {
             check_add(book, table, FASTA, &record(sequence), 5).expect("a file without damage");
         }
     });
+}
+
+/// The same windows as in sequences.rs, for every k of a table that can be had, as FASTA and as FASTQ.
+#[test]
+fn every_four_letters_at_every_place_of_a_window() {
+    let sequence = all_fours();
+    for k in 1..=12 {
+        let (letters, edge) = (sequence.len() as u64, k as u64 - 1);
+        let numbers = Ok([1, letters, 0, edge, letters - edge]);
+        assert_eq!(check_file(&two_bit_settings(k), FASTA, &record(&sequence)), numbers, "k {k}");
+        let read = [b"@\n", &sequence[..], b"\n+\n", &vec![b'!'; sequence.len()]].concat();
+        assert_eq!(check_file(&two_bit_settings(k), FASTQ, &read), numbers, "k {k}");
+    }
 }
 
 /// Header lines are passed over in blocks of 16 bytes: headers of every length over three of them, from every

@@ -36,7 +36,7 @@ use Rattle.counting.proofs.Cuts.{cut-all, cut-batch}
 
 -- ---- one batch
 
-module _ {c : Coder} {powers : List ℕ} (C : ReadyCoder c powers) (ranks : List ℕ) where
+module _ {c : Coder} {powers mirrors : List ℕ} (C : ReadyCoder c powers mirrors) (ranks : List ℕ) where
   pub codes-length : length (codesBy c (windows (c .k) ranks)) ≡ length ranks + 1 - c .k
   codes-length = length-codes (c .k) (C .some) (code (c .s) (c .mirror) (c .k)) ranks
 
@@ -82,7 +82,7 @@ pub record Counting (c : Coder) (table file : List ℕ) (start : Mode) (counts�
       ≡ bumps counts (codesBy c (cutFrom (rankByTable table) (c .k) (take n array) file mode at))
   pub room : Room (length (cutFrom (rankByTable table) (c .k) (take n array) file mode at)) counts
 
-module _ {c : Coder} {powers : List ℕ} (C : ReadyCoder c powers) where
+module _ {c : Coder} {powers mirrors : List ℕ} (C : ReadyCoder c powers mirrors) where
   pub short-words : c .k ≤ 62
   short-words = k-at-most (C .limits)
 

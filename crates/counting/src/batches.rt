@@ -161,8 +161,8 @@ fn no_codes() -> [u64; 1024]
 }
 
 // Counts the windows of some letters of a run.
-fn count_batch(counts: &mut [u32], ranks: &[u8], c: Coder, powers: &[u64; 64])
-    requires { ⌜ ReadyCoder c (now powers) ⌝ }
+fn count_batch(counts: &mut [u32], ranks: &[u8], c: Coder, powers: &[u64; 64], mirrors: &[u8; 256])
+    requires { ⌜ ReadyCoder c (now powers) (now mirrors) ⌝ }
     requires { ⌜ Ranks (c .s) (now ranks) ⌝ }
     requires { ⌜ length (now ranks) ≤ 1024 ⌝ }
     requires { ⌜ length (now counts) ≡ classes (c .s) (c .mirror) (c .k) ⌝ }
@@ -171,7 +171,7 @@ fn count_batch(counts: &mut [u32], ranks: &[u8], c: Coder, powers: &[u64; 64])
         ⌜ now (counts .exit) ≡ bumps (now (counts .entry)) (windowCodes (c .s) (c .mirror) (c .k) (now (ranks .entry))) ⌝ }
 {
     let mut codes = no_codes();
-    fill_codes(ranks, c, powers, &mut codes);
+    fill_codes(ranks, c, powers, mirrors, &mut codes);
     let n = kernels::window_count(ranks.len(), c.k);
     count_codes(counts, &codes[..n]);
 }
@@ -191,8 +191,9 @@ pub fn count_file(
     table: &[u8; 256],
     c: Coder,
     powers: &[u64; 64],
+    mirrors: &[u8; 256],
 )
-    requires { ⌜ ReadyCoder c (now powers) ⌝ }
+    requires { ⌜ ReadyCoder c (now powers) (now mirrors) ⌝ }
     requires { ⌜ RanksBelow (c .s) (now table) ⌝ }
     requires { ⌜ length (now counts) ≡ classes (c .s) (c .mirror) (c .k) ⌝ }
     requires { ⌜ Room (length (windowsIn (rankByTable (now table)) (c .k) (itemsFrom start (now file)))) (now counts) ⌝ }
@@ -207,7 +208,7 @@ pub fn count_file(
     while at < file.len() {
         let g = gather(file, table, at, mode, n, &mut array);
         let letters = g.letters;
-        count_batch(counts, &array[..letters], c, powers);
+        count_batch(counts, &array[..letters], c, powers, mirrors);
         n = carry(&mut array, letters, c.k, g.ended);
         at = g.at;
         mode = g.mode;

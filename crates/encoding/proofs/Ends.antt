@@ -66,7 +66,7 @@ ranks-drop s i w h = Ranks-right s (take i w) (drop i w) (subst (Ranks s) (sym (
 pub Ranks-ends : (s a b : ℕ) (u : List ℕ) → a < s → b < s → Ranks s u → Ranks s (a ∷ (u ++ (b ∷ [])))
 Ranks-ends s a b u ha hb hu = (ha, each-append (λ (x : ℕ). x < s) u (b ∷ []) hu (hb, tt))
 
-plain-append : (s : ℕ) (u v : List ℕ) → plain s (u ++ v) ≡ plain s u * s ^ length v + plain s v
+pub plain-append : (s : ℕ) (u v : List ℕ) → plain s (u ++ v) ≡ plain s u * s ^ length v + plain s v
 unfolding plain
 plain-append s [] v = omega arith
 plain-append s (a ∷ u) v =
@@ -130,3 +130,9 @@ mirror-cons s m a u = ap (map (mirrorRank s m)) (reverse-cons a u) ∙ map-appen
 pub mirror-snoc : (s : ℕ) (m : Mirror) (b : ℕ) (u : List ℕ) → mirror s m (u ++ (b ∷ [])) ≡ mirrorRank s m b ∷ mirror s m u
 unfolding mirror
 mirror-snoc s m b u = ap (map (mirrorRank s m)) (reverse-append u (b ∷ []))
+
+-- ---- one word behind another
+
+pub mirror-append : (s : ℕ) (m : Mirror) (u v : List ℕ) → mirror s m (u ++ v) ≡ mirror s m v ++ mirror s m u
+unfolding mirror
+mirror-append s m u v = ap (map (mirrorRank s m)) (reverse-append u v) ∙ map-append (mirrorRank s m) (reverse v) (reverse u)

@@ -3,21 +3,20 @@ use mathlib.Core.Path.{_≡_, _∙_, subst}
 use mathlib.Core.List.{List}
 use Prim.Native.Nat.{ℕ, _*_, _^_, _≤_}
 use native.Mathlib.Omega.{arith}
-use Rattle.laws.proofs.Powers.{exponent-le}
+use Rattle.laws.proofs.Powers.{exponent-le, four-pow}
 use Rattle.encoding.specs.Words.{Complement, Ranks}
 use Rattle.kernels.specs.declared.Kernel.{Kernel}
 use Rattle.kernels.specs.declared.Kernel.the-variants.{TwoBit}
 use Rattle.kernels.specs.declared.Coder.{Coder}
 use Rattle.kernels.specs.Windows.{windowCodes}
 use Rattle.kernels.specs.Needs.{Fills, Takes, ReadyCoder, TwoBitInput}
-use Rattle.kernels.proofs.TwoBit.{four-pow}
 
 four-exponent : (k : ℕ) → 4 ^ k ≤ 2 ^ 62 → k ≤ 31
 four-exponent k h =
     let e : 2 ^ (2 * k) ≤ 2 ^ 62 = rw (four-pow k) at h in
     omega (arith, exponent-le 2 (2 * k) (omega arith) e)
 
-module _ {c : Coder} {powers : List ℕ} (C : ReadyCoder c powers) (two : c .kernel ≡ TwoBit) where
+module _ {c : Coder} {powers mirrors : List ℕ} (C : ReadyCoder c powers mirrors) (two : c .kernel ≡ TwoBit) where
   taken : (c .s ≡ 4) × (c .mirror ≡ Complement)
   taken = subst (λ (x : Kernel). Takes x (c .s) (c .mirror)) two (C .takes)
 

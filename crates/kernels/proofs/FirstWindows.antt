@@ -1,4 +1,5 @@
--- The first window, letter by letter, as either kernel takes it in: i of the n letters from place j are in its plain rank u and in its mirror's v.
+-- The first window, letter by letter, as the kernel for every alphabet takes it in: i of the n letters from place j are in its plain rank u and in its
+-- mirror's v.
 use mathlib.Core.Path.{_≡_, refl, sym, _∙_}
 use mathlib.Core.List.{List}
 use Prim.Native.Nat.{ℕ, suc, _+_, _*_, _^_, _<_, _≤_}

@@ -11,13 +11,15 @@ use Rattle.settings.specs.RankTables.{RankTable, RanksBelow}
 use Rattle.settings.proofs.SettingsGrounds.{good-settings, limits}
 use Rattle.settings.proofs.RankTables.{table-below}
 use Rattle.encoding.proofs.ClassNumbers.{twice-classes, palindromes-le}
+use Rattle.packed.specs.Mirrors.{MirrorTable}
 use Rattle.kernels.specs.declared.Kernel.{Kernel}
 use Rattle.kernels.specs.declared.Coder.{Coder}
 use Rattle.kernels.specs.Needs.{Powers, Takes, coderOf, ReadyCoder}
 
 module _ (letters : List ℕ) (k m : ℕ) (good : settingsGround letters k m ≡ none) (kernel : Kernel) (takes : Takes kernel (length letters) (mirrorOf m)) where
-  ready : {powers : List ℕ} → Powers (length letters) k powers → ReadyCoder (coderOf kernel k (settingsOf letters k m)) powers
-  ready P =
+  ready : {powers mirrors : List ℕ} → Powers (length letters) k powers → MirrorTable mirrors
+      → ReadyCoder (coderOf kernel k (settingsOf letters k m)) powers mirrors
+  ready P T =
       let L = limits letters k m good in
       record {
         limits = L;
@@ -25,6 +27,7 @@ module _ (letters : List ℕ) (k m : ℕ) (good : settingsGround letters k m ≡
         count = omega (arith, twice-classes (length letters) (mirrorOf m) k);
         takes = takes;
         table = P;
+        mirror-table = T;
       }
 
   module _ (st : Settings) (is : st ≡ settingsOf letters k m) where
@@ -35,9 +38,10 @@ module _ (letters : List ℕ) (k m : ℕ) (good : settingsGround letters k m ≡
     pub coder-is : {c : Coder} → c ≡ coderOf kernel (st .k) st → c ≡ coderOf kernel k st
     coder-is e = e ∙ ap (λ (x : Settings). coderOf kernel (x .k) st) is
 
-    pub coder-ready : {powers : List ℕ} → Powers (st .s) k powers → ReadyCoder (coderOf kernel k st) powers
-    coder-ready {powers} P =
-        subst⁻¹ (λ (x : Settings). ReadyCoder (coderOf kernel k x) powers) is (ready (subst (λ (x : Settings). Powers (x .s) k powers) is P))
+    pub coder-ready : {powers mirrors : List ℕ} → Powers (st .s) k powers → MirrorTable mirrors → ReadyCoder (coderOf kernel k st) powers mirrors
+    coder-ready {powers} {mirrors} P T =
+        subst⁻¹ (λ (x : Settings). ReadyCoder (coderOf kernel k x) powers mirrors) is
+        (ready (subst (λ (x : Settings). Powers (x .s) k powers) is P) T)
 
     pub ranks-ready : {table : List ℕ} → RankTable letters table → RanksBelow (st .s) table
     ranks-ready {table} T = subst⁻¹ (λ (s : ℕ). RanksBelow s table) s-is (table-below T)

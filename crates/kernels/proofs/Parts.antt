@@ -1,13 +1,12 @@
 -- Parts of a list of ranks: their plain rank and their mirror's with a letter more at either end.
 use mathlib.Core.Path.{_≡_, ap, _∙_}
 use mathlib.Core.List.{List}
-use Prim.Native.Nat.{ℕ, suc, _+_, _*_, _/_, _%_, _^_, _<_, _≤_}
+use Prim.Native.Nat.{ℕ, suc, _+_, _*_, _^_, _<_, _≤_}
 use native.Mathlib.Omega.{arith}
-use lib.Arith.{digits-div, digits-mod}
 use lib.ListN.{length, getD}
 use Rattle.encoding.specs.Words.{Mirror, Ranks, mirrorRank, mirror, plain}
 use Rattle.encoding.proofs.Ends.{plain-snoc, length-mirror, mirror-cons, mirror-snoc}
-use Rattle.encoding.proofs.Canonical.{mirrorRank-lt, plain-below, Ranks-mirror}
+use Rattle.encoding.proofs.Canonical.{plain-below, Ranks-mirror}
 pub use Rattle.words.proofs.WordParts.{ranks-at, ranks-part, length-part, part-cons, part-snoc, part-ends}
 use Rattle.kernels.specs.Needs.{part}
 
@@ -44,17 +43,3 @@ module _ (s : ℕ) (m : Mirror) (i n : ℕ) (w : List ℕ) where
   back-lt h g =
       plain-below s n (mirror s m (part i n w)) (length-mirror s m (part i n w) ∙ length-part i n w g)
       (Ranks-mirror s m n (part i n w) (length-part i n w g) (ranks-part s i n w h))
-
--- ---- from the part of n + 1 letters at i to the next one
-
-module _ (s : ℕ) (m : Mirror) (i n : ℕ) (w : List ℕ) (inside : suc i + n < length w) (h : Ranks s w) where
-  pub plain-next : plain s (part (suc i) (suc n) w) ≡ plain s (part i (suc n) w) % s ^ n * s + getD w (suc i + n) 0
-  plain-next =
-      plain-more s (suc i) n w inside
-      ∙ rw (plain-first s i n w (omega arith), digits-mod (getD w i 0) (part-lt s (suc i) n w h (omega arith)))
-
-  pub back-next : plain s (mirror s m (part (suc i) (suc n) w)) ≡ mirrorRank s m (getD w (suc i + n) 0) * s ^ n + plain s (mirror s m (part i (suc n) w)) / s
-  back-next =
-      let leaving = mirrorRank-lt s m (getD w i 0) (ranks-at s w i h (omega arith)) in
-      back-more s m (suc i) n w inside
-      ∙ rw (back-first s m i n w (omega arith), digits-div (plain s (mirror s m (part (suc i) n w))) leaving)

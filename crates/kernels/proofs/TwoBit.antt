@@ -4,16 +4,17 @@ use mathlib.Core.Path.{_≡_, refl, sym, ap, _∙_}
 use mathlib.Core.List.{List}
 use mathlib.Core.Logic.{_≢_}
 use Prim.Native.Nat.{ℕ, zero, suc, _+_, _-_, _*_, _/_, _%_, _^_, _<_, _≤_, min, max}
-use native.Mathlib.Nat.{mod-lt, one-le-pow, pow-zero, pow-suc, pow-succ', pow-le-pow-right, lt-of-lt-of-le, div-div-eq-div-mul, div-eq-of-lt, le-div-iff-mul-le}
+use native.Mathlib.Nat.{mod-lt, mul-le-mul-left, one-le-pow, pow-zero, pow-suc, pow-succ', pow-le-pow-right, lt-of-lt-of-le, div-div-eq-div-mul, div-eq-of-lt, le-div-iff-mul-le}
 use native.Mathlib.Decide.{decLe}
 use native.Mathlib.Omega.{arith}
-use lib.Arith.{lt-of-le-ne}
+use lib.Arith.{digits-div, lt-of-le-ne}
 use lib.Bits.{bitAnd, bitXor, and-le-l, and-le-r, xor-add-and, xor-shr, xor-self, and-mask, and-high}
 use lib.Count.{leadingZeros, leading-length}
 use lib.Pow.{pow-add}
 use lib.ListN.{length}
 use Rattle.settings.specs.Settings.{classes}
 use Rattle.laws.proofs.DigitWindows.{window}
+use Rattle.laws.proofs.Powers.{pow-split, four-pow}
 use Rattle.encoding.specs.Words.{Mirror, Complement, Ranks, mirror, plain}
 use Rattle.encoding.specs.Codes.{pairRank, code}
 use Rattle.encoding.specs.WordsOfCodes.{middleOfCode}
@@ -29,12 +30,6 @@ use Rattle.kernels.proofs.Parts.{ranks-part, length-part, part-lt, back
 use Rattle.kernels.proofs.WindowEnds.{pair-total, code-lt}
 
 -- ---- powers of 4
-
-pub four-pow : (i : ℕ) → 4 ^ i ≡ 2 ^ (2 * i)
-four-pow zero = rw (pow-zero 4) refl
-four-pow (suc i) =
-    let e : 2 * suc i ≡ suc (suc (2 * i)) = omega arith in
-    rw e (omega (arith, pow-suc 4 i, four-pow i, pow-suc 2 (2 * i), pow-suc 2 (suc (2 * i))))
 
 pub four-fits : (k : ℕ) → k ≤ 31 → 4 ^ k ≤ 2 ^ 62
 four-fits k h =
@@ -52,7 +47,7 @@ four-div a i = rw (four-pow i)
 pub low-is : (a i q : ℕ) → q ≡ 4 ^ i → bitAnd a (q - 1) ≡ a % 4 ^ i
 low-is a i q e = rw (e, four-pow i) (and-mask a (2 * i))
 
-pub between-is : (a lo hi p q : ℕ) → lo ≤ hi → p ≡ 4 ^ lo → q ≡ 4 ^ hi → bitAnd a (q - p) ≡ a / 4 ^ lo % 4 ^ (hi - lo) * 4 ^ lo
+between-is : (a lo hi p q : ℕ) → lo ≤ hi → p ≡ 4 ^ lo → q ≡ 4 ^ hi → bitAnd a (q - p) ≡ a / 4 ^ lo % 4 ^ (hi - lo) * 4 ^ lo
 between-is a lo hi p q h ep eq =
     let e : 2 * hi ≡ 2 * (hi - lo) + 2 * lo = omega arith in
     rw (ep, eq, four-pow lo, four-pow hi, four-pow (hi - lo), e) (and-high a (2 * (hi - lo)) (2 * lo))
@@ -61,6 +56,25 @@ pub rest-lt : (a i one rest : ℕ) → one ≡ 4 ^ i → rest ≡ a % 4 ^ i → 
 rest-lt a i one rest eo er =
     let pos : 1 ≤ 4 ^ i = one-le-pow i 4 (omega arith) in
     rw (eo, er) (pos, omega (arith, mod-lt a pos))
+
+pow-quotient : (k q : ℕ) → q ≤ k → 4 ^ k / 4 ^ q ≡ 4 ^ (k - q)
+pow-quotient k q h =
+    let pos : 0 < 4 ^ q = one-le-pow q 4 (omega arith) in
+    let whole : 4 ^ k ≡ 4 ^ (k - q) * 4 ^ q + 0 = pow-split 4 k q h ∙ omega arith in
+    rw whole (digits-div (4 ^ (k - q)) pos)
+
+-- The rank of a pair of four letters without a product.
+pub pair-rank-four : (l r : ℕ) → l < r → r < 4 → l + (l + 1) / 2 + r - 1 ≡ pairRank 4 l r
+unfolding pairRank
+pair-rank-four zero r h g = omega arith
+pair-rank-four (suc zero) r h g = omega arith
+pair-rank-four (suc (suc zero)) r h g = omega arith
+pair-rank-four (suc (suc (suc l))) r h g = absurd (omega arith)
+
+pub pair-fits : (h low i : ℕ) → low ≡ 4 ^ i → h + 2 ≤ (h + 2) * low
+pair-fits h low i e =
+    let pos : 1 ≤ low = rw e (one-le-pow i 4 (omega arith)) in
+    omega (arith, mul-le-mul-left (h + 2) pos)
 
 -- ---- the letters in which two numbers differ
 
@@ -228,20 +242,34 @@ module _ {k e : ℕ} {d : List ℕ} {j x y : ℕ} (W : TwoBitWindow k e d j x y)
           let i′ : k - suc (k - q) ≡ q - 1 = omega (arith, pair-in) in
           record { fits = omega arith; equal = rw i (O .differ .same); differs = λ h. rw i′ (O .differ .other (omega arith)) }
 
-      pub pair-is : (L R h top low inner one rest : ℕ) → L ≡ a / 4 ^ (q - 1) → R ≡ b / 4 ^ (q - 1) → h ≡ pairRank 4 (L % 4) (R % 4) → top ≡ 4 ^ (q - 1)
-          → low ≡ 4 ^ (q - 2)
-          → inner ≡ a / 4 / 4 ^ (k - q) % 4 ^ (q - 2 - (k - q)) * 4 ^ (k - q)
-          → one ≡ 4 ^ (k - q)
-          → rest ≡ a % 4 ^ (k - q)
-          → (top + e) / 2 + h * low + inner + (one - 1 - rest) ≡ code 4 Complement k (part j k d)
-      pair-is L R h top low inner one rest eL eR eh et el ei eo er =
-          let i₁ : q - 1 ≡ suc (k - q + (q - 2 - (k - q))) = omega (arith, pair-in) in
-          let i₂ : q - 2 ≡ k - q + (q - 2 - (k - q)) = omega (arith, pair-in) in
-          let i₃ : k ≡ q - 2 - (k - q) + 2 * suc (k - q) = omega (arith, pair-in) in
-          rw (eh, eL, eR, et, el, ei, eo, er)
-          (sym (sym (by-code (k - q) pair-agree)
-          ∙ differing-value (q - 2 - (k - q)) (k - q) k e a b i₃ (W .input .count)
-          ∙ rw (← i₁, ← i₂)))
+      one-le-low : 4 ^ (k - q) ≤ 4 ^ (q - 2)
+      one-le-low = pow-le-pow-right (omega arith) (omega (arith, pair-in))
+
+      -- low is 4^(q - 2), and one, a quotient of 4^k, is 4^(k - q).
+      module _ {low one : ℕ} (el : low ≡ 4 ^ (q - 2)) (eo : one ≡ 4 ^ k / 4 ^ q) where
+        one-is : one ≡ 4 ^ (k - q)
+        one-is = eo ∙ pow-quotient k q pair-in
+
+        pub ones-fit : (1 ≤ one) × (one ≤ low) × (bitAnd a (one - 1) ≤ one - 1)
+        ones-fit = (rw one-is (one-le-pow (k - q) 4 (omega arith)), rw (one-is, el) one-le-low, and-le-r a (one - 1))
+
+        -- Half of 4^(q - 1) is twice low, which joins the pair's rank.
+        pub pair-is : (L R h : ℕ) → L ≡ a / 4 ^ (q - 1) → R ≡ b / 4 ^ (q - 1) → h ≡ pairRank 4 (L % 4) (R % 4)
+            → (h + 2) * low + e / 2 + bitAnd (a / 4) (low - one) + (one - 1 - bitAnd a (one - 1)) ≡ code 4 Complement k (part j k d)
+        pair-is L R h eL eR eh =
+            let i₁ : q - 1 ≡ suc (k - q + (q - 2 - (k - q))) = omega (arith, pair-in) in
+            let i₂ : q - 2 ≡ k - q + (q - 2 - (k - q)) = omega (arith, pair-in) in
+            let i₃ : k ≡ q - 2 - (k - q) + 2 * suc (k - q) = omega (arith, pair-in) in
+            let i₄ : q - 1 ≡ suc (q - 2) = omega arith in
+            let top : 4 ^ (q - 1) ≡ low * 4 = ap (λ (i : ℕ). 4 ^ i) i₄ ∙ pow-suc 4 (q - 2) ∙ ap (λ (x : ℕ). x * 4) (sym el) in
+            let half : (h + 2) * low + e / 2 ≡ (4 ^ (q - 1) + e) / 2 + h * low = rw top (omega arith) in
+            let inner = between-is (a / 4) (k - q) (q - 2) one low (omega (arith, pair-in)) one-is el in
+            let rest = low-is a (k - q) one one-is in
+            ap (λ (x : ℕ). x + bitAnd (a / 4) (low - one) + (one - 1 - bitAnd a (one - 1))) half
+            ∙ rw (inner, rest, eh, eL, eR, el, one-is)
+            (sym (sym (by-code (k - q) pair-agree)
+            ∙ differing-value (q - 2 - (k - q)) (k - q) k e a b i₃ (W .input .count)
+            ∙ rw (← i₁, ← i₂)))
 
     module _ (short : 2 * q < k + 2) where
       same-above : (i : ℕ) → q ≤ i → a / 4 ^ i ≡ b / 4 ^ i

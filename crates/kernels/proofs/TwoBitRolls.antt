@@ -1,67 +1,79 @@
--- Two-bit numbers from one window to the next: the first window (FirstWindows) in the terms of this kernel, then one letter more by a shift and a mask.
-use mathlib.Core.Path.{_≡_, refl, sym, _∙_}
+-- Two-bit numbers from one window to the next: the letters before the first window's last, then a letter in and one out by a shift and a mask; and the
+-- window's mirror by lookups, from the contract of `packed::window_mirror`.
+use mathlib.Core.Path.{_≡_, refl, sym, ap, _∙_}
 use mathlib.Core.List.{List}
-use Prim.Native.Nat.{ℕ, suc, _+_, _-_, _*_, _/_, _%_, _^_, _<_, _≤_}
-use native.Mathlib.Nat.{lt-of-lt-of-le}
+use Prim.Native.Nat.{ℕ, suc, _+_, _-_, _*_, _%_, _^_, _<_, _≤_}
+use native.Mathlib.Nat.{lt-of-lt-of-le, mod-eq-of-lt}
 use native.Mathlib.Numerals.{add-one}
 use native.Mathlib.Omega.{arith}
+use lib.Arith.{digits-mod}
 use lib.ListN.{length, getD}
-use Rattle.encoding.specs.Words.{Complement, mirrorRank, mirror, plain}
+use Rattle.encoding.specs.Words.{Complement, Ranks, mirror, plain}
+use Rattle.encoding.specs.WordsOfCodes.{wordOfPlain}
+use Rattle.encoding.proofs.Plain.{wordOfPlain-plain}
 use Rattle.kernels.specs.Needs.{part, TwoBitInput, TwoBitWindow}
-use Rattle.kernels.proofs.Parts.{ranks-at, part-lt, back-lt, plain-next, back-next}
-use Rattle.kernels.proofs.FirstWindows.{Opened}
+use Rattle.kernels.proofs.Parts.{ranks-part, length-part, part-lt, plain-more, plain-first}
 use Rattle.kernels.proofs.TwoBit.{four-fits}
 
--- ---- the first window: its letters, from place 0, are taken in
+rank-fits : (j k : ℕ) (d : List ℕ) → Ranks 4 d → k ≤ 31 → j + k ≤ length d → plain 4 (part j k d) < 2 ^ 62
+rank-fits j k d ranks small inside = lt-of-lt-of-le (part-lt 4 j k d ranks inside) (four-fits k small)
 
-module _ {k e : ℕ} {d : List ℕ} (I : TwoBitInput k e d) {x y i : ℕ} (O : Opened 4 Complement d 0 k x y i) where
-  pub first-strands-are : k ≤ length d → k ≤ i → TwoBitWindow k e d 0 x y
-  first-strands-are long h =
-      let i-is : i ≡ k = omega (arith, O .upto) in
-      record { input = I; inside = omega arith; ahead = rw i-is at (O .ahead); behind = rw i-is at (O .behind) }
+-- ---- the first letters, one by one
 
--- What the mirror shows of a rank, as this kernel works it out.
-pub three-less : (c : ℕ) → 3 - c ≡ mirrorRank 4 Complement c
-unfolding mirrorRank
-three-less c = refl
+pub first-rank-none : (d : List ℕ) → 0 ≡ plain 4 (part 0 0 d)
+unfolding plain
+first-rank-none d = refl
 
--- ---- the next window
+module _ (n i : ℕ) (d : List ℕ) {x : ℕ} (ahead : x ≡ plain 4 (part 0 i d)) (upto : i ≤ n) where
+  pub first-rank-all : n ≤ i → x ≡ plain 4 (part 0 n d)
+  first-rank-all all = let i-is : i ≡ n = omega arith in ahead ∙ rw i-is
 
-module _ {k e : ℕ} {d : List ℕ} {j x y : ℕ} (W : TwoBitWindow k e d j x y) (more : j + k < length d) {c : ℕ} (ec : c ≡ getD d (j + k) 0) where
+  -- c is the letter behind the first i.
+  module _ (ranks : Ranks 4 d) (small : n ≤ 31) (long : n ≤ length d) (more : i < n) {c : ℕ} (c-is : c ≡ getD d i 0) where
+    pub first-rank-more : x * 4 + c ≡ plain 4 (part 0 (i + 1) d)
+    first-rank-more =
+        let place : 0 + i ≡ i = omega arith in
+        rw (add-one i, ahead, c-is) (sym (plain-more 4 0 i d (omega arith) ∙ rw place))
+
+    pub first-rank-fits : x * 4 + c < 2 ^ 62
+    first-rank-fits = rw first-rank-more (rank-fits 0 (i + 1) d ranks (omega arith) (omega arith))
+
+-- ---- from one window to the next
+
+module _ (j k : ℕ) (d : List ℕ) (ranks : Ranks 4 d) (some : 1 ≤ k) (small : k ≤ 31) (inside : j + k ≤ length d) where
   k-is : k ≡ suc (k - 1)
-  k-is = omega (arith, W .input .some)
+  k-is = omega arith
 
-  pub next-lt : c < 4
-  next-lt = rw ec (ranks-at 4 d (j + k) (W .input .ranks) more)
+  -- c is the window's last letter, and low the others' plain rank.
+  module _ {low c : ℕ} (low-is : low ≡ plain 4 (part j (k - 1) d)) (c-is : c ≡ getD d (j + k - 1) 0) where
+    pub next-rank-is : low * 4 + c ≡ plain 4 (part j k d)
+    next-rank-is =
+        let place : j + k - 1 ≡ j + (k - 1) = omega arith in
+        rw (low-is, c-is, place) (sym (ap (λ (n : ℕ). plain 4 (part j n d)) k-is ∙ plain-more 4 j (k - 1) d (omega arith)))
 
-  c-next : c ≡ getD d (suc j + (k - 1)) 0
-  c-next = ec ∙ (let z : j + k ≡ suc j + (k - 1) = omega (arith, W .input .some) in rw z)
+    pub next-rank-fits : low * 4 + c < 2 ^ 62
+    next-rank-fits = rw next-rank-is (rank-fits j k d ranks small inside)
 
-  inside : suc j + (k - 1) < length d
-  inside = omega (arith, W .input .some)
+  -- The k - 1 lowest letters are those of the next window but for its last.
+  pub low-rank-is : {x : ℕ} → x ≡ plain 4 (part j k d) → x % 4 ^ (k - 1) ≡ plain 4 (part (j + 1) (k - 1) d)
+  low-rank-is ahead =
+      let split = ahead ∙ ap (λ (n : ℕ). plain 4 (part j n d)) k-is ∙ plain-first 4 j (k - 1) d (omega arith) in
+      rw (split, add-one j) (digits-mod (getD d j 0) (part-lt 4 (suc j) (k - 1) d ranks (omega arith)))
 
-  ahead-is : x % 4 ^ (k - 1) * 4 + c ≡ plain 4 (part (suc j) k d)
-  ahead-is = rw (W .ahead, c-next) (sym (shift k (k - 1) k-is (plain-next 4 Complement j (k - 1) d inside (W .input .ranks))))
-    where
-      shift : (k n : ℕ) → k ≡ suc n → plain 4 (part (suc j) (suc n) d) ≡ plain 4 (part j (suc n) d) % 4 ^ n * 4 + getD d (suc j + n) 0
-          → plain 4 (part (suc j) k d) ≡ plain 4 (part j k d) % 4 ^ n * 4 + getD d (suc j + n) 0
-      shift k n g h = rw g h
+pub first-low-is : (k : ℕ) (d : List ℕ) → Ranks 4 d → 1 ≤ k → k ≤ length d → {x : ℕ} → x ≡ plain 4 (part 0 (k - 1) d)
+    → x % 4 ^ (k - 1) ≡ plain 4 (part 0 (k - 1) d)
+first-low-is k d ranks some long ahead = rw ahead (mod-eq-of-lt (part-lt 4 0 (k - 1) d ranks (omega arith)))
 
-  behind-is : y / 4 + (3 - c) * 4 ^ (k - 1) ≡ plain 4 (mirror 4 Complement (part (suc j) k d))
-  unfolding mirrorRank
-  behind-is = rw (W .behind, c-next) (shift k (k - 1) k-is (back-next 4 Complement j (k - 1) d inside (W .input .ranks)))
-    where
-      shift : (k n : ℕ) → k ≡ suc n
-          → plain 4 (mirror 4 Complement (part (suc j) (suc n) d)) ≡ (3 - getD d (suc j + n) 0) * 4 ^ n + plain 4 (mirror 4 Complement (part j (suc n) d)) / 4
-          → plain 4 (mirror 4 Complement (part j k d)) / 4 + (3 - getD d (suc j + n) 0) * 4 ^ n ≡ plain 4 (mirror 4 Complement (part (suc j) k d))
-      shift k n g h = rw g (omega (arith, h))
+-- ---- the mirror
 
-  module _ {low top : ℕ} (el : low ≡ x % 4 ^ (k - 1)) (et : top ≡ 4 ^ (k - 1)) where
-    pub next-ahead : low * 4 + c < 2 ^ 62
-    next-ahead = rw (el, ahead-is) (lt-of-lt-of-le (part-lt 4 (suc j) k d (W .input .ranks) (omega arith)) (four-fits k (W .input .small)))
+module _ {k e : ℕ} {d : List ℕ} (I : TwoBitInput k e d) (j : ℕ) (inside : j + k ≤ length d) {x : ℕ} (ahead : x ≡ plain 4 (part j k d)) where
+  pub rank-lt : x < 4 ^ k
+  rank-lt = rw ahead (part-lt 4 j k d (I .ranks) inside)
 
-    pub next-behind : y / 4 + (3 - c) * top < 2 ^ 62
-    next-behind = rw (et, behind-is) (lt-of-lt-of-le (back-lt 4 Complement (suc j) k d (W .input .ranks) (omega arith)) (four-fits k (W .input .small)))
-
-    pub next-strands-are : TwoBitWindow k e d (j + 1) (low * 4 + c) (y / 4 + (3 - c) * top)
-    next-strands-are = record { input = W .input; inside = omega arith; ahead = rw (el, add-one j) ahead-is; behind = rw (et, add-one j) behind-is }
+  -- What the lookups give of the window's plain rank is its mirror's.
+  pub with-mirror : {y : ℕ} → y ≡ plain 4 (mirror 4 Complement (wordOfPlain 4 k x)) → TwoBitWindow k e d j x y
+  with-mirror looked =
+      let two : 1 < 4 = omega arith in
+      let word : wordOfPlain 4 k x ≡ part j k d
+      = ap (wordOfPlain 4 k) ahead ∙ wordOfPlain-plain 4 k (part j k d) two (length-part j k d inside) (ranks-part 4 j k d (I .ranks)) in
+      record { input = I; inside = inside; ahead = ahead; behind = looked ∙ ap (λ (w : List ℕ). plain 4 (mirror 4 Complement w)) word }

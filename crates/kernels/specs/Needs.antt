@@ -10,6 +10,7 @@ use Rattle.settings.specs.Limits.{Limits}
 use Rattle.encoding.specs.Words.{Mirror, Complement, Ranks, mirrorRank, mirror, plain}
 use Rattle.encoding.specs.Needs.{palindromes}
 pub use Rattle.words.specs.Needs.{part}
+use Rattle.packed.specs.Mirrors.{MirrorTable}
 use Rattle.kernels.specs.declared.general.Inner.{Inner}
 use Rattle.kernels.specs.declared.Kernel.{Kernel}
 use Rattle.kernels.specs.declared.Kernel.the-variants.{AnyAlphabet, TwoBit}
@@ -90,10 +91,11 @@ Takes TwoBit s m = (s ≡ 4) × (m ≡ Complement)
 abbrev pub coderOf : Kernel → ℕ → Settings → Coder
 coderOf kernel k st = record { kernel = kernel; s = st .s; k = k; mirror = st .mirror; palindromes = 2 * st .classes - st .words }
 
--- Good settings as a kernel takes them, with the powers of s.
-pub record ReadyCoder (c : Coder) (powers : List ℕ) : Type 0 where
+-- Good settings as a kernel takes them, with the powers of s and the table of mirrors.
+pub record ReadyCoder (c : Coder) (powers mirrors : List ℕ) : Type 0 where
   pub limits : Limits (c .s) (c .k)
   pub some : 1 ≤ c .k
   pub count : c .palindromes ≡ palindromes (c .s) (c .mirror) (c .k)
   pub takes : Takes (c .kernel) (c .s) (c .mirror)
   pub table : Powers (c .s) (c .k) powers
+  pub mirror-table : MirrorTable mirrors

@@ -1,5 +1,5 @@
-// From ranks to codes: the piece that codes along a sequence and adding a file share. It takes good settings as a `Coder` with the powers of s, made
-// once a call, and a list of ranks. Callers cut what is too long for their arrays into pieces that overlap by k - 1 letters.
+// From ranks to codes: the piece that codes along a sequence and adding a file share. It takes good settings as a `Coder` with the powers of s and the
+// table of mirrors, each made once a call, and a list of ranks. Callers cut what is too long for their arrays into pieces that overlap by k - 1 letters.
 mod general; // every alphabet
 mod pairs; // the lower and the higher of two numbers, an entry of a list of ranks
 mod two_bit; // four letters under complement
@@ -81,9 +81,9 @@ pub fn window_count(n: usize, k: usize) -> usize
 }
 
 // The codes of all windows of a list of ranks, from the start of a lent list. It asks for a coder of good settings whose kernel takes them, with its
-// powers (`ReadyCoder`), ranks below s, and a place for each window.
-pub fn fill_codes(ranks: &[u8], c: Coder, powers: &[u64; 64], out: &mut [u64])
-    requires { ⌜ ReadyCoder c (now powers) ⌝ }
+// powers and the table of mirrors (`ReadyCoder`), ranks below s, and a place for each window.
+pub fn fill_codes(ranks: &[u8], c: Coder, powers: &[u64; 64], mirrors: &[u8; 256], out: &mut [u64])
+    requires { ⌜ ReadyCoder c (now powers) (now mirrors) ⌝ }
     requires { ⌜ Ranks (c .s) (now ranks) ⌝ }
     requires { ⌜ length (now ranks) + 1 - c .k ≤ length (now out) ⌝ }
     ensures { λ _. ⌜ Fills (windowCodes (c .s) (c .mirror) (c .k) (now (ranks .entry))) (now (out .entry)) (now (out .exit)) ⌝ }
@@ -92,6 +92,6 @@ pub fn fill_codes(ranks: &[u8], c: Coder, powers: &[u64; 64], out: &mut [u64])
     let m = c.mirror;
     match kernel {
         Kernel::AnyAlphabet => general::fill(ranks, c.k, c.s, m, powers, c.palindromes, out),
-        Kernel::TwoBit => two_bit::fill(ranks, c.k as u64, c.palindromes, out),
+        Kernel::TwoBit => two_bit::fill(ranks, c.k as u64, c.palindromes, mirrors, out),
     }
 }

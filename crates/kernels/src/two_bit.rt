@@ -1,22 +1,17 @@
-// The kernel by two-bit numbers, for four letters under complement: a window's plain rank and its mirror's are rolled by shifts and masks, and a
-// count of leading zeros finds the pair that differs (source document 002, section 5.2).
+// The kernel by two-bit numbers, for four letters under complement: a window's plain rank is rolled by a shift and a mask, its mirror's is looked up
+// four letters at a time, and a count of leading zeros finds the pair that differs (source document 002, section 5.2; document 02, K3).
 use super::pairs::higher;
 use super::pairs::lower;
 use super::pairs::rank_at;
-use words::pair_ranks::pair_rank;
+use packed::window_mirror;
 ghost use mathlib.Core.Path.{_≡_};
 ghost use Prim.Native.Nat.{_+_, _-_, _*_, _/_, _%_, _^_, _<_, _≤_};
 ghost use lib.ListN.{length};
-ghost use Rattle.encoding.specs.Words.{Complement};
-ghost use Rattle.encoding.specs.Codes.{code};
+ghost use Rattle.encoding.specs.Words.{Complement, Ranks, plain};
+ghost use Rattle.encoding.specs.Codes.{pairRank, code};
+ghost use Rattle.packed.specs.Mirrors.{MirrorTable};
 ghost use Rattle.kernels.specs.Windows.{windowCodes};
 ghost use Rattle.kernels.specs.Needs.{part, Fills, TwoBitInput, TwoBitWindow, Differ, Ordered};
-
-// A window's plain rank and its mirror's.
-pub struct Strands {
-    pub forward: u64,
-    pub back: u64,
-}
 
 // 4^i, a bit in the place of the letter i.
 fn power_of_four(i: u64) -> u64
@@ -42,15 +37,6 @@ fn low_letters(a: u64, i: u64) -> u64
     a & (power_of_four(i) - 1)
 }
 
-// The letters of a from the place lo up to the place hi, where they stand.
-fn letters_between(a: u64, lo: u64, hi: u64) -> u64
-    requires { ⌜ lo ≤ hi ⌝ }
-    requires { ⌜ hi < 32 ⌝ }
-    ensures { λ r. ⌜ r ≡ a / 4 ^ lo % 4 ^ (hi - lo) * 4 ^ lo ⌝ }
-{
-    a & (power_of_four(hi) - power_of_four(lo))
-}
-
 // How many lowest letters reach up to the highest one that differs; 0 where none does.
 fn differing_letters(a: u64, b: u64) -> u64
     ensures { λ r. ⌜ Differ a b r ⌝ }
@@ -59,8 +45,18 @@ fn differing_letters(a: u64, b: u64) -> u64
     (65 - z) / 2
 }
 
-// The code of the window at j where a pair of two letters differs. a and b are its lower and its higher strand, and their `differing` lowest letters
-// reach up to the highest one that differs; as many letters as are above it, `equal`, agree at either end.
+// The rank of a pair l < r of four letters: l(5 - l)/2 is 0, 2 or 3.
+fn pair_rank_of_four(l: u64, r: u64) -> u64
+    requires { ⌜ l < r ⌝ }
+    requires { ⌜ r < 4 ⌝ }
+    ensures { λ p. ⌜ p ≡ pairRank 4 l r ⌝ }
+{
+    l + (l + 1) / 2 + r - 1
+}
+
+// The code of the window at j where a pair of two letters differs. a and b are the lower and the higher of its plain rank and its mirror's, and their
+// `differing` lowest letters reach up to the highest one that differs; the k - differing letters above it agree at either end. `inner` are the letters
+// between the pair, and one - 1 - rest the digits of the equal pairs, with `one` in the place above them.
 fn pair_code(
     ranks: &[u8],
     j: usize,
@@ -77,16 +73,14 @@ fn pair_code(
     requires { ⌜ k + 2 ≤ 2 * differing ⌝ }
     ensures { λ r. ⌜ r ≡ code 4 Complement k (part j k (now (ranks .entry))) ⌝ }
 {
-    let equal = k - differing;
     let l = without_low(a, differing - 1);
     let r = without_low(b, differing - 1);
-    let pair = pair_rank(4, l % 4, r % 4);
-    let top = power_of_four(differing - 1);
+    let pair = pair_rank_of_four(l % 4, r % 4);
     let low = power_of_four(differing - 2);
-    let inner = letters_between(a / 4, equal, differing - 2);
-    let one = power_of_four(equal);
-    let rest = low_letters(a, equal);
-    (top + palindromes) / 2 + pair * low + inner + (one - 1 - rest)
+    let one = without_low(power_of_four(k), differing);
+    let inner = a / 4 & (low - one);
+    let rest = a & (one - 1);
+    (pair + 2) * low + palindromes / 2 + inner + (one - 1 - rest)
 }
 
 // The digit of a middle letter l, 3 - l, less the odd-k subtraction, which is 2 at this place. In a canonical word l is 0 or 1.
@@ -124,11 +118,15 @@ fn middle_code(
     middle * one + (one - 1 - rest)
 }
 
-// The code of the window at j, from its plain rank and its mirror's.
-fn window_code(ranks: &[u8], j: usize, k: u64, palindromes: u64, x: u64, y: u64) -> u64
-    requires { ⌜ TwoBitWindow k palindromes (now ranks) j x y ⌝ }
+// The code of the window at j, from its plain rank x; its mirror's is looked up.
+fn window_code(ranks: &[u8], j: usize, k: u64, palindromes: u64, x: u64, mirrors: &[u8; 256]) -> u64
+    requires { ⌜ TwoBitInput k palindromes (now ranks) ⌝ }
+    requires { ⌜ j + k ≤ length (now ranks) ⌝ }
+    requires { ⌜ x ≡ plain 4 (part j k (now ranks)) ⌝ }
+    requires { ⌜ MirrorTable (now mirrors) ⌝ }
     ensures { λ r. ⌜ r ≡ code 4 Complement k (part j k (now (ranks .entry))) ⌝ }
 {
+    let y = window_mirror(x, k, mirrors);
     let a = lower(x, y);
     let b = higher(x, y);
     let differing = differing_letters(a, b);
@@ -138,60 +136,54 @@ fn window_code(ranks: &[u8], j: usize, k: u64, palindromes: u64, x: u64, y: u64)
     middle_code(ranks, j, k, palindromes, x, y, a, b, differing)
 }
 
-// The plain rank of the window at 0 and its mirror's, letter by letter.
-fn first_strands(ranks: &[u8], k: u64, palindromes: u64) -> Strands
-    requires { ⌜ TwoBitInput k palindromes (now ranks) ⌝ }
-    requires { ⌜ k ≤ length (now ranks) ⌝ }
-    ensures { λ r. ⌜ TwoBitWindow k palindromes (now (ranks .entry)) 0 (r .forward) (r .back) ⌝ }
+// The plain rank of the first n letters, letter by letter.
+fn first_rank(ranks: &[u8], n: usize) -> u64
+    requires { ⌜ Ranks 4 (now ranks) ⌝ }
+    requires { ⌜ n ≤ 31 ⌝ }
+    requires { ⌜ n ≤ length (now ranks) ⌝ }
+    ensures { λ r. ⌜ r ≡ plain 4 (part 0 n (now (ranks .entry))) ⌝ }
 {
-    let n = k as usize;
-    let mut forward: u64 = 0;
-    let mut back: u64 = 0;
+    let mut x: u64 = 0;
     let mut i: usize = 0;
     while i < n {
         let rank = rank_at(ranks, i);
-        forward = forward * 4 + rank;
-        back = back + (3 - rank) * power_of_four(i as u64);
+        x = x * 4 + rank;
         i += 1;
     }
-    Strands { forward, back }
+    x
 }
 
-// From the window at j to the next one.
-fn next_strands(ranks: &[u8], j: usize, k: u64, palindromes: u64, strands: Strands) -> Strands
-    requires { ⌜ TwoBitWindow k palindromes (now ranks) j (strands .forward) (strands .back) ⌝ }
-    requires { ⌜ j + k < length (now ranks) ⌝ }
-    ensures { λ r. ⌜ TwoBitWindow k palindromes (now (ranks .entry)) (j + 1) (r .forward) (r .back) ⌝ }
+// The plain rank of the window at j, from a number whose k - 1 lowest letters are the window's but for its last.
+fn next_rank(ranks: &[u8], j: usize, k: u64, x: u64) -> u64
+    requires { ⌜ Ranks 4 (now ranks) ⌝ }
+    requires { ⌜ (1 ≤ k) × (k ≤ 31) ⌝ }
+    requires { ⌜ j + k ≤ length (now ranks) ⌝ }
+    requires { ⌜ x % 4 ^ (k - 1) ≡ plain 4 (part j (k - 1) (now ranks)) ⌝ }
+    ensures { λ r. ⌜ r ≡ plain 4 (part j k (now (ranks .entry))) ⌝ }
 {
     let n = k as usize;
-    let rank = rank_at(ranks, j + n);
-    let low = low_letters(strands.forward, k - 1);
-    let top = power_of_four(k - 1);
-    let back = strands.back / 4 + (3 - rank) * top;
-    Strands {
-        forward: low * 4 + rank,
-        back,
-    }
+    let rank = rank_at(ranks, j + n - 1);
+    let low = low_letters(x, k - 1);
+    low * 4 + rank
 }
 
 // The codes of all windows of a list of ranks below 4, under complement, from the start of a lent list.
-pub fn fill(ranks: &[u8], k: u64, palindromes: u64, out: &mut [u64])
+pub fn fill(ranks: &[u8], k: u64, palindromes: u64, mirrors: &[u8; 256], out: &mut [u64])
     requires { ⌜ TwoBitInput k palindromes (now ranks) ⌝ }
     requires { ⌜ length (now ranks) + 1 - k ≤ length (now out) ⌝ }
+    requires { ⌜ MirrorTable (now mirrors) ⌝ }
     ensures { λ _. ⌜ Fills (windowCodes 4 Complement k (now (ranks .entry))) (now (out .entry)) (now (out .exit)) ⌝ }
 {
     let n = k as usize;
     if ranks.len() < n {
         return;
     }
-    let mut strands = first_strands(ranks, k, palindromes);
-    let first = window_code(ranks, 0, k, palindromes, strands.forward, strands.back);
-    out[0] = first;
-    let mut i: usize = 0;
-    while i + n < ranks.len() {
-        strands = next_strands(ranks, i, k, palindromes, strands);
-        i += 1;
-        let c = window_code(ranks, i, k, palindromes, strands.forward, strands.back);
-        out[i] = c;
+    let mut x = first_rank(ranks, n - 1);
+    let mut j: usize = 0;
+    while j + n <= ranks.len() {
+        x = next_rank(ranks, j, k, x);
+        let c = window_code(ranks, j, k, palindromes, x, mirrors);
+        out[j] = c;
+        j += 1;
     }
 }

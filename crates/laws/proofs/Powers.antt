@@ -20,6 +20,12 @@ pow-split s n e h =
 pub pow-two-more : (s n : ℕ) → s ^ suc (suc n) ≡ s ^ n * s * s
 pow-two-more s n = pow-suc s (suc n) ∙ ap (λ (x : ℕ). x * s) (pow-suc s n)
 
+pub four-pow : (i : ℕ) → 4 ^ i ≡ 2 ^ (2 * i)
+four-pow zero = rw (pow-zero 4) refl
+four-pow (suc i) =
+    let e : 2 * suc i ≡ suc (suc (2 * i)) = omega arith in
+    rw e (omega (arith, pow-suc 4 i, four-pow i, pow-suc 2 (2 * i), pow-suc 2 (suc (2 * i))))
+
 -- A power that is at most 2^62 has lower powers that are.
 pub pow-fits : (s n k : ℕ) → 1 < s → n ≤ k → s ^ k ≤ 2 ^ 62 → s ^ n ≤ 2 ^ 62
 pow-fits s n k hs h g = le-trans (pow-le-pow-right (omega arith) h) g

@@ -21,8 +21,15 @@ fn no_ranks() -> [u8; 4096]
 }
 
 // The numbers of the windows of one batch. Most batches have only letters, and nothing to blank.
-fn fill_batch(bytes: &[u8], table: &[u8; 256], c: Coder, powers: &[u64; 64], out: &mut [u64])
-    requires { ⌜ ReadyCoder c (now powers) ⌝ }
+fn fill_batch(
+    bytes: &[u8],
+    table: &[u8; 256],
+    c: Coder,
+    powers: &[u64; 64],
+    mirrors: &[u8; 256],
+    out: &mut [u64],
+)
+    requires { ⌜ ReadyCoder c (now powers) (now mirrors) ⌝ }
     requires { ⌜ RanksBelow (c .s) (now table) ⌝ }
     requires { ⌜ length (now bytes) ≤ 4096 ⌝ }
     requires { ⌜ length (now bytes) + 1 - c .k ≤ length (now out) ⌝ }
@@ -33,7 +40,7 @@ fn fill_batch(bytes: &[u8], table: &[u8; 256], c: Coder, powers: &[u64; 64], out
     let n = bytes.len();
     let mut ranks = no_ranks();
     let all_letters = read_ranks(bytes, table, &mut ranks[..n]);
-    fill_codes(&ranks[..n], c, powers, out);
+    fill_codes(&ranks[..n], c, powers, mirrors, out);
     if all_letters {
         return;
     }
@@ -54,9 +61,10 @@ pub fn fill_sequence(
     table: &[u8; 256],
     c: Coder,
     powers: &[u64; 64],
+    mirrors: &[u8; 256],
     list: &mut [u64],
 )
-    requires { ⌜ ReadyCoder c (now powers) ⌝ }
+    requires { ⌜ ReadyCoder c (now powers) (now mirrors) ⌝ }
     requires { ⌜ RanksBelow (c .s) (now table) ⌝ }
     requires { ⌜ length (now sequence) + 1 - c .k ≤ length (now list) ⌝ }
     ensures { λ _.
@@ -67,7 +75,14 @@ pub fn fill_sequence(
     let mut at: usize = 0;
     while at + k <= sequence.len() {
         let end = batch_end(at, sequence.len());
-        fill_batch(&sequence[at..end], table, c, powers, &mut list[at..]);
+        fill_batch(
+            &sequence[at..end],
+            table,
+            c,
+            powers,
+            mirrors,
+            &mut list[at..],
+        );
         at = end + 1 - k;
     }
 }

@@ -40,8 +40,9 @@ fn fill_checked(
     }
     let table = settings::rank_table(letters);
     let powers = kernels::power_table(st.s, k);
+    let mirrors = packed::mirror_table();
     let c = kernels::coder_of(st, kernel);
-    batches::fill_sequence(sequence, &table, c, &powers, list);
+    batches::fill_sequence(sequence, &table, c, &powers, &mirrors, list);
     Filling::Filled(needed)
 }
 

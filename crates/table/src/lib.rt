@@ -81,9 +81,10 @@ fn count_unless_full(
     ranks: &[u8; 256],
     c: Coder,
     powers: &[u64; 64],
+    mirrors: &[u8; 256],
     n: Numbers,
 ) -> Answer
-    requires { ⌜ ReadyCoder c (now powers) ⌝ }
+    requires { ⌜ ReadyCoder c (now powers) (now mirrors) ⌝ }
     requires { ⌜ RanksBelow (c .s) (now ranks) ⌝ }
     requires { ⌜ length (now counts) ≡ classes (c .s) (c .mirror) (c .k) ⌝ }
     requires { ⌜ n .windows ≡ length (fileWindows (rankByTable (now ranks)) (c .k) (fileOf kind (now file))) ⌝ }
@@ -95,7 +96,15 @@ fn count_unless_full(
     if counts::too_full(counts, n.windows) {
         return Answer::Refused(Refusal::CountsFull);
     }
-    batches::count_file(counts, file, files::start_of(kind), ranks, c, powers);
+    batches::count_file(
+        counts,
+        file,
+        files::start_of(kind),
+        ranks,
+        c,
+        powers,
+        mirrors,
+    );
     Answer::Taken(n)
 }
 
@@ -121,9 +130,19 @@ fn add_scanned(
     let m = st.mirror;
     let kernel = kernel_for(st.s, m);
     let powers = kernels::power_table(st.s, k);
+    let mirrors = packed::mirror_table();
     let classes = st.classes as usize;
     let c = kernels::coder_of(st, kernel);
-    count_unless_full(&mut table[..classes], kind, file, ranks, c, &powers, n)
+    count_unless_full(
+        &mut table[..classes],
+        kind,
+        file,
+        ranks,
+        c,
+        &powers,
+        &mirrors,
+        n,
+    )
 }
 
 // Whether a file may be read for an add: the settings, where no ground among 1, 2, 4, 6 and 7 applies.

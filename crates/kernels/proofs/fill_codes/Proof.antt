@@ -15,7 +15,7 @@ enum-told-2 : tie.Need-enum-told-2
 enum-told-2 c = search needs
 
 fill-requires-2 : tie.Need-fill-requires-2
-fill-requires-2 c κs = let p = c .before .before .before .before .before .pre in (two-bit-input (p .0) (c .before .enum-told2 .given .1) (p .1 .0), p .1 .1)
+fill-requires-2 c κs = let p = c .before .before .before .before .before .pre in (two-bit-input (p .0) (c .before .enum-told2 .given .1) (p .1 .0), (p .1 .1, p .0 .mirror-table))
 
 same-length : tie.Need-same-length
 same-length c = search needs

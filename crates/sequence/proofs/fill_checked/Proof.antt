@@ -33,16 +33,19 @@ power-table-requires c κs =
     let q = power-ready _ _ _ (begin .pre .0) (begin .args .kernel) (begin .pre .1 .1) _ (begin .pre .1 .0) in
     (q .0, q .1)
 
+mirror-table-requires : tie.Need-mirror-table-requires
+mirror-table-requires c κs = search needs
+
 coder-of-requires : tie.Need-coder-of-requires
 coder-of-requires c κs =
-    let begin = start (c .before .before) in
+    let begin = start (c .before .before .before) in
     let q = palindromes-fit _ _ _ (begin .pre .0) (begin .args .kernel) (begin .pre .1 .1) _ (begin .pre .1 .0) in
     (q .0, q .1)
 
 fill-sequence-requires : tie.Need-fill-sequence-requires
 fill-sequence-requires c κs =
-    let coder = c .before .before .before in
-    let ranks = coder .before .before in
+    let coder = c .before .before .before .before in
+    let ranks = coder .before .before .before in
     let room = ranks .before in
     let kernel = start room .args .kernel in
     let good = start room .pre .0 in
@@ -50,7 +53,7 @@ fill-sequence-requires c κs =
     let takes = start room .pre .1 .1 in
     let made = coder-is _ _ _ good kernel takes _ is (coder .coder-of .ensures) in
     rw made (
-      coder-ready _ _ _ good kernel takes _ is (coder .before .power-table .ensures),
+      coder-ready _ _ _ good kernel takes _ is (coder .before .before .power-table .ensures) (coder .before .mirror-table .ensures),
       (ranks-ready _ _ _ good kernel takes _ is (ranks .rank-table .ensures), omega (arith, room .if2 .left, room .before .window-count .ensures)),
     )
 
@@ -59,8 +62,8 @@ same-length c = search needs
 
 returns-3 : tie.Need-returns-3
 returns-3 c =
-    let coder = c .before .before .before .before .before .before in
-    let ranks = coder .before .before in
+    let coder = c .before .before .before .before .before .before .before in
+    let ranks = coder .before .before .before in
     let room = ranks .before in
     let few = room .before .before in
     let a = start room .args in
@@ -82,6 +85,7 @@ fill-checked-spec =
     returns-2
     rank-table-requires
     power-table-requires
+    mirror-table-requires
     coder-of-requires
     fill-sequence-requires
     same-length

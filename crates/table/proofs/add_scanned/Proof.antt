@@ -43,33 +43,37 @@ power-table-requires c κs =
     let p = power-ready _ _ _ (start c .pre .0) (c .kernel-for .result) (takes c) _ (start c .pre .1 .0) in
     (p .0, p .1)
 
+mirror-table-requires : tie.Need-mirror-table-requires
+mirror-table-requires c κs = search needs
+
 coder-of-requires : tie.Need-coder-of-requires
 coder-of-requires c κs =
-    let kernel = c .before in
+    let kernel = c .before .before in
     let p = palindromes-fit _ _ _ (start kernel .pre .0) (kernel .kernel-for .result) (takes kernel) _ (start kernel .pre .1 .0) in
     (p .0, p .1)
 
 -- The coder is that of the settings, with the k of the call.
 made : (c : tie.After-coder-of)
-    → let kernel = c .before .before in c .coder-of .result ≡ coderOf (kernel .kernel-for .result) (start kernel .args .k) (start kernel .args .st)
+    → let kernel = c .before .before .before in c .coder-of .result ≡ coderOf (kernel .kernel-for .result) (start kernel .args .k) (start kernel .args .st)
 made c =
-    let kernel = c .before .before in
+    let kernel = c .before .before .before in
     coder-is _ _ _ (start kernel .pre .0) (kernel .kernel-for .result) (takes kernel) _ (start kernel .pre .1 .0) (c .coder-of .ensures)
 
 slice-relend-prefix-count-unless-full : tie.Need-slice-relend-prefix-count-unless-full
-slice-relend-prefix-count-unless-full c = room (start (c .before .before))
+slice-relend-prefix-count-unless-full c = room (start (c .before .before .before))
 
 slice-aggregate-count-unless-full : tie.Need-slice-aggregate-count-unless-full
-slice-aggregate-count-unless-full c = sym (length-take-le _ _ (room (start (c .before .before .before))))
+slice-aggregate-count-unless-full c = sym (length-take-le _ _ (room (start (c .before .before .before .before))))
 
 count-unless-full-requires : tie.Need-count-unless-full-requires
 count-unless-full-requires c κs =
-    let coder = c .before .before in
-    let kernel = coder .before .before in
+    let coder = c .before .before .before in
+    let kernel = coder .before .before .before in
     let good = start kernel .pre .0 in
     let st-is = start kernel .pre .1 .0 in
     let pre = start kernel .pre .1 .1 in
-    let coding = coder-ready _ _ _ good (kernel .kernel-for .result) (takes kernel) _ st-is (coder .before .power-table .ensures) in
+    let coding = coder-ready _ _ _ good (kernel .kernel-for .result) (takes kernel) _ st-is (coder .before .before .power-table .ensures)
+    (coder .before .mirror-table .ensures) in
     let below = ranks-ready _ _ _ good (kernel .kernel-for .result) (takes kernel) _ st-is (pre .0) in
     let a = start kernel .args in
     let n-taken = length-take-le (a .st .classes) (now (a .table)) (room (start kernel)) in
@@ -83,8 +87,8 @@ same-length c = search needs
 returns : tie.Need-returns
 returns c =
     let count = c .before .before in
-    let coder = count .before .before .before in
-    let kernel = coder .before .before in
+    let coder = count .before .before .before .before in
+    let kernel = coder .before .before .before in
     let good = start kernel .pre .0 in
     let st-is = start kernel .pre .1 .0 in
     let pre = start kernel .pre .1 .1 in
@@ -99,6 +103,7 @@ add-scanned-spec =
     (tie.spec
     kernel-for-requires
     power-table-requires
+    mirror-table-requires
     coder-of-requires
     slice-relend-prefix-count-unless-full
     slice-aggregate-count-unless-full

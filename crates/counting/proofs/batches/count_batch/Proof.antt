@@ -1,5 +1,6 @@
 -- `counting::batches::count_batch` meets its contract: the codes that the kernel fills in are those of the letters' windows, and each is counted.
 use mathlib.Core.Path.{sym, ap, _∙_}
+use native.Mathlib.Omega.{arith}
 use lib.ListN.{length}
 use denote.Ref.{now}
 use Rattle.tally.specs.Table.{bumps}
@@ -15,7 +16,10 @@ slice-aggregate-fill-codes : tie.Need-slice-aggregate-fill-codes
 slice-aggregate-fill-codes c = search needs
 
 fill-codes-requires : tie.Need-fill-codes-requires
-fill-codes-requires c κs = search needs
+fill-codes-requires c κs =
+    let codes = c .before in
+    let p = codes .before .before .before .pre in
+    (p .0, (p .1 .0, omega (arith, p .0 .some, p .1 .1 .0, codes .no-codes .ensures)))
 
 window-count-requires : tie.Need-window-count-requires
 window-count-requires c κs = search needs

@@ -11,10 +11,10 @@ use Rattle.counting.proofs.batches.count_file.Statement.{statement}
 use Rattle.counting.proofs.batches.count_file.Tie as tie
 
 abbrev Inv-loop : tie.InvT-loop
-Inv-loop counts₀ file table c powers array₀ at₀ mode₀ n₀ counts array at mode n = Counting c table file mode₀ counts₀ counts array at mode n
+Inv-loop counts₀ file table c powers mirrors array₀ at₀ mode₀ n₀ counts array at mode n = Counting c table file mode₀ counts₀ counts array at mode n
 
 abbrev μ-loop : tie.MeasureT-loop
-μ-loop counts₀ file table c powers array₀ at₀ mode₀ n₀ counts array at mode n = length file - at
+μ-loop counts₀ file table c powers mirrors array₀ at₀ mode₀ n₀ counts array at mode n = length file - at
 
 -- The array is as long after a batch was gathered as before.
 array-kept : (c : tie.After-gather Inv-loop μ-loop) → length (c .gather .last .1 .1 .1 .1 .1 .0) ≡ length (c .before .before .before .loop .array)

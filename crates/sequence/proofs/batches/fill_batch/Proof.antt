@@ -81,7 +81,7 @@ blank-requires c κs =
     (p .0 .some, omega (arith, codes .fill-codes .kept, p .1 .1 .1))
 
 same-length-2 : tie.Need-same-length-2
-same-length-2 c = c .before .before .blank .ensures .kept-length ∙ c .before .before .before .before .before .before .before .fill-codes .kept .1 .1 .1 .0
+same-length-2 c = c .before .before .blank .ensures .kept-length ∙ c .before .before .before .before .before .before .before .fill-codes .kept .1 .1 .1 .1 .0
 
 returns-2 : tie.Need-returns-2
 returns-2 c =

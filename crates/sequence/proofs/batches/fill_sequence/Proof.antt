@@ -14,11 +14,11 @@ use Rattle.sequence.proofs.batches.fill_sequence.Statement.{statement}
 use Rattle.sequence.proofs.batches.fill_sequence.Tie as tie
 
 abbrev Inv-loop : tie.InvT-loop
-Inv-loop sequence table c powers list₀ k at₀ list at = Written (map (codeBy (rankByTable table) (c .s) (c .mirror) (c .k)) (windows
+Inv-loop sequence table c powers mirrors list₀ k at₀ list at = Written (map (codeBy (rankByTable table) (c .s) (c .mirror) (c .k)) (windows
     (c .k) sequence)) list₀ at list × (at ≤ length sequence)
 
 abbrev μ-loop : tie.MeasureT-loop
-μ-loop sequence table c powers list₀ k at₀ list at = length sequence + 1 - at
+μ-loop sequence table c powers mirrors list₀ k at₀ list at = length sequence + 1 - at
 
 -- Where the function began, from the place at which the batch of a turn is known; that batch, and that it starts within the list.
 abbrev start : tie.After-batch-end Inv-loop μ-loop → tie.Start Inv-loop μ-loop
