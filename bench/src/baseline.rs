@@ -1,4 +1,5 @@
-//! Plain Rust versions of the same algorithms, written as one would without proofs: the yardstick.
+//! Plain Rust versions of the same algorithms, written as one would without proofs: the yardstick. But for one
+//! thing: by two-bit numbers the mirror is rolled along here, where the library looks each window's up.
 
 use wontirje::{Mirror, Settings, NO_CODE};
 

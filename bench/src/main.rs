@@ -1,7 +1,7 @@
 //! Prints nanoseconds a letter, the median of several runs, of both paths of libkmer.a along random sequences
-//! and of adding a file to a table, beside plain Rust versions of the same algorithms in the same run, with
-//! ratios, and of adding reads as FASTQ beside FASTA; before that, the whole command `wontirje count` beside
-//! other counters.
+//! and of adding a file to a table, beside plain Rust versions (baseline.rs says where they differ) in the same
+//! run, with ratios, and of adding reads as FASTQ beside FASTA; before that, the whole command `wontirje count`
+//! beside other counters.
 
 mod adding;
 mod baseline;

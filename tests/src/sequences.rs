@@ -34,7 +34,7 @@ pub fn two_bit_settings(k: usize) -> Settings {
 }
 
 /// All 256 words of four letters of DNA, one after the other, twice: a window that slides over them has each of
-/// them at each of its places.
+/// them at each place where four letters fit.
 pub fn all_fours() -> Vec<u8> {
     let once: Vec<u8> =
         (0..256).flat_map(|byte| [6, 4, 2, 0].map(|bits| b"ACGT"[byte >> bits & 3])).collect();

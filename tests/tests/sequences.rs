@@ -38,11 +38,22 @@ fn dna_on_drawn_sequences() {
     }
 }
 
-/// Each entry of the table that gives the mirror of four letters is looked up for each four letters of a window.
+/// From k 4 on each entry of the table that gives the mirror of four letters is looked up for each four letters of a
+/// window.
 #[test]
 fn every_four_letters_at_every_place_of_a_window() {
     let sequence = all_fours();
     for k in 1..=31 {
+        check_along(&two_bit_settings(k), &sequence, sequence.len());
+    }
+}
+
+/// All words, parted by a byte that is no letter.
+#[test]
+fn every_word_of_up_to_8_letters() {
+    for k in 1..=8 {
+        let word = |rank: usize| (0..k).rev().map(move |place| b"ACGT"[rank >> (2 * place) & 3]);
+        let sequence: Vec<u8> = (0..1 << (2 * k)).flat_map(|rank| word(rank).chain([b'-'])).collect();
         check_along(&two_bit_settings(k), &sequence, sequence.len());
     }
 }

@@ -1,5 +1,5 @@
-//! Adding FASTA files to a table, byte by byte: what each byte of a file is, line ends, runs and cuts
-//! about the library's batches, beside the tally book and with numbers written out.
+//! Adding FASTA files, and in one test FASTQ files, to a table, byte by byte: what each byte of a file is, line
+//! ends, runs and cuts about the library's batches, beside the tally book and with numbers written out.
 
 use kmer_tests::book::*;
 use kmer_tests::draw::*;

@@ -121,18 +121,16 @@ pub equalPairs-ends : (s : ℕ) (m : Mirror) (n a b : ℕ) (u : List ℕ) → le
 unfolding equalPairs
 equalPairs-ends s m n a b u h = rw (getD-at u b [] 0 n h, take-at u (b ∷ []) n h)
 
--- ---- a letter more at one end
-
-pub mirror-cons : (s : ℕ) (m : Mirror) (a : ℕ) (u : List ℕ) → mirror s m (a ∷ u) ≡ mirror s m u ++ (mirrorRank s m a ∷ [])
-unfolding mirror
-mirror-cons s m a u = ap (map (mirrorRank s m)) (reverse-cons a u) ∙ map-append (mirrorRank s m) (reverse u) (a ∷ [])
-
-pub mirror-snoc : (s : ℕ) (m : Mirror) (b : ℕ) (u : List ℕ) → mirror s m (u ++ (b ∷ [])) ≡ mirrorRank s m b ∷ mirror s m u
-unfolding mirror
-mirror-snoc s m b u = ap (map (mirrorRank s m)) (reverse-append u (b ∷ []))
-
--- ---- one word behind another
+-- ---- one word behind another, and a letter more at one end
 
 pub mirror-append : (s : ℕ) (m : Mirror) (u v : List ℕ) → mirror s m (u ++ v) ≡ mirror s m v ++ mirror s m u
 unfolding mirror
 mirror-append s m u v = ap (map (mirrorRank s m)) (reverse-append u v) ∙ map-append (mirrorRank s m) (reverse v) (reverse u)
+
+pub mirror-cons : (s : ℕ) (m : Mirror) (a : ℕ) (u : List ℕ) → mirror s m (a ∷ u) ≡ mirror s m u ++ (mirrorRank s m a ∷ [])
+unfolding mirror
+mirror-cons s m a u = mirror-append s m (a ∷ []) u
+
+pub mirror-snoc : (s : ℕ) (m : Mirror) (b : ℕ) (u : List ℕ) → mirror s m (u ++ (b ∷ [])) ≡ mirrorRank s m b ∷ mirror s m u
+unfolding mirror
+mirror-snoc s m b u = mirror-append s m u (b ∷ [])

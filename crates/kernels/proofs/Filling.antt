@@ -1,5 +1,5 @@
--- The codes of all windows as they are written into a lent list. By the kernel for every alphabet: the first code before the loop, then one a turn. By
--- two-bit numbers: one a turn from the first on.
+-- The codes of all windows as they are written into a lent list. By two-bit numbers: one a turn from the first on. By the kernel for every alphabet: the
+-- first before the loop, then one a turn.
 use mathlib.Core.Path.{_≡_, sym, _∙_}
 use mathlib.Core.List.{List}
 use Prim.Native.Nat.{ℕ, _+_, _-_, _<_, _≤_}
@@ -12,6 +12,30 @@ use Rattle.kernels.specs.Windows.{windowCodes}
 use Rattle.kernels.specs.Needs.{part, Fills}
 use Rattle.laws.proofs.Windows.{windows-none}
 use Rattle.kernels.proofs.Windows.{length-codes, window-at}
+
+-- ---- one a turn from the first on
+
+module _ (s : ℕ) (m : Mirror) (k : ℕ) (some : 1 ≤ k) (d : List ℕ) where
+  n-codes : length (windowCodes s m k d) ≡ length d + 1 - k
+  n-codes = length-codes k some (code s m k) d
+
+  pub codes-none : (o : List ℕ) → length d + 1 - k ≤ length o → Written (windowCodes s m k d) o 0 o
+  codes-none o room = written-none (windowCodes s m k d) o (omega (arith, n-codes))
+
+  module _ {o out : List ℕ} {j : ℕ} (W : Written (windowCodes s m k d) o j out) where
+    pub codes-upto : j ≤ length d
+    codes-upto = omega (arith, n-codes, W .upto)
+
+    pub codes-room : j + k ≤ length d → j < length out
+    codes-room more = omega (arith, n-codes, written-length W, W .room)
+
+    pub codes-next : (x : ℕ) → j + k ≤ length d → x ≡ code s m k (part j k d) → Written (windowCodes s m k d) o (j + 1) (set out j x)
+    codes-next x more e = written-next W x (omega (arith, n-codes)) (e ∙ sym (window-at k some (code s m k) j d more))
+
+    pub codes-all : length d < j + k → Fills (windowCodes s m k d) o out
+    codes-all end = record { is = written-all W (omega (arith, n-codes)) }
+
+-- ---- the first before the loop, then one a turn
 
 -- The codes of the windows up to the one at i are written.
 pub record Filling (s : ℕ) (m : Mirror) (k : ℕ) (d o out : List ℕ) (i : ℕ) : Type 0 where
@@ -43,35 +67,12 @@ module _ {s : ℕ} {m : Mirror} {k : ℕ} {d : List ℕ} (o : List ℕ) (x : ℕ
 module _ {s : ℕ} {m : Mirror} {k : ℕ} {d o out : List ℕ} {i : ℕ} (F : Filling s m k d o out i) where
   pub filling-next : (x : ℕ) → i + k < length d → x ≡ code s m k (part (i + 1) k d) → Filling s m k d o (set out (i + 1) x) (i + 1)
   filling-next x more e =
-      let n = length-codes k (F .some) (code s m k) d in
       record {
         some = F .some;
         inside = omega arith;
-        written = written-next (F .written) x (omega arith) (e ∙ sym (window-at k (F .some) (code s m k) (i + 1) d (omega arith)));
+        written = codes-next s m k (F .some) d (F .written) x (omega arith) e;
       }
 
   -- There is room for the next code.
   pub filling-room : i + k < length d → i + 1 < length out
-  filling-room more = omega (arith, length-codes k (F .some) (code s m k) d, written-length (F .written), F .written .room)
-
--- ---- one a turn from the first on
-
-module _ (s : ℕ) (m : Mirror) (k : ℕ) (some : 1 ≤ k) (d : List ℕ) where
-  n-codes : length (windowCodes s m k d) ≡ length d + 1 - k
-  n-codes = length-codes k some (code s m k) d
-
-  pub codes-none : (o : List ℕ) → length d + 1 - k ≤ length o → Written (windowCodes s m k d) o 0 o
-  codes-none o room = written-none (windowCodes s m k d) o (omega (arith, n-codes))
-
-  module _ {o out : List ℕ} {j : ℕ} (W : Written (windowCodes s m k d) o j out) where
-    pub codes-upto : j ≤ length d
-    codes-upto = omega (arith, n-codes, W .upto)
-
-    pub codes-room : j + k ≤ length d → j < length out
-    codes-room more = omega (arith, n-codes, written-length W, W .room)
-
-    pub codes-next : (x : ℕ) → j + k ≤ length d → x ≡ code s m k (part j k d) → Written (windowCodes s m k d) o (j + 1) (set out j x)
-    codes-next x more e = written-next W x (omega (arith, n-codes)) (e ∙ sym (window-at k some (code s m k) j d more))
-
-    pub codes-all : length d < j + k → Fills (windowCodes s m k d) o out
-    codes-all end = record { is = written-all W (omega (arith, n-codes)) }
+  filling-room more = codes-room s m k (F .some) d (F .written) (omega arith)

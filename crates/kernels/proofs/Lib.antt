@@ -1,6 +1,6 @@
 -- The laws of the kernels, from the plainest up. Windows, Parts: the windows of a list, and parts of it. Filling: the list that is written. OneLetter,
--- WindowEnds: the code of one letter, and a window's by its ends. FirstWindows: the first window. AnyAlphabet, TwoBit, TwoBitRolls: each kernel. Coders,
--- PowerTables, GoodSettings: what the kernels ask.
+-- WindowEnds: the code of one letter, and a window's by its ends. FirstWindows, AnyAlphabet: the kernel for every alphabet. TwoBit, TwoBitRolls: the one by
+-- two-bit numbers. Coders, PowerTables, GoodSettings: what the kernels ask.
 pub mod Windows
 pub mod Parts
 pub mod Filling

@@ -25,7 +25,7 @@ use Rattle.encoding.proofs.Canonical.{IsCanonical, Ranks-mirror, mirror-mirror}
 use Rattle.encoding.proofs.ByRanks.{closing, within, byRanks, code-by-ranks}
 use Rattle.encoding.proofs.EqualPairs.{Agree, agree-at}
 use Rattle.encoding.proofs.Codes.{canonical-low, code-mirror}
-use Rattle.kernels.specs.Needs.{part, Differ, Ordered, TwoBitWindow}
+use Rattle.kernels.specs.Needs.{part, Differ, Ordered, TwoBitInput, TwoBitWindow}
 use Rattle.kernels.proofs.Parts.{ranks-part, length-part, part-lt, back-lt}
 use Rattle.kernels.proofs.WindowEnds.{pair-total, code-lt}
 
@@ -194,12 +194,15 @@ even-value p k a b e =
 digit-lt : (A B : ℕ) → A / 4 ≡ B / 4 → A < B → A % 4 < B % 4
 digit-lt A B e h = omega arith
 
+pub rank-lt : {k e : ℕ} {d : List ℕ} → TwoBitInput k e d → (j : ℕ) → j + k ≤ length d → {x : ℕ} → x ≡ plain 4 (part j k d) → x < 4 ^ k
+rank-lt {k} {e} {d} I j inside ahead = rw ahead (part-lt 4 j k d (I .ranks) inside)
+
 module _ {k e : ℕ} {d : List ℕ} {j x y : ℕ} (W : TwoBitWindow k e d j x y) where
   pub two-fits : code 4 Complement k (part j k d) < 2 ^ 62
   two-fits = lt-of-lt-of-le (code-lt 4 Complement four-two d (W .input .ranks) j k (W .inside)) (four-fits k (W .input .small))
 
   x-lt : x < 4 ^ k
-  x-lt = rw (W .ahead) (part-lt 4 j k d (W .input .ranks) (W .inside))
+  x-lt = rank-lt (W .input) j (W .inside) (W .ahead)
 
   y-lt : y < 4 ^ k
   y-lt = rw (W .behind) (back-lt 4 Complement j k d (W .input .ranks) (W .inside))

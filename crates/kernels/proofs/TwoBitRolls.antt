@@ -24,23 +24,23 @@ pub first-rank-none : (d : List ℕ) → 0 ≡ plain 4 (part 0 0 d)
 unfolding plain
 first-rank-none d = refl
 
-module _ (n i : ℕ) (d : List ℕ) {x : ℕ} (ahead : x ≡ plain 4 (part 0 i d)) (upto : i ≤ n) where
-  pub first-rank-all : n ≤ i → x ≡ plain 4 (part 0 n d)
-  first-rank-all all = let i-is : i ≡ n = omega arith in ahead ∙ rw i-is
+module _ (n i : ℕ) (d : List ℕ) {x : ℕ} (ahead : x ≡ plain 4 (part 0 i d)) where
+  pub first-rank-all : i ≤ n → n ≤ i → x ≡ plain 4 (part 0 n d)
+  first-rank-all upto all = let i-is : i ≡ n = omega arith in ahead ∙ rw i-is
 
   -- c is the letter behind the first i.
-  module _ (ranks : Ranks 4 d) (small : n ≤ 31) (long : n ≤ length d) (more : i < n) {c : ℕ} (c-is : c ≡ getD d i 0) where
+  module _ (long : n ≤ length d) (more : i < n) {c : ℕ} (c-is : c ≡ getD d i 0) where
     pub first-rank-more : x * 4 + c ≡ plain 4 (part 0 (i + 1) d)
     first-rank-more =
         let place : 0 + i ≡ i = omega arith in
         rw (add-one i, ahead, c-is) (sym (plain-more 4 0 i d (omega arith) ∙ rw place))
 
-    pub first-rank-fits : x * 4 + c < 2 ^ 62
-    first-rank-fits = rw first-rank-more (rank-fits 0 (i + 1) d ranks (omega arith) (omega arith))
+    pub first-rank-fits : Ranks 4 d → n ≤ 31 → x * 4 + c < 2 ^ 62
+    first-rank-fits ranks small = rw first-rank-more (rank-fits 0 (i + 1) d ranks (omega arith) (omega arith))
 
 -- ---- from one window to the next
 
-module _ (j k : ℕ) (d : List ℕ) (ranks : Ranks 4 d) (some : 1 ≤ k) (small : k ≤ 31) (inside : j + k ≤ length d) where
+module _ (j k : ℕ) (d : List ℕ) (some : 1 ≤ k) (inside : j + k ≤ length d) where
   k-is : k ≡ suc (k - 1)
   k-is = omega arith
 
@@ -51,12 +51,12 @@ module _ (j k : ℕ) (d : List ℕ) (ranks : Ranks 4 d) (some : 1 ≤ k) (small 
         let place : j + k - 1 ≡ j + (k - 1) = omega arith in
         rw (low-is, c-is, place) (sym (ap (λ (n : ℕ). plain 4 (part j n d)) k-is ∙ plain-more 4 j (k - 1) d (omega arith)))
 
-    pub next-rank-fits : low * 4 + c < 2 ^ 62
-    next-rank-fits = rw next-rank-is (rank-fits j k d ranks small inside)
+    pub next-rank-fits : Ranks 4 d → k ≤ 31 → low * 4 + c < 2 ^ 62
+    next-rank-fits ranks small = rw next-rank-is (rank-fits j k d ranks small inside)
 
   -- The k - 1 lowest letters are those of the next window but for its last.
-  pub low-rank-is : {x : ℕ} → x ≡ plain 4 (part j k d) → x % 4 ^ (k - 1) ≡ plain 4 (part (j + 1) (k - 1) d)
-  low-rank-is ahead =
+  pub low-rank-is : Ranks 4 d → {x : ℕ} → x ≡ plain 4 (part j k d) → x % 4 ^ (k - 1) ≡ plain 4 (part (j + 1) (k - 1) d)
+  low-rank-is ranks ahead =
       let split = ahead ∙ ap (λ (n : ℕ). plain 4 (part j n d)) k-is ∙ plain-first 4 j (k - 1) d (omega arith) in
       rw (split, add-one j) (digits-mod (getD d j 0) (part-lt 4 (suc j) (k - 1) d ranks (omega arith)))
 
@@ -66,14 +66,12 @@ first-low-is k d ranks some long ahead = rw ahead (mod-eq-of-lt (part-lt 4 0 (k 
 
 -- ---- the mirror
 
-module _ {k e : ℕ} {d : List ℕ} (I : TwoBitInput k e d) (j : ℕ) (inside : j + k ≤ length d) {x : ℕ} (ahead : x ≡ plain 4 (part j k d)) where
-  pub rank-lt : x < 4 ^ k
-  rank-lt = rw ahead (part-lt 4 j k d (I .ranks) inside)
-
-  -- What the lookups give of the window's plain rank is its mirror's.
-  pub with-mirror : {y : ℕ} → y ≡ plain 4 (mirror 4 Complement (wordOfPlain 4 k x)) → TwoBitWindow k e d j x y
-  with-mirror looked =
-      let two : 1 < 4 = omega arith in
-      let word : wordOfPlain 4 k x ≡ part j k d
-      = ap (wordOfPlain 4 k) ahead ∙ wordOfPlain-plain 4 k (part j k d) two (length-part j k d inside) (ranks-part 4 j k d (I .ranks)) in
-      record { input = I; inside = inside; ahead = ahead; behind = looked ∙ ap (λ (w : List ℕ). plain 4 (mirror 4 Complement w)) word }
+-- What the lookups give of a window's plain rank is its mirror's.
+pub with-mirror : {k e : ℕ} {d : List ℕ} → TwoBitInput k e d → (j : ℕ) → j + k ≤ length d → {x : ℕ} → x ≡ plain 4 (part j k d)
+    → {y : ℕ} → y ≡ plain 4 (mirror 4 Complement (wordOfPlain 4 k x))
+    → TwoBitWindow k e d j x y
+with-mirror {k} {e} {d} I j inside ahead looked =
+    let two : 1 < 4 = omega arith in
+    let word : wordOfPlain 4 k _ ≡ part j k d
+    = ap (wordOfPlain 4 k) ahead ∙ wordOfPlain-plain 4 k (part j k d) two (length-part j k d inside) (ranks-part 4 j k d (I .ranks)) in
+    record { input = I; inside = inside; ahead = ahead; behind = looked ∙ ap (λ (w : List ℕ). plain 4 (mirror 4 Complement w)) word }

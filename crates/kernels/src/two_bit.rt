@@ -45,7 +45,8 @@ fn differing_letters(a: u64, b: u64) -> u64
     (65 - z) / 2
 }
 
-// The rank of a pair l < r of four letters: l(5 - l)/2 is 0, 2 or 3.
+// The rank of a pair l < r of four letters, as `words::pair_ranks::pair_rank` gives it for s = 4, without its product: l(5 - l)/2 is 0, 2 or 3, and so is
+// l + (l + 1)/2.
 fn pair_rank_of_four(l: u64, r: u64) -> u64
     requires { ⌜ l < r ⌝ }
     requires { ⌜ r < 4 ⌝ }
@@ -56,7 +57,7 @@ fn pair_rank_of_four(l: u64, r: u64) -> u64
 
 // The code of the window at j where a pair of two letters differs. a and b are the lower and the higher of its plain rank and its mirror's, and their
 // `differing` lowest letters reach up to the highest one that differs; the k - differing letters above it agree at either end. `inner` are the letters
-// between the pair, and one - 1 - rest the digits of the equal pairs, with `one` in the place above them.
+// between the pair, and one - 1 - rest the digits of the equal pairs, with `one` in the place above them; half of 4^(differing - 1) is 2 times low.
 fn pair_code(
     ranks: &[u8],
     j: usize,

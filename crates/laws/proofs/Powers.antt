@@ -1,4 +1,4 @@
--- Powers of a base s: they are positive, split, share the parity of s, and small powers have small exponents.
+-- Powers of a base s: they are positive, split, share the parity of s, and small powers have small exponents; powers of 4 are powers of 2.
 use mathlib.Core.Path.{_≡_, refl, ap, _∙_}
 use Prim.Native.Nat.{ℕ, zero, suc, _+_, _-_, _*_, _/_, _%_, _^_, _<_, _≤_}
 use native.Mathlib.Nat.{pow-zero, pow-suc, one-le-pow, one-mul, le-trans, pow-le-pow-right, pow-le-pow-left}

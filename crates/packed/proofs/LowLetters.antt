@@ -4,13 +4,13 @@
 use mathlib.Core.Path.{_≡_, refl, sym, ap, _∙_}
 use mathlib.Core.List.{List, [], _∷_, _++_}
 use Prim.Native.Nat.{ℕ, zero, suc, _+_, _-_, _*_, _/_, _%_, _^_, _<_, _≤_}
-use native.Mathlib.Nat.{mod-lt, mod-eq-of-lt, one-le-pow, lt-of-lt-of-le, pow-le-pow-right}
+use native.Mathlib.Nat.{mod-lt, mod-eq-of-lt, lt-of-lt-of-le, pow-le-pow-right}
 use native.Mathlib.Omega.{arith}
 use lib.Arith.{digits-div, mod-mul}
 use lib.ListN.{length, getD, replicate, length-append, length-replicate}
 use lib.Pow.{pow-add}
 use Rattle.laws.proofs.Each.{each-append}
-use Rattle.laws.proofs.Powers.{four-pow}
+use Rattle.laws.proofs.Powers.{pow-pos, four-pow}
 use Rattle.encoding.specs.Words.{Complement, Ranks, mirror, plain}
 use Rattle.encoding.specs.WordsOfCodes.{wordOfPlain}
 use Rattle.encoding.proofs.Ends.{plain-append, mirror-append, length-mirror}
@@ -23,9 +23,6 @@ use Rattle.packed.proofs.Tables.{entry-mirror}
 two : 1 < 4
 two = omega arith
 
-four-pos : (n : ℕ) → 0 < 4 ^ n
-four-pos n = one-le-pow n 4 (omega arith)
-
 -- ---- the n lowest letters of x
 
 module _ (n x : ℕ) where
@@ -36,10 +33,10 @@ module _ (n x : ℕ) where
   low-length = length-wordOfPlain 4 n (x % 4 ^ n)
 
   low-ranks : Ranks 4 low
-  low-ranks = ranks-wordOfPlain 4 n (x % 4 ^ n) two (mod-lt x (four-pos n))
+  low-ranks = ranks-wordOfPlain 4 n (x % 4 ^ n) two (mod-lt x (pow-pos 4 n two))
 
   low-plain : plain 4 low ≡ x % 4 ^ n
-  low-plain = plain-wordOfPlain 4 n (x % 4 ^ n) two (mod-lt x (four-pos n))
+  low-plain = plain-wordOfPlain 4 n (x % 4 ^ n) two (mod-lt x (pow-pos 4 n two))
 
   pub low-mirror-lt : lowMirror n x < 4 ^ n
   unfolding lowMirror
@@ -83,19 +80,15 @@ joined n m x =
     let powers : 4 ^ (n + m) ≡ 4 ^ m * 4 ^ n = pow-add 4 n m ∙ omega arith in
     let p : plain 4 (u ++ v) ≡ x % 4 ^ (n + m)
     = plain-append 4 u v
-    ∙ rw (low-length n x, low-plain m (x / 4 ^ n), low-plain n x, powers) (sym (mod-mul x (four-pos m) (four-pos n))) in
+    ∙ rw (low-length n x, low-plain m (x / 4 ^ n), low-plain n x, powers) (sym (mod-mul x (pow-pos 4 m two) (pow-pos 4 n two))) in
     sym (low-is (n + m) x (u ++ v) l h p
     ∙ ap (plain 4) (mirror-append 4 Complement u v)
     ∙ plain-append 4 (mirror 4 Complement v) (mirror 4 Complement u)
     ∙ ap (λ (i : ℕ). plain 4 (mirror 4 Complement v) * 4 ^ i + plain 4 (mirror 4 Complement u)) (length-mirror 4 Complement u ∙ lu))
 
--- The same of two parts that were looked up; and that it fits.
-module _ (n m x : ℕ) {last before : ℕ} (last-is : last ≡ lowMirror n x) (before-is : before ≡ lowMirror m (x / 4 ^ n)) where
-  pub two-parts : last * 4 ^ m + before ≡ lowMirror (n + m) x
-  two-parts = rw (last-is, before-is) (joined n m x)
-
-  pub two-parts-lt : last * 4 ^ m + before < 4 ^ (n + m)
-  two-parts-lt = rw two-parts (low-mirror-lt (n + m) x)
+-- The same of two parts that were looked up.
+pub two-parts : (n m x : ℕ) {last before : ℕ} → last ≡ lowMirror n x → before ≡ lowMirror m (x / 4 ^ n) → last * 4 ^ m + before ≡ lowMirror (n + m) x
+two-parts n m x last-is before-is = rw (last-is, before-is) (joined n m x)
 
 -- ---- a word of k letters
 

@@ -1,6 +1,6 @@
 -- The rule of the mirror table. One test, computed over the whole table, is the rule at each entry (`table-by-test`); the rule is document 01's mirror of
 -- four letters (`entry-mirror`); and it leaves no choice at any entry, so that no other list has it (`one-table`).
-use mathlib.Core.Path.{_≡_, refl, sym, ap, _∙_}
+use mathlib.Core.Path.{_≡_, sym, ap, _∙_}
 use mathlib.Core.Bool.{Bool, true, _&&_, and-eq-true-iff}
 use mathlib.Core.List.{List, [], _∷_}
 use Prim.Native.Nat.{ℕ, zero, suc, _+_, _-_, _*_, _/_, _%_, _<_}
@@ -63,15 +63,16 @@ table-by-test table l e =
 -- ---- what the rule says of each byte
 
 -- Every byte is one of four packed letters.
-packed-ranks : (b : ℕ) → b < 256 → packed (b / 64) (b / 16 % 4) (b / 4 % 4) (b % 4) ≡ b
+packed-ranks : (b : ℕ) → b < 256 → packed (b / 64 % 4) (b / 16 % 4) (b / 4 % 4) (b % 4) ≡ b
 unfolding packed
-packed-ranks b h = omega arith
+packed-ranks b h = let first : b / 64 % 4 ≡ b / 64 = omega arith in rw first (omega arith)
 
 module _ {table : List ℕ} (T : MirrorTable table) where
-  entry : (b : ℕ) → b < 256 → getD table b 0 ≡ packed (3 - b % 4) (3 - b / 4 % 4) (3 - b / 16 % 4) (3 - b / 64)
+  entry : (b : ℕ) → b < 256 → getD table b 0 ≡ mirroredByte b
+  unfolding mirroredByte
   entry b h =
       ap (λ (x : ℕ). getD table x 0) (sym (packed-ranks b h))
-      ∙ T .at (b / 64) (b / 16 % 4) (b / 4 % 4) (b % 4) (omega arith) (omega arith) (omega arith) (omega arith)
+      ∙ T .at (b / 64 % 4) (b / 16 % 4) (b / 4 % 4) (b % 4) (omega arith) (omega arith) (omega arith) (omega arith)
 
   -- The rule is the mirror of document 01.
   pub entry-mirror : (a b c d : ℕ) → a < 4 → b < 4 → c < 4 → d < 4

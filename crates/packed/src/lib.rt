@@ -1,7 +1,8 @@
 // Letters packed by two bits, four to a byte: the mirror of a window by a table of bytes (document 02, K3). The kernel by two-bit numbers takes every
 // window's mirror from here.
 ghost use mathlib.Core.Path.{_≡_};
-ghost use Prim.Native.Nat.{_^_, _<_, _≤_};
+ghost use Prim.Native.Nat.{_%_, _^_, _<_, _≤_};
+ghost use lib.ListN.{getD};
 ghost use Rattle.encoding.specs.Words.{Complement, mirror, plain};
 ghost use Rattle.encoding.specs.WordsOfCodes.{wordOfPlain};
 ghost use Rattle.packed.specs.Mirrors.{MirrorTable};
@@ -14,16 +15,17 @@ pub fn mirror_table() -> [u8; 256]
     MIRRORS
 }
 
-// The plain rank of the mirror of the four lowest letters of x: one lookup.
+// The table's entry for the lowest byte of x, which is the plain rank of the mirror of the four lowest letters.
 fn mirror_of_four(x: u64, mirrors: &[u8; 256]) -> u64
     requires { ⌜ MirrorTable (now mirrors) ⌝ }
-    ensures { λ r. ⌜ r ≡ lowMirror 4 x ⌝ }
+    ensures { λ r. ⌜ r ≡ getD (now (mirrors .entry)) (x % 256) 0 ⌝ }
 {
     let byte = (x % 256) as usize;
     mirrors[byte] as u64
 }
 
-// The same of the eight lowest: the mirror of the last four, then that of the four before them. The next three are made likewise of two parts.
+// The plain rank of the mirror of the eight lowest letters of x: the mirror of the last four, then that of the four before them. The next three are
+// made likewise of two parts.
 fn mirror_of_eight(x: u64, mirrors: &[u8; 256]) -> u64
     requires { ⌜ MirrorTable (now mirrors) ⌝ }
     ensures { λ r. ⌜ r ≡ lowMirror 8 x ⌝ }

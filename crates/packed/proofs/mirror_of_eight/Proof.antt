@@ -1,9 +1,17 @@
 -- `packed::mirror_of_eight` meets its contract: two parts (LowLetters).
+use mathlib.Core.Path.{_∙_}
 use native.Mathlib.Omega.{arith}
 use borrow.Author.Needs.{needs}
-use Rattle.packed.proofs.LowLetters.{two-parts, two-parts-lt}
+use Rattle.packed.proofs.LowLetters.{low-mirror-lt, by-lookup, two-parts}
 use Rattle.packed.proofs.mirror_of_eight.Statement.{statement}
 use Rattle.packed.proofs.mirror_of_eight.Tie as tie
+
+-- Where the function began, from the place at which both parts are known.
+abbrev start : tie.After-mirror-of-four2 → tie.Start
+start c = c .before .before
+
+returns : tie.Need-returns
+returns c = two-parts 4 4 (start c .args .x) (c .before .mirror-of-four .ensures ∙ by-lookup (start c .pre) _) (c .mirror-of-four2 .ensures ∙ by-lookup (start c .pre) _)
 
 mirror-of-four-requires : tie.Need-mirror-of-four-requires
 mirror-of-four-requires c κs = search needs
@@ -11,14 +19,11 @@ mirror-of-four-requires c κs = search needs
 mirror-of-four-requires-2 : tie.Need-mirror-of-four-requires-2
 mirror-of-four-requires-2 c κs = search needs
 
-add-result : tie.Need-add-result
-add-result c = let fits = two-parts-lt 4 4 _ (c .before .mirror-of-four .ensures) (c .mirror-of-four2 .ensures) in omega (arith, fits)
-
 mul-result : tie.Need-mul-result
-mul-result c = omega (arith, add-result c)
+mul-result c = omega (arith, returns c, low-mirror-lt 8 (start c .args .x))
 
-returns : tie.Need-returns
-returns c = two-parts 4 4 _ (c .before .mirror-of-four .ensures) (c .mirror-of-four2 .ensures)
+add-result : tie.Need-add-result
+add-result c = omega (arith, returns c, low-mirror-lt 8 (start c .args .x))
 
 pub mirror-of-eight-spec : {M : Type 1} → statement M
 mirror-of-eight-spec =

@@ -1,9 +1,16 @@
 -- `packed::mirror_of_sixteen` meets its contract: two parts (LowLetters).
 use native.Mathlib.Omega.{arith}
 use borrow.Author.Needs.{needs}
-use Rattle.packed.proofs.LowLetters.{two-parts, two-parts-lt}
+use Rattle.packed.proofs.LowLetters.{low-mirror-lt, two-parts}
 use Rattle.packed.proofs.mirror_of_sixteen.Statement.{statement}
 use Rattle.packed.proofs.mirror_of_sixteen.Tie as tie
+
+-- Where the function began, from the place at which both parts are known.
+abbrev start : tie.After-mirror-of-eight2 → tie.Start
+start c = c .before .before
+
+returns : tie.Need-returns
+returns c = two-parts 8 8 (start c .args .x) (c .before .mirror-of-eight .ensures) (c .mirror-of-eight2 .ensures)
 
 mirror-of-eight-requires : tie.Need-mirror-of-eight-requires
 mirror-of-eight-requires c κs = search needs
@@ -11,14 +18,11 @@ mirror-of-eight-requires c κs = search needs
 mirror-of-eight-requires-2 : tie.Need-mirror-of-eight-requires-2
 mirror-of-eight-requires-2 c κs = search needs
 
-add-result : tie.Need-add-result
-add-result c = let fits = two-parts-lt 8 8 _ (c .before .mirror-of-eight .ensures) (c .mirror-of-eight2 .ensures) in omega (arith, fits)
-
 mul-result : tie.Need-mul-result
-mul-result c = omega (arith, add-result c)
+mul-result c = omega (arith, returns c, low-mirror-lt 16 (start c .args .x))
 
-returns : tie.Need-returns
-returns c = two-parts 8 8 _ (c .before .mirror-of-eight .ensures) (c .mirror-of-eight2 .ensures)
+add-result : tie.Need-add-result
+add-result c = omega (arith, returns c, low-mirror-lt 16 (start c .args .x))
 
 pub mirror-of-sixteen-spec : {M : Type 1} → statement M
 mirror-of-sixteen-spec =

@@ -1,9 +1,17 @@
 -- `packed::mirror_of_twelve` meets its contract: two parts (LowLetters).
+use mathlib.Core.Path.{_∙_}
 use native.Mathlib.Omega.{arith}
 use borrow.Author.Needs.{needs}
-use Rattle.packed.proofs.LowLetters.{two-parts, two-parts-lt}
+use Rattle.packed.proofs.LowLetters.{low-mirror-lt, by-lookup, two-parts}
 use Rattle.packed.proofs.mirror_of_twelve.Statement.{statement}
 use Rattle.packed.proofs.mirror_of_twelve.Tie as tie
+
+-- Where the function began, from the place at which both parts are known.
+abbrev start : tie.After-mirror-of-four → tie.Start
+start c = c .before .before
+
+returns : tie.Need-returns
+returns c = two-parts 8 4 (start c .args .x) (c .before .mirror-of-eight .ensures) (c .mirror-of-four .ensures ∙ by-lookup (start c .pre) _)
 
 mirror-of-eight-requires : tie.Need-mirror-of-eight-requires
 mirror-of-eight-requires c κs = search needs
@@ -11,14 +19,11 @@ mirror-of-eight-requires c κs = search needs
 mirror-of-four-requires : tie.Need-mirror-of-four-requires
 mirror-of-four-requires c κs = search needs
 
-add-result : tie.Need-add-result
-add-result c = let fits = two-parts-lt 8 4 _ (c .before .mirror-of-eight .ensures) (c .mirror-of-four .ensures) in omega (arith, fits)
-
 mul-result : tie.Need-mul-result
-mul-result c = omega (arith, add-result c)
+mul-result c = omega (arith, returns c, low-mirror-lt 12 (start c .args .x))
 
-returns : tie.Need-returns
-returns c = two-parts 8 4 _ (c .before .mirror-of-eight .ensures) (c .mirror-of-four .ensures)
+add-result : tie.Need-add-result
+add-result c = omega (arith, returns c, low-mirror-lt 12 (start c .args .x))
 
 pub mirror-of-twelve-spec : {M : Type 1} → statement M
 mirror-of-twelve-spec =

@@ -1,7 +1,8 @@
 -- `packed::window_mirror` meets its contract: the letters of rank 0 before the word are dropped (LowLetters).
+use mathlib.Core.Path.{_∙_}
 use native.Mathlib.Omega.{arith}
 use borrow.Author.Needs.{needs}
-use Rattle.packed.proofs.LowLetters.{padded}
+use Rattle.packed.proofs.LowLetters.{by-lookup, padded}
 use Rattle.packed.proofs.window_mirror.Statement.{statement}
 use Rattle.packed.proofs.window_mirror.Tie as tie
 
@@ -88,7 +89,7 @@ shr-result-5 c = search needs
 returns-5 : tie.Need-returns-5
 returns-5 c =
     let start = c .before .before .before .before .before in
-    padded 4 (start .args .k) (start .args .x) _ (c .mirror-of-four .ensures) (c .before .if4 .left) (start .pre .1 .1) (omega arith)
+    padded 4 (start .args .k) (start .args .x) _ (c .mirror-of-four .ensures ∙ by-lookup (start .pre .0) (start .args .x)) (c .before .if4 .left) (start .pre .1 .1) (omega arith)
 
 pub window-mirror-spec : {M : Type 1} → statement M
 window-mirror-spec =

@@ -1,7 +1,7 @@
 -- `kernels::two_bit::fill` meets its contract. The invariant: the codes of the windows before the one at j are written, and the k - 1 lowest letters of x
 -- are that window's but for its last.
 use mathlib.Core.Path.{_≡_}
-use Prim.Native.Nat.{_+_, _-_, _%_, _^_, _<_}
+use Prim.Native.Nat.{_-_, _%_, _^_, _<_}
 use native.Mathlib.Omega.{arith}
 use denote.Ref.{now}
 use lib.ListN.{length}
@@ -28,7 +28,7 @@ start c = c .before .before .before .before
 abbrev turn : tie.In-loop Inv-loop μ-loop → tie.Start Inv-loop μ-loop
 turn c = start (c .before .before)
 
--- There is a place for the code of a turn, and the list has kept its length.
+-- There is a place for the code of a turn.
 room : (c : tie.In-loop Inv-loop μ-loop) → c .before .loop .j < length (c .before .loop .out)
 room c =
     let a = turn c .args in
@@ -91,7 +91,7 @@ loop-again c =
     let a = turn now-at .args in
     let p = turn now-at .pre in
     let more = now-at .loop-test .taken in (
-      low-rank-is (now-at .before .loop .j) (a .k) (now (a .ranks)) (p .0 .ranks) (p .0 .some) (p .0 .small) more (c .before .next-rank .ensures),
+      low-rank-is (now-at .before .loop .j) (a .k) (now (a .ranks)) (p .0 .some) more (p .0 .ranks) (c .before .next-rank .ensures),
       codes-next 4 Complement (a .k) (p .0 .some) (now (a .ranks)) (now-at .before .loop .inv .1) _ more (c .window-code .ensures),
     )
 

@@ -30,8 +30,8 @@ add-x c =
     let a = start c .args in
     let p = start c .pre in
     let at-loop = c .before .before .loop in
-    let fits = first-rank-fits (a .n) (at-loop .i) (now (a .ranks)) (at-loop .inv .0) (at-loop .inv .1) (p .0) (p .1 .0) (p .1 .1) (c .before .loop-test .taken)
-    (c .rank-at .ensures) in
+    let fits = first-rank-fits (a .n) (at-loop .i) (now (a .ranks)) (at-loop .inv .0) (p .1 .1) (c .before .loop-test .taken) (c .rank-at .ensures) (p .0)
+    (p .1 .0) in
     omega (arith, fits)
 
 mul-x : tie.Need-mul-x Inv-loop μ-loop
@@ -48,8 +48,7 @@ loop-again c =
     let a = start c .args in
     let p = start c .pre in
     let at-loop = c .before .before .loop in
-    let more = first-rank-more (a .n) (at-loop .i) (now (a .ranks)) (at-loop .inv .0) (at-loop .inv .1) (p .0) (p .1 .0) (p .1 .1) (c .before .loop-test .taken)
-    (c .rank-at .ensures) in
+    let more = first-rank-more (a .n) (at-loop .i) (now (a .ranks)) (at-loop .inv .0) (p .1 .1) (c .before .loop-test .taken) (c .rank-at .ensures) in
     (more, omega arith)
 
 returns : tie.Need-returns Inv-loop μ-loop

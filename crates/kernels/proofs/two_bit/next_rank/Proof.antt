@@ -30,8 +30,8 @@ add-result : tie.Need-add-result
 add-result c =
     let a = start c .args in
     let p = start c .pre in
-    let fits = next-rank-fits (a .j) (a .k) (now (a .ranks)) (p .0) (p .1 .0 .0) (p .1 .0 .1) (p .1 .1 .0) (c .low-letters .ensures ∙ p .1 .1 .1)
-    (c .before .rank-at .ensures) in
+    let fits = next-rank-fits (a .j) (a .k) (now (a .ranks)) (p .1 .0 .0) (p .1 .1 .0) (c .low-letters .ensures ∙ p .1 .1 .1) (c .before .rank-at .ensures)
+    (p .0) (p .1 .0 .1) in
     omega (arith, fits)
 
 mul-result : tie.Need-mul-result
@@ -41,8 +41,7 @@ returns : tie.Need-returns
 returns c =
     let a = start c .args in
     let p = start c .pre in
-    next-rank-is (a .j) (a .k) (now (a .ranks)) (p .0) (p .1 .0 .0) (p .1 .0 .1) (p .1 .1 .0) (c .low-letters .ensures ∙ p .1 .1 .1)
-    (c .before .rank-at .ensures)
+    next-rank-is (a .j) (a .k) (now (a .ranks)) (p .1 .0 .0) (p .1 .1 .0) (c .low-letters .ensures ∙ p .1 .1 .1) (c .before .rank-at .ensures)
 
 pub next-rank-spec : {M : Type 1} → statement M
 next-rank-spec =

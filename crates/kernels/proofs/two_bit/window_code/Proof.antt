@@ -2,7 +2,8 @@
 use borrow.Author.Needs.{needs}
 use denote.Ref.{now}
 use Rattle.kernels.specs.Needs.{TwoBitWindow, Ordered}
-use Rattle.kernels.proofs.TwoBitRolls.{rank-lt, with-mirror}
+use Rattle.kernels.proofs.TwoBit.{rank-lt}
+use Rattle.kernels.proofs.TwoBitRolls.{with-mirror}
 use Rattle.kernels.proofs.two_bit.window_code.Statement.{statement}
 use Rattle.kernels.proofs.two_bit.window_code.Tie as tie
 
