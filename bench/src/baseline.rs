@@ -1,5 +1,6 @@
-//! Plain Rust versions of the same algorithms, written as one would without proofs: the yardstick. But for one
-//! thing: by two-bit numbers the mirror is rolled along here, where the library looks each window's up.
+//! Plain Rust versions of the same algorithms, written as one would without proofs: the yardstick. By two-bit
+//! numbers they differ in two things: here the mirror is rolled along, where the library looks each window's up,
+//! and the sum of a differing pair is the longer one.
 
 use wontirje::{Mirror, Settings, NO_CODE};
 

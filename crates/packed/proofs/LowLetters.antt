@@ -101,7 +101,7 @@ zeros-ranks : (n : ℕ) → Ranks 4 (replicate n 0)
 zeros-ranks zero = tt
 zeros-ranks (suc n) = (omega arith, zeros-ranks n)
 
--- z letters of rank 0 before the word make n letters of it; in the mirror they are the last z, which a shift by b bits drops.
+-- z letters of rank 0 before the word make n letters of it; in the mirror their complements are the last z, which a shift by b bits drops.
 pub padded : (n k x b : ℕ) {y : ℕ} → y ≡ lowMirror n x → k ≤ n → x < 4 ^ k → b ≡ 2 * (n - k)
     → y / 2 ^ b ≡ plain 4 (mirror 4 Complement (wordOfPlain 4 k x))
 padded n k x b y-is enough below bits =

@@ -34,7 +34,7 @@ mirrored-from b (x ∷ xs) e (suc i) h =
     let later : b + suc i ≡ suc b + i = omega arith in
     rw later (mirrored-from (suc b) xs (and-eq-true-iff (eqb x (mirroredByte b)) (allMirrored (suc b) xs) .0 e .1) i (omega arith))
 
--- The ranks of a byte of four packed letters.
+-- Four packed letters are a byte, whose four ranks are theirs.
 packed-lt : (a b c d : ℕ) → a < 4 → b < 4 → c < 4 → d < 4 → packed a b c d < 256
 unfolding packed
 packed-lt a b c d ha hb hc hd = omega arith

@@ -63,7 +63,7 @@ fn mirror_of_thirty_two(x: u64, mirrors: &[u8; 256]) -> u64
 }
 
 // The plain rank of the mirror of the word of k letters with the plain rank x. It is looked up with letters of rank 0 before the word; in the mirror
-// they stand behind it, and the shift drops them.
+// their complements stand behind it, and the shift drops these.
 pub fn window_mirror(x: u64, k: u64, mirrors: &[u8; 256]) -> u64
     requires { ⌜ MirrorTable (now mirrors) ⌝ }
     requires { ⌜ k ≤ 31 ⌝ }
