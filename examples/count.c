@@ -1,7 +1,7 @@
 /*
  * Counts the 2-mers of small sequence files under reverse complement, as the lab would: clear a table, add the
- * files, print the listing. The first two are a FASTA and a FASTQ file; the others, one of each kind, are
- * damaged and are refused whole.
+ * files, withdraw one that was mislabelled, print the listing. The first two are a FASTA and a FASTQ file; the next
+ * two, one of each kind, are damaged and are refused whole.
  */
 #include <stdio.h>
 #include <stdlib.h>
@@ -12,11 +12,16 @@
 static const uint8_t letters[] = { 'A', 'C', 'G', 'T' };
 enum { K = 2, CLASSES = 10 };
 
-/* Adds a file of a kind and prints its five numbers, or why it was refused. */
-static void add(uint32_t *table, enum kmer_kinds kind, const char *file)
+/* kmer_add and kmer_withdraw, whose parameters are the same. */
+typedef uint64_t file_call(const uint8_t *letters, size_t letters_len, size_t k, uint64_t mirror,
+                           uint32_t *table, size_t table_len, uint64_t fastq, const uint8_t *file, size_t file_len,
+                           uint64_t *answer, size_t answer_len);
+
+/* Adds or withdraws a file of a kind and prints its five numbers, or why it was refused. */
+static void call(file_call *function, uint32_t *table, enum kmer_kinds kind, const char *file)
 {
     uint64_t numbers[KMER_NUMBERS];
-    uint64_t answer = kmer_add(letters, sizeof letters, K, KMER_COMPLEMENT, table, CLASSES, kind,
+    uint64_t answer = function(letters, sizeof letters, K, KMER_COMPLEMENT, table, CLASSES, kind,
                                (const uint8_t *)file, strlen(file), numbers, KMER_NUMBERS);
     if (kmer_is_refused(answer)) {
         printf("refused %u %llu\n", kmer_refusal(answer), (unsigned long long)kmer_refusal_p(answer));
@@ -46,10 +51,14 @@ int main(void)
     uint32_t table[CLASSES];
 
     printf("%llu classes\n", (unsigned long long)kmer_clear(letters, sizeof letters, K, KMER_COMPLEMENT, table, CLASSES));
-    add(table, KMER_FASTA, ">a\nACGTN\n>b\nAG\nCT\n");
-    add(table, KMER_FASTQ, "@c\nCCGA\n+\nII#I\n");
-    add(table, KMER_FASTA, ">d\nAC-GT\n");
+    call(kmer_add, table, KMER_FASTA, ">a\nACGTN\n>b\nAG\nCT\n");
+    call(kmer_add, table, KMER_FASTQ, "@c\nCCGA\n+\nII#I\n");
+    call(kmer_add, table, KMER_FASTA, ">d\nAC-GT\n");
     /* Cut off: the quality line, at offset 10, is one byte shorter than the sequence line. */
-    add(table, KMER_FASTQ, "@e\nACGT\n+\nIII");
+    call(kmer_add, table, KMER_FASTQ, "@e\nACGT\n+\nIII");
+    /* Mislabelled: taken in and withdrawn again. For a second withdrawal the counts are too small. */
+    call(kmer_add, table, KMER_FASTA, ">f\nTTTT\n");
+    call(kmer_withdraw, table, KMER_FASTA, ">f\nTTTT\n");
+    call(kmer_withdraw, table, KMER_FASTA, ">f\nTTTT\n");
     return list(table);
 }

@@ -1,6 +1,7 @@
 /*
  * kmer.h: the C calls of libkmer.a, which code k-mers, read codes back, mirror k-mers, code all k-mers
- * along a sequence, count the k-mers of sequence files (FASTA or FASTQ) in a table, and list the table.
+ * along a sequence, count the k-mers of sequence files (FASTA or FASTQ) in a table, withdraw files from it, and
+ * list the table.
  *
  * A class is a word of k letters together with its mirror. The calls work with the minimal encoding
  * of canonical k-mers (Wittler 2023): each class has one code, from 0 to the number of classes less 1.
@@ -23,15 +24,16 @@
  * may be NULL where that length is 0, and must otherwise be aligned for its type and point to as many
  * elements. Nothing need end in a 0 byte. A buffer that is written must not overlap any other lent buffer.
  * Whatever the numbers and bytes are, a call returns and touches no other memory; it never writes to
- * letters, word, sequence or file, and only kmer_clear and kmer_add write to a table. The calls keep no
- * state, so several threads may call at once; they may share what is only read, and what a call writes must
- * be that call's alone. While a call runs nobody else may write to memory that is lent to it, nor read what
- * it writes.
+ * letters, word, sequence or file, and only kmer_clear, kmer_add and kmer_withdraw write to a table. The calls
+ * keep no state, so several threads may call at once; they may share what is only read, and what a call writes
+ * must be that call's alone. While a call runs nobody else may write to memory that is lent to it, nor read what
+ * it writes. When a refused call returns, all lent memory holds what it held before; kmer_withdraw alone may
+ * have written meanwhile, to the table.
  *
  * An answer below 2^63 is a result. An answer from 2^63 on is a refusal: see kmer_is_refused below.
  * Of several grounds for refusing that apply, the one with the lowest number is returned, save that those of
- * a file's bytes all come after 7 and before 12: in FASTA of 10 and 11 the one at the earlier byte; in FASTQ
- * that of the earliest record at fault, and within the record the first that applies of 15, 10, 16, 17.
+ * a file's bytes all come after 7 and before 12 and 18: in FASTA of 10 and 11 the one at the earlier byte; in
+ * FASTQ that of the earliest record at fault, and within the record the first that applies of 15, 10, 16, 17.
  */
 #ifndef KMER_H
 #define KMER_H
@@ -81,14 +83,16 @@ enum kmer_grounds {
                                  a letter nor part of a line end (LF or CR LF); P is the offset of the first */
     KMER_EARLY_LETTER = 11,   /* FASTA only: a letter stands before the file's first header; P is the offset of
                                  the first */
-    KMER_COUNTS_FULL = 12,    /* some count is above 4,294,967,295 less the file's windows */
+    KMER_COUNTS_FULL = 12,    /* kmer_add only: some count is above 4,294,967,295 less the file's windows */
     KMER_BAD_RECORD = 15,     /* FASTQ only: a record's first line does not begin with @, its third not with +,
                                  or the file ends before its fourth; P is the offset of the first line at fault,
                                  for a missing line the file's length */
     KMER_QUALITY_LENGTH = 16, /* FASTQ only: a quality line has more or fewer bytes than its sequence line; P
                                  is the offset of the quality line */
-    KMER_QUALITY_BYTE = 17    /* FASTQ only: a quality byte is not from 33 to 126; P is the offset of the
+    KMER_QUALITY_BYTE = 17,   /* FASTQ only: a quality byte is not from 33 to 126; P is the offset of the
                                  first */
+    KMER_COUNTS_LACKING = 18  /* kmer_withdraw only: some class has a smaller count than the file has windows
+                                 of it */
 };
 
 /*
@@ -161,8 +165,8 @@ uint64_t kmer_clear(const uint8_t *letters, size_t letters_len, size_t k, uint64
 
 /*
  * Adds a sequence file to a table: 1 at the place of its class for each window of k letters.
- *   table, table_len    a table that was cleared, and perhaps added to, with the same settings. Files of both
- *                       kinds may be added to one table.
+ *   table, table_len    a table that was cleared, and perhaps added to and withdrawn from, with the same settings.
+ *                       Files of both kinds may be added to one table.
  *   fastq               the file's kind, which the call does not guess: KMER_FASTA (0) or KMER_FASTQ; any
  *                       number but 0 is taken for KMER_FASTQ. A FASTQ file that is not empty begins with @,
  *                       and no FASTA file that is taken in does.
@@ -181,8 +185,30 @@ uint64_t kmer_add(const uint8_t *letters, size_t letters_len, size_t k, uint64_t
                   uint64_t *answer, size_t answer_len);
 
 /*
+ * Withdraws a sequence file from a table: takes 1 from the place of its class for each window of k letters.
+ * The parameters, and the five numbers in answer, are those of kmer_add.
+ * Returns 5, or 2^63 + P * 256 + the number of the first ground that applies: those of kmer_add in their order,
+ * with 18 (P is 0) in place of 12.
+ *
+ * Withdrawing a file that kmer_add has just taken in gives the table back as it was before. A table does not
+ * remember its files: one that was never added, or not as it is now, is withdrawn too where each class has as
+ * large a count as the file has windows of it. To undo that, add the same file (12 refuses it where some count is
+ * above 4,294,967,295 less the file's windows).
+ *
+ * The call needs no second table: it counts down window by window; at the first whose class stands at 0 it stops,
+ * counts the windows taken so far up again, and returns 18. So when a refused call returns, table and answer hold
+ * what they held before; but while a call runs, the first places of the table, one a class, move, and no other
+ * thread may read the table meanwhile. A call that does not return, since its thread or process is ended, leaves
+ * these places anywhere in between.
+ */
+uint64_t kmer_withdraw(const uint8_t *letters, size_t letters_len, size_t k, uint64_t mirror,
+                       uint32_t *table, size_t table_len, uint64_t fastq, const uint8_t *file, size_t file_len,
+                       uint64_t *answer, size_t answer_len);
+
+/*
  * Lists a table: the survey line, a line for each class with a count above 0 by rising code, the total.
- *   table, table_len  a table that was cleared, and perhaps added to, with the same settings. Only read.
+ *   table, table_len  a table that was cleared, and perhaps added to and withdrawn from, with the same settings.
+ *                     Only read.
  *   text, text_len    the buffer for the listing and its length in bytes. Its first bytes receive the
  *                     listing, each line ending in LF and no end byte after the last; later bytes keep
  *                     what they held.
@@ -193,7 +219,7 @@ uint64_t kmer_add(const uint8_t *letters, size_t letters_len, size_t k, uint64_t
 uint64_t kmer_listing(const uint8_t *letters, size_t letters_len, size_t k, uint64_t mirror,
                       const uint32_t *table, size_t table_len, uint8_t *text, size_t text_len);
 
-/* How many numbers kmer_add answers with. */
+/* How many numbers kmer_add and kmer_withdraw answer with. */
 #define KMER_NUMBERS 5
 
 /* What kmer_codes writes for a window that has a byte which is no letter: 2^64 - 1, which is no code. */

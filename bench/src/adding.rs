@@ -9,12 +9,12 @@ use std::hint::black_box;
 use std::time::Instant;
 use wontirje::{Kind, Mirror, Numbers, Settings};
 
-const RUNS: usize = 7;
-const LETTERS: usize = 16_500_000;
+pub const RUNS: usize = 7;
+pub const LETTERS: usize = 16_500_000;
 
 /// Letters of a read, and as many reads as a FASTQ file within the library's limit has room for, nearly.
-const READ: usize = 150;
-const READS: usize = 52_000;
+pub const READ: usize = 150;
+pub const READS: usize = 52_000;
 
 /// Letters in a batch.
 const BATCH: usize = 1024;
@@ -178,7 +178,7 @@ fn plain_add(settings: &Settings, table: &mut [u32], kind: Kind, file: &[u8]) ->
 
 /// A file of one record in lines of 80 letters, nearly as long as the library takes, with some foreign
 /// letters.
-fn drawn_file(letters: &[u8], foreign: u8) -> Vec<u8> {
+pub fn drawn_file(letters: &[u8], foreign: u8) -> Vec<u8> {
     let mut file = b">drawn\n".to_vec();
     let mut sequence = drawn(letters, LETTERS);
     sequence.iter_mut().step_by(9973).for_each(|byte| *byte = foreign);
@@ -190,7 +190,7 @@ fn drawn_file(letters: &[u8], foreign: u8) -> Vec<u8> {
 }
 
 /// The same drawn reads with names, as FASTQ and as FASTA.
-fn drawn_reads() -> [(Kind, Vec<u8>); 2] {
+pub fn drawn_reads() -> [(Kind, Vec<u8>); 2] {
     let (mut fastq, mut fasta) = (Vec::new(), Vec::new());
     let sequence = drawn(b"ACGT", READ * READS);
     let qualities: Vec<u8> = drawn(b"#,:FFFF", READ * READS);

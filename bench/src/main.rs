@@ -1,7 +1,7 @@
 //! Prints nanoseconds a letter, the median of several runs, of both paths of libkmer.a along random sequences
 //! and of adding a file to a table, beside plain Rust versions (baseline.rs says where they differ) in the same
-//! run, with ratios, and of adding reads as FASTQ beside FASTA; before that, the whole command `wontirje count`
-//! beside other counters.
+//! run, with ratios, of adding reads as FASTQ beside FASTA, and of withdrawing a file beside adding it; before
+//! that, the whole command `wontirje count` beside other counters.
 
 mod adding;
 mod baseline;
@@ -13,6 +13,7 @@ mod command;
 mod draw;
 #[path = "../../host/tests/run/usage.rs"]
 mod usage;
+mod withdrawing;
 
 use draw::Random;
 use std::time::Instant;
@@ -112,17 +113,22 @@ fn print_alphabets() {
 }
 
 fn main() {
-    // The words `adding` and `command` as an argument leave out the rest, which takes longer. The command
-    // comes first, while this process is small.
-    if std::env::args().any(|argument| argument == "adding") {
+    // The words `adding`, `withdrawing` and `command` as an argument leave out the rest, which takes longer. The
+    // command comes first, while this process is small.
+    let asked = |part: &str| std::env::args().any(|argument| argument == part);
+    if asked("adding") {
         return adding::print();
     }
+    if asked("withdrawing") {
+        return withdrawing::print();
+    }
     command::print();
-    if std::env::args().any(|argument| argument == "command") {
+    if asked("command") {
         return;
     }
     println!("ns a letter, median of {RUNS} runs, {LETTERS} random letters");
     print_dna();
     print_alphabets();
     adding::print();
+    withdrawing::print();
 }

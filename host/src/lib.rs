@@ -11,7 +11,7 @@
 //! [`Settings::write_listing`], which writes the lines of [`Settings::listing`] one by one and is tested to
 //! write the same bytes.
 //!
-//! A call that cannot do what it is asked gives a [`Refusal`] and changes no byte of any slice lent to it.
+//! A call that cannot do what it is asked gives a [`Refusal`] and leaves every slice lent to it as it was.
 //!
 //! ```
 //! use wontirje::{Kind, Settings};
@@ -25,6 +25,8 @@
 //! // AC and its reverse complement GT are one class.
 //! let code = settings.code(b"GT")?;
 //! assert_eq!(table[code.0 as usize], 3);
+//! settings.withdraw(&mut table, Kind::Fastq, b"@c\nAC\n+\nII\n")?;
+//! assert_eq!(table[code.0 as usize], 2);
 //! # Ok::<(), wontirje::Refusal>(())
 //! ```
 

@@ -7,7 +7,7 @@ use std::fmt;
 /// The lowest answer that is a refusal.
 const REFUSED: u64 = 1 << 63;
 
-/// Why a call was refused. No byte of any slice lent to it was changed.
+/// Why a call was refused. Every slice lent to it is as it was before.
 ///
 /// ```
 /// use wontirje::{Kind, Refusal, Settings};
@@ -18,7 +18,7 @@ const REFUSED: u64 = 1 << 63;
 /// ```
 #[derive(Clone, Copy, Debug, PartialEq, Eq)]
 pub struct Refusal {
-    /// The ground, from 1 to 12 or 15 to 17. It is never 3, which is reserved.
+    /// The ground, from 1 to 12 or 15 to 18. It is never 3, which is reserved.
     pub number: u64,
     /// The length needed for 7; the place or offset, from 0, of the byte for 9, 10, 11 and 17, of the line for 15
     /// and 16 (the file's length for a missing line); else 0. [`crate::Settings::code`] and
@@ -49,6 +49,7 @@ impl Refusal {
             15 => "a record lacks its @ or its +, or the file ends before its fourth line",
             16 => "a quality line is longer or shorter than its sequence line",
             17 => "a quality byte is not from 33 to 126",
+            18 => "some class has a smaller count than the file has windows of it",
             _ => "a ground that the library's header does not name",
         }
     }

@@ -1,6 +1,7 @@
-//! Tables of counts: kmer_clear, kmer_add and kmer_listing, and the number of places that kmer_clear tells.
+//! Tables of counts: kmer_clear, kmer_add, kmer_withdraw and kmer_listing, and the number of places that kmer_clear
+//! tells.
 
-use crate::c_calls::{kmer_add, kmer_clear, kmer_listing};
+use crate::c_calls::{kmer_add, kmer_clear, kmer_listing, kmer_withdraw};
 use crate::kind::Kind;
 use crate::refusal::{judged, Refusal};
 use crate::settings::Settings;
@@ -24,9 +25,24 @@ pub struct Numbers {
     pub foreign: u64,
     /// Letters at the end of a run that begin no window.
     pub edge: u64,
-    /// Windows of k letters: what the counts grew by.
+    /// Windows of k letters: what the counts grew by, or fell by where the file was withdrawn.
     pub windows: u64,
 }
+
+/// kmer_add and kmer_withdraw, whose parameters are the same.
+type FileCall = unsafe extern "C" fn(
+    *const u8,
+    usize,
+    usize,
+    u64,
+    *mut u32,
+    usize,
+    u64,
+    *const u8,
+    usize,
+    *mut u64,
+    usize,
+) -> u64;
 
 impl Settings<'_> {
     /// How many places a table needs: the number of classes, as clearing an empty table tells it. Refused on
@@ -84,13 +100,49 @@ impl Settings<'_> {
     /// # Ok::<(), Refusal>(())
     /// ```
     pub fn add(&self, table: &mut [u32], kind: Kind, file: &[u8]) -> Result<Numbers, Refusal> {
+        self.on_table(kmer_add, table, kind, file)
+    }
+
+    /// Withdraws a sequence file from a table: takes 1 from the place of its class for each window. A table does not
+    /// remember its files, so that one which was never added is withdrawn too where the counts allow it; adding
+    /// it then takes that back (unless 12 refuses it, where some count is above 4,294,967,295 less the file's
+    /// windows). Refused on the grounds of [`Settings::add`], with 18 in place of 12, where some class has a
+    /// smaller count than the file has windows of it; a refused call leaves the table as it was.
+    ///
+    /// ```
+    /// use wontirje::{Kind, Refusal, Settings};
+    /// let settings = Settings::dna(2);
+    /// let mut table = vec![0; 10];
+    /// settings.add(&mut table, Kind::Fasta, b">a\nACGT\n")?;
+    /// let before = table.clone();
+    /// settings.add(&mut table, Kind::Fasta, b">b\nAGCT\n")?;
+    /// assert_eq!(settings.withdraw(&mut table, Kind::Fasta, b">b\nAGCT\n")?.windows, 3);
+    /// assert_eq!(table, before);
+    /// // Its windows are no more in the counts.
+    /// let lacking = Refusal { number: 18, place: 0 };
+    /// assert_eq!(settings.withdraw(&mut table, Kind::Fasta, b">b\nAGCT\n"), Err(lacking));
+    /// assert_eq!(table, before);
+    /// # Ok::<(), Refusal>(())
+    /// ```
+    pub fn withdraw(&self, table: &mut [u32], kind: Kind, file: &[u8]) -> Result<Numbers, Refusal> {
+        self.on_table(kmer_withdraw, table, kind, file)
+    }
+
+    /// A call on a table with a file.
+    fn on_table(
+        &self,
+        call: FileCall,
+        table: &mut [u32],
+        kind: Kind,
+        file: &[u8],
+    ) -> Result<Numbers, Refusal> {
         let (letters, k, mirror) = (self.letters, self.k, self.mirror as u64);
         let mut list = [0; 5];
         // SAFETY: each pointer comes with the length of its slice; `table` and `list` are borrowed for
         // writing, so that they overlap no other.
         let answer = unsafe {
             let (to, from, numbers) = (table.as_mut_ptr(), file.as_ptr(), list.as_mut_ptr());
-            kmer_add(
+            call(
                 letters.as_ptr(),
                 letters.len(),
                 k,

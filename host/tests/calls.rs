@@ -7,10 +7,11 @@ use kmer_tests::book::{class_count, table_ground, Book};
 use kmer_tests::draw::*;
 use kmer_tests::draw_files::drawn_sequence;
 use kmer_tests::expected::{self, coding, mirroring, reading, settings_ground};
+use kmer_tests::files;
 use kmer_tests::lent::filled;
 use kmer_tests::sequences::along;
 use kmer_tests::settings::*;
-use kmer_tests::tables::sizes_up_to;
+use kmer_tests::tables::{drawn_table, sizes_up_to, Call};
 use run::{drawn_of_either_kind, lent, lent_kind, whole_listing};
 use wontirje::{codes_two_bit, Code, Kind, Numbers, Refusal};
 
@@ -121,38 +122,87 @@ fn codes_along_sequences() {
     }
 }
 
-/// Lists of adds of both kinds of file, damaged ones among them, beside the tally book.
+/// Adds or withdraws a file beside the tally book: the answer is the book's, and so is each count; the table's other
+/// places keep what they held. Gives the number of the refusal, 0 where there is none.
+fn check_file_call(call: Call, book: &mut Book, table: &mut [u32], kind: files::Kind, file: &[u8]) -> usize {
+    let (settings, places) = (book.settings.clone(), table.len());
+    let mut right = table.to_vec();
+    let (due, answer) = match call {
+        Call::Add => (book.add(places, kind, file, 5), lent(&settings).add(table, lent_kind(kind), file)),
+        Call::Withdraw => {
+            (book.withdraw(places, kind, file, 5), lent(&settings).withdraw(table, lent_kind(kind), file))
+        }
+    };
+    let numbers = |[records, letters, foreign, edge, windows]: [u64; 5]| Numbers {
+        records,
+        letters,
+        foreign,
+        edge,
+        windows,
+    };
+    assert_eq!(answer, due.map(numbers).map_err(refusal), "{settings}: {call:?} of {kind:?}");
+    book.write_counts(&mut right);
+    assert!(table == right, "{settings}: a count differs");
+    due.map_or_else(|refusal| refusal.number as usize, |_| 0)
+}
+
+/// Lists of adds and withdrawals of both kinds of file, damaged ones among them, beside the tally book. A file that is
+/// withdrawn may have been added before, as often or less often, or not at all.
 #[test]
 fn tables_beside_the_tally_book() {
     let mut random = Random::new(104);
-    let mut refused = [0; 18];
+    let mut answers = [[0; 19]; 2];
     for (s, mirror, k) in sizes_up_to(5000) {
         let settings = Settings::new(&drawn_capitals(&mut random, s), k, mirror);
         let (mut book, places) = (Book::new(&settings), class_count(&settings) as usize);
         let mut table: Vec<u32> = filled(places + 2);
-        let mut right = table.clone();
         assert_eq!(lent(&settings).clear(&mut table), Ok(places), "{settings}");
-        for _ in 0..12 {
-            let (kind, file) = drawn_of_either_kind(&mut random, &settings, 300);
-            let due =
-                book.add(table.len(), kind, &file, 5).map(|[records, letters, foreign, edge, windows]| {
-                    Numbers { records, letters, foreign, edge, windows }
-                });
-            refused[due.map_or_else(|refusal| refusal.number as usize, |_| 0)] += 1;
-            let answer = lent(&settings).add(&mut table, lent_kind(kind), &file);
-            assert_eq!(answer, due.map_err(refusal), "{settings}: {kind:?}");
-            book.write_counts(&mut right);
-            assert!(table == right, "{settings}: a count differs");
+        let mut files = Vec::new();
+        for _ in 0..20 {
+            files.push(drawn_of_either_kind(&mut random, &settings, 300));
+            for (call, answers) in [Call::Add, Call::Withdraw].into_iter().zip(&mut answers) {
+                let (kind, file) = &files[random.below(files.len() as u64) as usize];
+                answers[check_file_call(call, &mut book, &mut table, *kind, file)] += 1;
+            }
         }
+        let right = table.clone();
         let short = Err(Refusal { number: 7, place: places as u64 });
         assert_eq!(lent(&settings).clear(&mut table[..places - 1]), short, "{settings}");
         for kind in [Kind::Fasta, Kind::Fastq] {
             let answer = lent(&settings).add(&mut table[..places - 1], kind, b"x");
             assert_eq!(answer.map(|_| 0), short, "{settings}");
+            let answer = lent(&settings).withdraw(&mut table[..places - 1], kind, b"x");
+            assert_eq!(answer.map(|_| 0), short, "{settings}");
         }
         assert!(table == right, "{settings}: a refused call changed a count");
     }
-    assert!([10, 11, 15, 16, 17].iter().all(|&number| refused[number] > 8), "{refused:?} files refused");
+    let [added, withdrawn] = answers;
+    assert!([0, 10, 11, 15, 16, 17].iter().all(|&number| added[number] > 8), "{added:?} files added");
+    assert!(
+        [0, 10, 11, 15, 16, 17, 18].iter().all(|&number| withdrawn[number] > 8),
+        "{withdrawn:?} withdrawn"
+    );
+}
+
+/// Whatever the table held before.
+#[test]
+fn adding_and_withdrawing_next_gives_the_table_back() {
+    let mut random = Random::new(105);
+    let mut windows = 0;
+    for (s, mirror, k) in sizes_up_to(5000) {
+        let settings = Settings::new(&drawn_capitals(&mut random, s), k, mirror);
+        for sparse in [1, 4] {
+            let mut table = drawn_table(&mut random, &settings, sparse);
+            let before = table.clone();
+            let (kind, file) = drawn_of_either_kind(&mut random, &settings, 300);
+            let Ok(numbers) = lent(&settings).add(&mut table, lent_kind(kind), &file) else { continue };
+            windows += numbers.windows;
+            let answer = lent(&settings).withdraw(&mut table, lent_kind(kind), &file);
+            assert_eq!(answer, Ok(numbers), "{settings}: {kind:?}");
+            assert!(table == before, "{settings}: a count does not come back");
+        }
+    }
+    assert!(windows > 10_000, "{windows} windows");
 }
 
 #[test]
@@ -169,4 +219,34 @@ fn a_full_table_is_refused_12() {
     assert_eq!(table, [u32::MAX - 1, 1]);
     let text = whole_listing(&settings, &table);
     assert!(text.ends_with(b"(count C 4294967294)\n(count A 1)\n(total 4294967295)\n"));
+}
+
+/// The grounds of a withdrawal by hand: 18 comes last, in place of 12, and the table is as before, its last place too,
+/// which is no class's.
+#[test]
+fn a_table_with_too_small_counts_is_refused_18() {
+    let settings = wontirje::Settings::dna(1);
+    let before = [u32::MAX, 2, 9];
+    let mut table = before;
+    let refused: [(usize, Kind, &[u8], [u64; 2]); 7] = [
+        (3, Kind::Fasta, b">\nCATTC", [18, 0]),
+        (3, Kind::Fastq, b"@\nCATT\n+\nIIII", [18, 0]),
+        (3, Kind::Fasta, b">\nTTTT*", [10, 6]),
+        (3, Kind::Fasta, b"\nTTTT\n>", [11, 1]),
+        (3, Kind::Fastq, b"@\nTTTT\n+\nI II", [17, 10]),
+        (1, Kind::Fasta, b"TTTT", [7, 2]),
+        (0, Kind::Fastq, b"TTTT", [7, 2]),
+    ];
+    for (places, kind, file, [number, place]) in refused {
+        let answer = settings.withdraw(&mut table[..places], kind, file);
+        assert_eq!((answer, table), (Err(Refusal { number, place }), before), "{}", file.escape_ascii());
+    }
+    // A count at the top is no hindrance, and a class may lose all that it has.
+    let windows = |answer: Result<Numbers, Refusal>| answer.map(|numbers| numbers.windows);
+    assert_eq!(windows(settings.withdraw(&mut table, Kind::Fasta, b">\nCAnT")), Ok(3));
+    assert_eq!(table, [u32::MAX - 1, 0, 9]);
+    assert_eq!(windows(settings.withdraw(&mut table, Kind::Fastq, b"@\nNG\n+\nII")), Ok(1));
+    assert_eq!(table, [u32::MAX - 2, 0, 9]);
+    assert_eq!(windows(settings.withdraw(&mut table, Kind::Fasta, b"")), Ok(0));
+    assert_eq!(table, [u32::MAX - 2, 0, 9]);
 }

@@ -5,16 +5,8 @@ mod run;
 
 use kmer_tests::draw::Random;
 use kmer_tests::files::as_fasta;
-use run::{run, run_with, Folder};
+use run::{run, run_with, Folder, EMPTY, EXAMPLE, LISTING, NUMBERS, READS};
 use std::path::Path;
-
-/// The same two reads as FASTA and as FASTQ; the bytes that begin lines also stand among the qualities.
-const FASTA: &[u8] = b">a\nACGTN\n>b\nAG\nCT\n";
-const FASTQ: &[u8] = b"@a\nACGTN\n+\n@+>!~\n@b\nAGCT\n+b\n+III\n";
-const NUMBERS: &str = "records 2, letters 9, foreign 1, edge 2, windows 6";
-const LISTING: &str = "(survey (letters ACGT) (k 2) (mirror complement))\n\
-    (count CG 1)\n(count GC 1)\n(count AG 2)\n(count AC 2)\n(total 6)\n";
-const EMPTY: &str = "(survey (letters ACGT) (k 2) (mirror complement))\n(total 0)\n";
 
 const NO_AT: &str = "a record's first line does not begin with @";
 const NO_PLUS: &str = "a record's third line does not begin with +";
@@ -52,7 +44,7 @@ fn check_refused(options: &[&str], cases: &[Case]) {
 /// With LF, with CR LF, and without the last line's end; by name and through a pipe.
 #[test]
 fn the_first_byte_tells_the_kind() {
-    let text = std::str::from_utf8(FASTQ).expect("text");
+    let text = std::str::from_utf8(READS).expect("text");
     let folder = Folder::new();
     for file in [text.to_string(), text.replace('\n', "\r\n"), text.trim_end().to_string()] {
         let path = folder.file("reads", file.as_bytes());
@@ -70,14 +62,14 @@ fn the_first_byte_tells_the_kind() {
 fn both_kinds_in_one_run() {
     let folder = Folder::new();
     let files = [
-        folder.file("a.fa", FASTA),
-        folder.file("bad.fq", &FASTQ[..FASTQ.len() - 2]),
+        folder.file("a.fa", EXAMPLE),
+        folder.file("bad.fq", &READS[..READS.len() - 2]),
         folder.file("no-letters.fq", b"@a\n\n+\n\n"),
         folder.file("empty", b""),
-        folder.file("a.fq", FASTQ),
+        folder.file("a.fq", READS),
     ];
     let names: Vec<&str> = files.iter().map(|file| file.to_str().expect("a name")).collect();
-    let run = run_with(&[&["count", "--k", "2", "-"], &names[..]].concat(), FASTQ);
+    let run = run_with(&[&["count", "--k", "2", "-"], &names[..]].concat(), READS);
     assert_eq!(run.status, 1);
     let thrice = LISTING.replace(" 2)\n", " 6)\n").replace(" 1)\n", " 3)\n").replace("l 6)", "l 18)");
     assert_eq!(run.text(), thrice);
@@ -100,7 +92,7 @@ fn both_kinds_in_one_run() {
 #[test]
 fn a_kind_for_all_files() {
     let folder = Folder::new();
-    let (fasta, fastq) = (folder.file("a.fa", FASTA), folder.file("a.fq", FASTQ));
+    let (fasta, fastq) = (folder.file("a.fa", EXAMPLE), folder.file("a.fq", READS));
     let empty = folder.file("empty", b"");
     let [fasta, fastq, empty] = [&fasta, &fastq, &empty].map(|file| file.to_str().expect("a name"));
     let taken = [

@@ -1,11 +1,17 @@
 //! `wontirje count` on files as they come: several, damaged, of full size, too long, and things that are no
 //! files.
 
+#[path = "run/lists.rs"]
+mod lists;
 mod run;
 
 use kmer_tests::draw::Random;
 use kmer_tests::settings::{Settings, COMPLEMENT};
-use run::{drawn_of_either_kind, lent, run, run_as, run_with, whole_listing, Folder, Run, WONTIRJE};
+use kmer_tests::tables::Call;
+use lists::List;
+use run::{
+    drawn_of_either_kind, run, run_as, run_with, Folder, Run, EMPTY, EXAMPLE, LISTING, NUMBERS, WONTIRJE,
+};
 use std::ffi::{OsStr, OsString};
 use std::fs::{self, Permissions};
 use std::os::unix::ffi::OsStrExt;
@@ -13,13 +19,6 @@ use std::os::unix::fs::{MetadataExt, PermissionsExt};
 use std::os::unix::process::CommandExt;
 use std::path::{Path, PathBuf};
 use std::process::Command;
-use wontirje::Kind;
-
-const EXAMPLE: &[u8] = b">a\nACGTN\n>b\nAG\nCT\n";
-const NUMBERS: &str = "records 2, letters 9, foreign 1, edge 2, windows 6";
-const LISTING: &str = "(survey (letters ACGT) (k 2) (mirror complement))\n\
-    (count CG 1)\n(count GC 1)\n(count AG 2)\n(count AC 2)\n(total 6)\n";
-const EMPTY: &str = "(survey (letters ACGT) (k 2) (mirror complement))\n(total 0)\n";
 
 /// Counts words of 2 letters.
 fn count(options: &[&str], files: &[&Path]) -> Run {
@@ -184,36 +183,15 @@ fn files_of_neither_kind() {
 fn drawn_lists_of_files() {
     let mut random = Random::new(131);
     let settings = Settings::new(b"ACGT", 6, COMPLEMENT);
-    let ours = lent(&settings);
     let mut refused = 0;
     for _ in 0..60 {
-        let folder = Folder::new();
-        let mut table = vec![0; ours.table_places().expect("a table")];
-        let (mut arguments, mut lines) = (vec![OsString::from("count"), "--k=6".into()], Vec::new());
+        let (folder, mut list) = (Folder::new(), List::new(6));
         for name in ["a", "b", "c", "d"] {
             let (_, file) = drawn_of_either_kind(&mut random, &settings, 2000);
-            let path = folder.file(name, &file);
-            lines.push(match ours.add(&mut table, Kind::of(&file), &file) {
-                Ok(numbers) => {
-                    format!("{}: records {}, letters {}, ", path.display(), numbers.records, numbers.letters)
-                }
-                Err(refusal) => {
-                    format!("{}: refused {} at offset {} (", path.display(), refusal.number, refusal.place)
-                }
-            });
-            arguments.push(path.into());
+            // Refused or not, the comparison of the lines is within.
+            let _ = list.call(Call::Add, &folder.file(name, &file), &file);
         }
-        let run = run(&arguments);
-        let some = lines.iter().any(|line| line.contains(": refused "));
-        refused += some as usize;
-        assert_eq!(run.status, some as i32);
-        assert!(run.out == whole_listing(&ours, &table), "the listings differ");
-        let said = run.complaints();
-        assert_eq!(said.len(), lines.len());
-        assert!(
-            said.iter().zip(&lines).all(|(said, line)| said.starts_with(&line[..])),
-            "{said:?}: {lines:?}"
-        );
+        refused += list.check() as usize;
     }
     assert!((10..50).contains(&refused), "{refused} lists with a refused file");
 }

@@ -3,7 +3,7 @@
 mod run;
 
 use run::{run, Folder, WONTIRJE};
-use std::ffi::{c_char, c_int, CStr};
+use std::ffi::{c_char, c_int, CStr, OsStr};
 use std::fs::File;
 use std::io::Read;
 use std::os::fd::{FromRawFd, OwnedFd};
@@ -44,6 +44,26 @@ fn the_help_of_count_says_the_kinds() {
     );
     let told = help.split_whitespace().collect::<Vec<_>>().join(" ");
     assert!(told.contains("A file whose first byte is @ is taken for FASTQ, any other for FASTA;"), "{told}");
+}
+
+/// What is said of withdrawing a file.
+#[test]
+fn the_help_of_count_says_how_to_withdraw() {
+    let help = run(&["help", "count"]).text().to_string();
+    assert!(help.contains(" FILE... [--withdraw FILE]...\n"), "{help}");
+    assert!(
+        help.contains("\n  --withdraw FILE when all files are counted, take this one out again: "),
+        "{help}"
+    );
+    let told = help.split_whitespace().collect::<Vec<_>>().join(" ");
+    for rule in [
+        "adds each file in order, withdraws those of --withdraw, and prints the listing",
+        "(a further name after it is a file to count)",
+        "Refused with 18 where some class has a smaller count than the file has windows of it.",
+        "Files are not remembered: one that was not counted is withdrawn too where the counts allow it",
+    ] {
+        assert!(told.contains(rule), "{rule}: {told}");
+    }
 }
 
 /// What is said of RNA.
@@ -88,12 +108,16 @@ fn errors_in_the_command_line() {
     let see = |command: &str| format!("; see wontirje {command}--help");
     let no_number = "is no number from 0 to 2^64 - 1";
     let no_kind = "is neither fasta nor fastq";
-    let cases: [(&[&str], String); 22] = [
+    let no_file = format!("no file given; name files, or - for standard input{}", see("count "));
+    let cases: [(&[&str], String); 26] = [
         (&[], format!("no command given{}", see(""))),
         (&["conut"], format!("conut is no command of wontirje{}", see(""))),
         (&["a\nb"], format!("a\\nb is no command of wontirje{}", see(""))),
         (&["help", "conut"], format!("conut is no command of wontirje{}", see(""))),
-        (&["count"], format!("no file given; name files, or - for standard input{}", see("count "))),
+        (&["count"], no_file.clone()),
+        (&["count", "--withdraw", "a.fa"], no_file),
+        (&["count", "a.fa", "--withdraw"], format!("--withdraw lacks its value{}", see("count "))),
+        (&["count", "a.fa", "-withdrawn", "a.fa"], format!("-withdrawn is no option{}", see("count "))),
         (&["count", "-m", "12", "a.fa"], format!("-m is no option{}", see("count "))),
         (&["count", "--svg", "a", "a.fa"], format!("--svg is no option{}", see("count "))),
         (&["count", "a.fa", "--k"], format!("--k lacks its value{}", see("count "))),
@@ -108,6 +132,7 @@ fn errors_in_the_command_line() {
         (&["count", "--kind", "", "-"], format!("--kind  {no_kind}")),
         (&["count", "a.fq", "--kind"], format!("--kind lacks its value{}", see("count "))),
         (&["histogram", "--kind", "fastq", "-"], format!("--kind is no option{}", see("histogram "))),
+        (&["histogram", "--withdraw", "a.fa", "-"], format!("--withdraw is no option{}", see("histogram "))),
         (&["histogram", "--bars", "many", "-"], format!("--bars many {no_number}")),
         (&["histogram"], format!("give one listing, or - for standard input{}", see("histogram "))),
         (&["histogram", "--bars", "1", "-"], String::from("--bars 1 is not from 2 to 200")),
@@ -184,11 +209,12 @@ fn terminal() -> (File, File) {
     (far, File::options().read(true).write(true).open(name).expect("the near end"))
 }
 
-/// What a count shows on a terminal.
-fn shown_on_a_terminal(file: &Path) -> String {
+/// What a count of a file shows on a terminal, with these arguments after it.
+fn shown_on_a_terminal(file: &Path, more: &[&OsStr]) -> String {
     let (mut far, near) = terminal();
     let mut command = Command::new(WONTIRJE);
-    command.args(["count", "--k", "3"]).arg(file).stdin(Stdio::null()).stdout(Stdio::null()).stderr(near);
+    command.args(["count", "--k", "3"]).arg(file).args(more);
+    command.stdin(Stdio::null()).stdout(Stdio::null()).stderr(near);
     assert!(command.status().expect("the command runs").success());
     // The near end is held by the command's builder too; the last reading then ends with an error.
     drop(command);
@@ -219,7 +245,7 @@ fn progress_on_a_terminal() {
     let small = folder.file("small.fa", &[b">a\n", &b"GATTACA\n".repeat(120_000)[..]].concat());
     let wiped = "\r\x1b[K";
     for file in [&large, &long] {
-        let shown = shown_on_a_terminal(file);
+        let shown = shown_on_a_terminal(file, &[]);
         let (name, short) = (file.display(), short_name(file));
         let line = format!("{name}: records 1, letters 2100000, foreign 0, edge 2, windows 2099998\r\n");
         assert!(
@@ -227,8 +253,11 @@ fn progress_on_a_terminal() {
             "{shown:?}"
         );
         assert!(shown.ends_with(&format!("{wiped}{short}: counting 2 MB{wiped}{line}")), "{shown:?}");
+        let shown = shown_on_a_terminal(file, &["--withdraw".as_ref(), file.as_os_str()]);
+        let line = line.replace(": records", ": withdrawn: records");
+        assert!(shown.ends_with(&format!("{wiped}{short}: withdrawing 2 MB{wiped}{line}")), "{shown:?}");
     }
-    let shown = shown_on_a_terminal(&small);
+    let shown = shown_on_a_terminal(&small, &[]);
     assert!(shown.starts_with(&format!("{}: records 1,", small.display())), "{shown:?}");
     let piped = run(&["count".as_ref(), "--no-listing".as_ref(), large.as_os_str()]);
     assert!(piped.err.starts_with(&format!("{}: records 1,", large.display())), "{}", piped.err);

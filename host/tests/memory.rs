@@ -52,7 +52,8 @@ fn check(what: &str, peak: u64, k: usize, file: u64) {
     );
 }
 
-/// One file of full size, by name and through a pipe; several files, of both kinds; the listing to a new file.
+/// One file of full size, by name and through a pipe; several files, of both kinds; one withdrawn, for which there is
+/// no second table; the listing to a new file.
 #[test]
 fn the_table_one_file_and_two_megabytes() {
     let folder = Folder::new();
@@ -65,6 +66,8 @@ fn the_table_one_file_and_two_megabytes() {
     check("three files", peak(&["--k", "9"], &[&half, &full, &half], Stdio::null()), 9, length);
     let fastq = full_fastq(&folder);
     check("FASTQ after FASTA", peak(&["--k", "9"], &[&half, &fastq], Stdio::null()), 9, length);
+    let withdrawn = ["--k", "12", "--withdraw", full.to_str().expect("a name")];
+    check("withdrawn", peak(&withdrawn, &[&full, &half], Stdio::null()), 12, length);
     let output = folder.path("counts.txt");
     let options = ["--output", output.to_str().expect("a name")];
     check("a new file", peak(&options, &[&half], Stdio::null()), 11, 8_000_000);

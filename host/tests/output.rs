@@ -2,14 +2,12 @@
 
 mod run;
 
-use run::{run, run_as, run_with, Folder, Run, WONTIRJE};
+use run::{run, run_as, run_with, Folder, Run, EXAMPLE, WONTIRJE};
 use std::fs::{self, File};
 use std::io::{BufRead, BufReader, Read};
 use std::os::unix::fs::symlink;
 use std::path::Path;
 use std::process::{Command, Stdio};
-
-const EXAMPLE: &[u8] = b">a\nACGTN\n>b\nAG\nCT\n";
 
 /// A file whose listing, for k 8, is some hundred kilobytes: more than any pipe or buffer on the way holds.
 fn long_file() -> Vec<u8> {

@@ -97,10 +97,10 @@ fn check(input: &[u8], output: &[u8], compared: &Compared) {
 fn stored_runs() {
     let compared = Compared::default();
     let by_hand = cases_by_hand(107).into_iter().chain(fastq_cases_by_hand(39));
-    let cases: Vec<_> = vectors([232, 193, 198, 200, 40]).into_iter().chain(by_hand).collect();
+    let cases: Vec<_> = vectors([232, 193, 198, 200, 40, 40]).into_iter().chain(by_hand).collect();
     check_each(&cases, |case| check(&case.input, &case.output, &compared));
     let [counted, file_refused, settings_refused, out_of_reach] = compared.numbers();
-    assert_eq!(counted + file_refused + settings_refused + out_of_reach, 1009);
+    assert_eq!(counted + file_refused + settings_refused + out_of_reach, 1049);
     assert!(counted > 300 && file_refused > 200 && settings_refused > 60, "{:?}", compared.numbers());
     assert!(out_of_reach < 150, "{:?}", compared.numbers());
 }

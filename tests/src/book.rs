@@ -1,5 +1,6 @@
-//! The tally book of document 01 ("Table") as a map from canonical words to counts, fed by a reader of
-//! sequence files that goes line by line; and the grounds that refuse a table call.
+//! The tally book of document 01 ("Table"), which keeps withdrawals too (document 02, K4), as a map from canonical
+//! words to tallies, fed by a reader of sequence files that goes line by line; and the grounds that refuse a table
+//! call.
 
 use crate::expected::{coder, settings_ground, Refusal};
 use crate::files::{fastq_sequences, lines, Kind};
@@ -114,69 +115,112 @@ pub fn table_ground(settings: &Settings, long: bool, places: usize) -> Result<us
     Ok(classes as usize)
 }
 
-/// A class's place by the second coder, and its tally.
+/// A class's place by the second coder, and its windows over the calls accepted.
 struct Tally {
     place: usize,
-    count: u64,
+    added: u64,
+    withdrawn: u64,
 }
 
-/// The tally book of document 01. Classes that are not in the map have tally 0.
+impl Tally {
+    fn new(place: usize, added: u64) -> Tally {
+        Tally { place, added, withdrawn: 0 }
+    }
+
+    /// "Each class's count is its windows added less its windows withdrawn" (document 02, K4).
+    fn count(&self) -> u64 {
+        self.added - self.withdrawn
+    }
+}
+
+/// The tally book of documents 01 and 02. Classes that are not in the map have tally 0.
 pub struct Book {
     pub settings: Settings,
     coder: Option<Coder>,
     tallies: HashMap<Vec<u8>, Tally>,
     /// The five numbers, each added up over the files taken in.
     pub taken: Numbers,
+    /// The same over the files withdrawn.
+    pub withdrawn: Numbers,
 }
 
 impl Book {
     /// As clearing leaves it. Settings that a ground refuses have no coder.
     pub fn new(settings: &Settings) -> Book {
         let coder = settings_ground(settings).is_ok().then(|| coder(settings));
-        Book { settings: settings.clone(), coder, tallies: HashMap::new(), taken: [0; 5] }
+        Book { settings: settings.clone(), coder, tallies: HashMap::new(), taken: [0; 5], withdrawn: [0; 5] }
     }
 
-    /// With the counts of a table, for ground 12, which no list of short files reaches from 0.
+    /// With the counts of a table, as if they had been added: for ground 12, which no list of short files reaches
+    /// from 0, and for tables that allow the withdrawal of files that were never added.
     pub fn starting(settings: &Settings, counts: &[u32]) -> Book {
         let mut book = Book::new(settings);
         for (place, &count) in counts.iter().enumerate().filter(|(_, &count)| count > 0) {
             let word = coder(settings).word(place as u128).expect("a place below the number of classes");
-            book.tallies.insert(word, Tally { place, count: count as u64 });
+            book.tallies.insert(word, Tally::new(place, count as u64));
         }
         book
     }
 
-    /// All grounds for an add, in their order; else what the file holds.
-    fn grounds(&self, places: usize, kind: Kind, file: &[u8], room: usize) -> Result<Contents, Refusal> {
+    /// The grounds of an add and of a withdrawal that come before those of the counts, in their order; else what
+    /// the file holds.
+    fn contents(&self, places: usize, kind: Kind, file: &[u8], room: usize) -> Result<Contents, Refusal> {
         table_ground(&self.settings, file.len() > MOST_BYTES, places)?;
         if room < 5 {
             return Err(Refusal { number: 7, p: 5 });
         }
-        let found = read(kind, &self.settings.letters, file)?;
-        let windows = found.numbers(self.settings.k)[4];
-        if self.tallies.values().any(|tally| tally.count + windows > TOP) {
-            return Err(Refusal { number: 12, p: 0 });
+        read(kind, &self.settings.letters, file)
+    }
+
+    /// The file's windows of each class, by canonical word.
+    fn windows(&self, found: &Contents) -> HashMap<Vec<u8>, u64> {
+        let coder = self.coder.as_ref().expect("no ground applied");
+        let mut windows = HashMap::new();
+        for window in found.runs.iter().flat_map(|run| run.windows(self.settings.k)) {
+            *windows.entry(coder.canonical(window)).or_default() += 1;
         }
-        Ok(found)
+        windows
+    }
+
+    fn tally(&mut self, word: Vec<u8>) -> &mut Tally {
+        let coder = self.coder.as_ref().expect("no ground applied");
+        self.tallies.entry(word).or_insert_with_key(|word| Tally::new(coder.code(word) as usize, 0))
     }
 
     /// An add with a table of so many places and an answer list of so much room.
     pub fn add(&mut self, places: usize, kind: Kind, file: &[u8], room: usize) -> Result<Numbers, Refusal> {
-        let found = self.grounds(places, kind, file, room)?;
-        let coder = self.coder.as_ref().expect("no ground applied");
-        for window in found.runs.iter().flat_map(|run| run.windows(self.settings.k)) {
-            let word = coder.canonical(window);
-            if let Some(tally) = self.tallies.get_mut(&word) {
-                tally.count += 1;
-            } else {
-                let place = coder.code(&word) as usize;
-                self.tallies.insert(word, Tally { place, count: 1 });
-            }
+        let found = self.contents(places, kind, file, room)?;
+        let numbers = found.numbers(self.settings.k);
+        if self.tallies.values().any(|tally| tally.count() + numbers[4] > TOP) {
+            return Err(Refusal { number: 12, p: 0 });
+        }
+        for (word, windows) in self.windows(&found) {
+            self.tally(word).added += windows;
+        }
+        add_up(&mut self.taken, numbers);
+        Ok(numbers)
+    }
+
+    /// A withdrawal, likewise. "18 when some class has a smaller count than the file has windows of it, checked
+    /// after 11, in place of 12" (document 02, K4).
+    pub fn withdraw(
+        &mut self,
+        places: usize,
+        kind: Kind,
+        file: &[u8],
+        room: usize,
+    ) -> Result<Numbers, Refusal> {
+        let found = self.contents(places, kind, file, room)?;
+        let windows = self.windows(&found);
+        let count = |word: &Vec<u8>| self.tallies.get(word).map_or(0, Tally::count);
+        if windows.iter().any(|(word, &windows)| count(word) < windows) {
+            return Err(Refusal { number: 18, p: 0 });
+        }
+        for (word, windows) in windows {
+            self.tally(word).withdrawn += windows;
         }
         let numbers = found.numbers(self.settings.k);
-        for (sum, number) in self.taken.iter_mut().zip(numbers) {
-            *sum += number;
-        }
+        add_up(&mut self.withdrawn, numbers);
         Ok(numbers)
     }
 
@@ -185,7 +229,30 @@ impl Book {
         let classes = table_ground(&self.settings, false, places.len()).expect("a table that fits");
         places[..classes].fill(0);
         for tally in self.tallies.values() {
-            places[tally.place] = tally.count as u32;
+            places[tally.place] = tally.count() as u32;
         }
     }
+}
+
+fn add_up(sums: &mut Numbers, numbers: Numbers) {
+    for (sum, number) in sums.iter_mut().zip(numbers) {
+        *sum += number;
+    }
+}
+
+/// The places of the windows of a file that no ground refuses, window by window in the file's order.
+pub fn window_places(settings: &Settings, kind: Kind, file: &[u8]) -> Vec<usize> {
+    let found = read(kind, &settings.letters, file).expect("a file without damage");
+    let coder = coder(settings);
+    let windows = found.runs.iter().flat_map(|run| run.windows(settings.k));
+    windows.map(|window| coder.code(window) as usize).collect()
+}
+
+/// How many windows of each class such a file has, by the class's place.
+pub fn windows_by_place(settings: &Settings, kind: Kind, file: &[u8]) -> Vec<u32> {
+    let mut windows = vec![0; class_count(settings) as usize];
+    for place in window_places(settings, kind, file) {
+        windows[place] += 1;
+    }
+    windows
 }

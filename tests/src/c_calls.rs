@@ -26,6 +26,10 @@ extern "C" {
                     table: *mut u32, table_len: usize, fastq: u64, file: *const u8, file_len: usize,
                     answer: *mut u64, answer_len: usize) -> u64;
 
+    pub fn kmer_withdraw(letters: *const u8, letters_len: usize, k: usize, mirror: u64,
+                         table: *mut u32, table_len: usize, fastq: u64, file: *const u8, file_len: usize,
+                         answer: *mut u64, answer_len: usize) -> u64;
+
     pub fn kmer_listing(letters: *const u8, letters_len: usize, k: usize, mirror: u64,
                         table: *const u32, table_len: usize, text: *mut u8, text_len: usize) -> u64;
 }

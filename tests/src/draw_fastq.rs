@@ -1,9 +1,10 @@
-//! FASTQ files drawn from a fixed seed: whole ones with either line end, and files with one damage; and the
-//! same of the kind that is asked for.
+//! FASTQ files drawn from a fixed seed: whole ones with either line end, files with one damage, and the longest;
+//! and whole and damaged ones of the kind that is asked for.
 
 use crate::draw::Random;
 use crate::draw_files::{damaged, drawn_byte, drawn_end, drawn_file, drawn_letters, drawn_marked};
-use crate::files::{bare, Kind};
+use crate::files::{bare, Kind, FASTA};
+use crate::sequences::MOST_BYTES;
 use crate::settings::Settings;
 
 /// The letters of up to 4 records, some of them without letters.
@@ -110,10 +111,44 @@ pub fn drawn_of(random: &mut Random, kind: Kind, settings: &Settings, length: u6
     }
 }
 
+/// A whole file of a drawn kind, with the number that names its kind.
+pub fn whole_file(random: &mut Random, settings: &Settings, length: u64) -> (u64, Vec<u8>) {
+    let fastq = match random.below(2) {
+        0 => FASTA,
+        _ => random.draw().max(1),
+    };
+    (fastq, drawn_of(random, Kind::named(fastq), settings, length))
+}
+
 /// A file of one kind with one damage.
 pub fn damaged_of(random: &mut Random, kind: Kind, settings: &Settings, file: Vec<u8>) -> Vec<u8> {
     match kind {
         Kind::Fasta => damaged(random, settings, file),
         Kind::Fastq => damaged_fastq(random, file),
     }
+}
+
+/// The letters of records that make a FASTQ file of just the most bytes: reads of 50 to 249 letters and a few
+/// longer ones, with some foreign letters. Each record has 6 bytes besides letters and qualities.
+pub fn long_sequences(random: &mut Random) -> Vec<Vec<u8>> {
+    let mut left = MOST_BYTES;
+    let mut sequences = Vec::new();
+    while left > 0 {
+        let length = if random.below(1000) == 0 { 20_000 } else { 50 + random.below(200) as usize };
+        // The last record takes what is left, for which there is always room.
+        let length = if left < 2 * length + 1000 { (left - 6) / 2 } else { length };
+        let mut letter = || b"ACGTacgtACGTacgtACGTacgtACGTacgtN"[random.below(33) as usize];
+        sequences.push((0..length).map(|_| letter()).collect());
+        left -= 2 * length + 6;
+    }
+    sequences
+}
+
+/// As FASTQ, with bare marks for the first and the third lines.
+pub fn long_fastq(random: &mut Random, sequences: &[Vec<u8>]) -> Vec<u8> {
+    let record = |sequence: &Vec<u8>| {
+        let quality = drawn_quality(random, sequence.len());
+        [b"@\n", &sequence[..], b"\n+\n", &quality, b"\n"].concat()
+    };
+    sequences.iter().flat_map(record).collect()
 }

@@ -1,5 +1,5 @@
 //! Sequences and sequence files drawn from a fixed seed: letters with foreign ones among them, records in
-//! lines of any width with either line end, and files with one damage.
+//! lines of any width with either line end, files with one damage, and long ones.
 
 use crate::draw::{drawn_near_palindrome, drawn_word, spelled_mixed, Random};
 use crate::files::bare;
@@ -115,5 +115,25 @@ pub fn damaged(random: &mut Random, settings: &Settings, mut file: Vec<u8>) -> V
         4 => file.push(b'\r'),
         _ => file.insert(place, byte),
     }
+    file
+}
+
+/// A FASTA file of so many bytes: records of some 90,000 letters in lines of 80, with some foreign letters.
+pub fn long_file(random: &mut Random, letters: &[u8], length: usize) -> Vec<u8> {
+    let mut file = b">first\n".to_vec();
+    let mut drawn = 0;
+    while file.len() < length {
+        if drawn % 91_003 == 91_002 {
+            file.extend(b"\n>next\r\n");
+        } else if drawn % 80 == 79 {
+            file.push(b'\n');
+        }
+        let letter = letters[random.below(letters.len() as u64) as usize];
+        file.push(if drawn % 5003 == 5002 { b'n' } else { letter });
+        drawn += 1;
+    }
+    file.truncate(length);
+    // The last byte is a letter, whatever was cut there.
+    file[length - 1] = letters[0];
     file
 }

@@ -3,7 +3,7 @@
 
 use crate::expected::Refusal;
 
-/// The numbers by which a caller of kmer_add names a file's kind: every number but 0 means FASTQ.
+/// The numbers by which a caller of kmer_add or kmer_withdraw names a file's kind: every number but 0 means FASTQ.
 pub const FASTA: u64 = 0;
 pub const FASTQ: u64 = 1;
 

@@ -1,5 +1,5 @@
-//! What the tests share. The C calls and what is lent to them: `c_calls`, `lent`, `calls`, `sequences`,
-//! `tables`. What documents 01 and 02 say that they answer, written apart from the library: `second_coder`,
+//! What the tests share. The C calls and what is lent to them: `c_calls`, `lent`, `calls`, `sequences`, `tables`,
+//! `table_faults`. What documents 01 and 02 say that they answer, written apart from the library: `second_coder`,
 //! `expected`, `files`, `book`. What the tests go over: `settings`, `draw`, `draw_files`, `draw_fastq`, and the
 //! stored answers in `vectors`, `table_vectors`. For the counter program: its runs in `program`, the second
 //! counter, `draw_inputs` and `program_cases`.
@@ -20,6 +20,7 @@ pub mod second_coder;
 pub mod second_counter;
 pub mod sequences;
 pub mod settings;
+pub mod table_faults;
 pub mod table_vectors;
 pub mod tables;
 pub mod vectors;

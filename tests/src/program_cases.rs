@@ -1,6 +1,7 @@
 //! Reads the stored runs of the counter program, vectors/program.txt, vectors/k10_program.txt,
-//! vectors/k01_program.txt, vectors/k02_program.txt, vectors/k03_program.txt, program/cases.txt and
-//! program/fastq.txt, and the lines of program/malformed.txt; the heads of these files say how they are written.
+//! vectors/k01_program.txt, vectors/k02_program.txt, vectors/k03_program.txt, vectors/k04_program.txt,
+//! program/cases.txt and program/fastq.txt, and the lines of program/malformed.txt; the heads of these files say how
+//! they are written.
 
 use crate::program::check_prints;
 use crate::second_counter::answer;
@@ -63,14 +64,15 @@ fn cases(text: &'static str, count: usize) -> Vec<Case> {
 }
 
 /// The stored answers of independent reference implementations: so many to document 01 alone, to document 01
-/// with document 02, K10, to these with K1, to these with K2, and to these with K3.
-pub fn vectors(counts: [usize; 5]) -> Vec<Case> {
+/// with document 02, K10, to these with K1, to these with K2, to these with K3, and to these with K4.
+pub fn vectors(counts: [usize; 6]) -> Vec<Case> {
     let files = [
         include_str!("../vectors/program.txt"),
         include_str!("../vectors/k10_program.txt"),
         include_str!("../vectors/k01_program.txt"),
         include_str!("../vectors/k02_program.txt"),
         include_str!("../vectors/k03_program.txt"),
+        include_str!("../vectors/k04_program.txt"),
     ];
     files.into_iter().zip(counts).flat_map(|(text, count)| cases(text, count)).collect()
 }

@@ -1,20 +1,25 @@
-//! Reads the stored answers of independent reference implementations for clearing and adding:
+//! Reads the stored answers of independent reference implementations for clearing, adding and withdrawing:
 //! vectors/tables.txt, those to document 01 alone, vectors/k10_tables.txt, those to document 01 with document
-//! 02, K10, vectors/k01_tables.txt, those with K1 too, whose files are FASTQ, and vectors/k02_tables.txt and
-//! vectors/k02_fastq_tables.txt, those with K2 too; the heads of these files say what their columns are.
+//! 02, K10, vectors/k01_tables.txt, those with K1 too, whose files are FASTQ, vectors/k02_tables.txt and
+//! vectors/k02_fastq_tables.txt, those with K2 too, and vectors/k04_tables.txt and vectors/k04_fastq_tables.txt, those
+//! with K4 too; the heads of these files say what their columns are. Holds the calls and the book against them.
 
+use crate::book::{table_ground, Book};
 use crate::expected::Refusal;
 use crate::files::{FASTA, FASTQ};
 use crate::settings::Settings;
+use crate::tables::{check_call, Call, Table};
 use crate::vectors::{bytes, number, places, rows, StoredFile};
 
 /// The files of stored calls, each with the number that names the kind of its sequence files.
-const TABLES: [(StoredFile, u64); 5] = [
+const TABLES: [(StoredFile, u64); 7] = [
     (("tables.txt", include_str!("../vectors/tables.txt")), FASTA),
     (("k10_tables.txt", include_str!("../vectors/k10_tables.txt")), FASTA),
     (("k01_tables.txt", include_str!("../vectors/k01_tables.txt")), FASTQ),
     (("k02_tables.txt", include_str!("../vectors/k02_tables.txt")), FASTA),
     (("k02_fastq_tables.txt", include_str!("../vectors/k02_fastq_tables.txt")), FASTQ),
+    (("k04_tables.txt", include_str!("../vectors/k04_tables.txt")), FASTA),
+    (("k04_fastq_tables.txt", include_str!("../vectors/k04_fastq_tables.txt")), FASTQ),
 ];
 
 /// A stored call.
@@ -49,10 +54,22 @@ fn parsed(fastq: u64, (line, columns): (String, Vec<&str>)) -> Stored {
 }
 
 /// The stored calls of one kind: so many of each file in turn, so that a cut file does not pass.
-pub fn stored(call: &str, counts: [usize; 5]) -> Vec<Stored> {
+pub fn stored(call: &str, counts: [usize; 7]) -> Vec<Stored> {
     let mut found = Vec::new();
     for ((file, fastq), count) in TABLES.into_iter().zip(counts) {
         found.extend(rows(file, call, count).into_iter().map(|row| parsed(fastq, row)));
     }
     found
+}
+
+/// The call and the book answer as stored, and leave the stored table. Stored calls have no answer list: it is long
+/// enough here.
+pub fn check_stored_call(call: Call, stored: &Stored) {
+    let mut table = Table::new(&stored.table);
+    let ground = table_ground(&stored.settings, false, stored.table.len());
+    let counts = ground.map_or(&[][..], |classes| &stored.table[..classes]);
+    let mut book = Book::starting(&stored.settings, counts);
+    let answer = check_call(call, &mut book, &mut table, stored.fastq, &stored.file, 5);
+    assert_eq!(answer.map(|numbers| numbers.to_vec()), stored.outcome, "{}", stored.line);
+    assert_eq!(table.slice(), stored.after, "{}", stored.line);
 }

@@ -1,16 +1,15 @@
-//! The table calls as safe functions that lend copies between guards, the comparison of clearing and adding
-//! with the tally book, and what the tests of tables begin with: sizes, lengths, cleared, full and drawn
-//! tables, files of one record.
+//! The table calls as safe functions that lend copies between guards, the comparison of clearing, adding and
+//! withdrawing with the tally book, and what the tests of tables begin with: sizes, lengths, cleared, full and
+//! drawn tables, files of one record, a file of all classes.
 
-use crate::book::{class_count, table_ground, Book, Numbers, TOP};
-use crate::c_calls::{kmer_add, kmer_clear, kmer_listing};
-use crate::draw::{first_capitals, Random};
+use crate::book::{class_count, table_ground, Book, Numbers};
+use crate::c_calls::{kmer_add, kmer_clear, kmer_listing, kmer_withdraw};
+use crate::draw::{first_capitals, spelled, Random};
 use crate::draw_files::{drawn_letters, foreign_letters};
-use crate::expected::Refusal;
-use crate::files::Kind;
+use crate::expected::{coder, Refusal};
+use crate::files::{as_fasta, Kind};
 use crate::lent::{check_places, Lent};
-use crate::sequences::two_bit_settings;
-use crate::settings::{good_and_bad_settings, good_sizes, shown_file, Settings, COMPLEMENT, REVERSAL};
+use crate::settings::{good_sizes, shown_file, Settings, COMPLEMENT, REVERSAL};
 
 /// The library works in batches of this many letters, so that lengths about its multiples are tried.
 pub const BATCH: usize = 1024;
@@ -30,15 +29,49 @@ pub fn clear(settings: &Settings, table: &mut Table) -> u64 {
     answer
 }
 
+/// The calls on a table and a file.
+#[derive(Clone, Copy, Debug, PartialEq)]
+pub enum Call {
+    Add,
+    Withdraw,
+}
+
 /// Adds a file to a table: the answer of kmer_add. `fastq` is the number that names the kind of file.
 pub fn add(settings: &Settings, table: &mut Table, fastq: u64, file: &[u8], numbers: &mut Lent<u64>) -> u64 {
+    answered(Call::Add, settings, table, fastq, file, numbers)
+}
+
+/// Withdraws a file from a table: the answer of kmer_withdraw.
+pub fn withdraw(
+    settings: &Settings,
+    table: &mut Table,
+    fastq: u64,
+    file: &[u8],
+    numbers: &mut Lent<u64>,
+) -> u64 {
+    answered(Call::Withdraw, settings, table, fastq, file, numbers)
+}
+
+/// The answer of either call.
+pub fn answered(
+    call: Call,
+    settings: &Settings,
+    table: &mut Table,
+    fastq: u64,
+    file: &[u8],
+    numbers: &mut Lent<u64>,
+) -> u64 {
+    let function = match call {
+        Call::Add => kmer_add,
+        Call::Withdraw => kmer_withdraw,
+    };
     let mut letters = Lent::new(&settings.letters);
     let mut lent = Lent::new(file);
     let (k, mirror, places, room) = (settings.k, settings.mirror, table.len(), numbers.len());
     // SAFETY: as in `clear`; the list of numbers is an allocation of its own too.
     let answer = unsafe {
         let (to, from, list) = (table.pointer(), lent.pointer(), numbers.pointer());
-        kmer_add(letters.pointer(), letters.len(), k, mirror, to, places, fastq, from, file.len(), list, room)
+        function(letters.pointer(), letters.len(), k, mirror, to, places, fastq, from, file.len(), list, room)
     };
     letters.check_unchanged(settings, "letters", &settings.letters);
     lent.check_unchanged(settings, "file", file);
@@ -80,8 +113,7 @@ pub fn check_clear(settings: &Settings, table: &mut Table) {
     check_places(&what, table.slice(), &right);
 }
 
-/// Adds a file to the table and to the book, and compares the answer, the five numbers, every count and
-/// every later place; a refused call leaves table and answer list as they were. Gives the book's answer.
+/// Adds a file to the table and to the book, and compares as `check_call` does.
 pub fn check_add(
     book: &mut Book,
     table: &mut Table,
@@ -89,12 +121,39 @@ pub fn check_add(
     file: &[u8],
     room: usize,
 ) -> Result<Numbers, Refusal> {
-    let (settings, places) = (book.settings.clone(), table.len());
+    check_call(Call::Add, book, table, fastq, file, room)
+}
+
+/// Withdraws a file from the table and from the book, and compares as `check_call` does.
+pub fn check_withdraw(
+    book: &mut Book,
+    table: &mut Table,
+    fastq: u64,
+    file: &[u8],
+    room: usize,
+) -> Result<Numbers, Refusal> {
+    check_call(Call::Withdraw, book, table, fastq, file, room)
+}
+
+/// Makes a call with the table and with the book, and compares the answer, the five numbers, every count and
+/// every later place; a refused call leaves table and answer list as they were. Gives the book's answer.
+pub fn check_call(
+    call: Call,
+    book: &mut Book,
+    table: &mut Table,
+    fastq: u64,
+    file: &[u8],
+    room: usize,
+) -> Result<Numbers, Refusal> {
+    let (settings, places, kind) = (book.settings.clone(), table.len(), Kind::named(fastq));
     let what = format!(
-        "{settings}: kmer_add to {places} places, room {room}, fastq {fastq}, file {}",
+        "{settings}: {call:?} on {places} places, room {room}, fastq {fastq}, file {}",
         shown_file(file)
     );
-    let expected = book.add(places, Kind::named(fastq), file, room);
+    let expected = match call {
+        Call::Add => book.add(places, kind, file, room),
+        Call::Withdraw => book.withdraw(places, kind, file, room),
+    };
     let mut right = table.slice().to_vec();
     let mut list = Lent::<u64>::filled(room);
     let mut right_list = list.slice().to_vec();
@@ -102,7 +161,7 @@ pub fn check_add(
         book.write_counts(&mut right);
         right_list[..5].copy_from_slice(&numbers);
     }
-    let answer = add(&settings, table, fastq, file, &mut list);
+    let answer = answered(call, &settings, table, fastq, file, &mut list);
     let due = expected.map_or_else(|refusal| refusal.packed(), |_| 5);
     assert!(answer == due, "{what} is {answer:#x}, expected {due:#x} ({expected:?})");
     check_places(&format!("{what}: the answer list"), list.slice(), &right_list);
@@ -110,12 +169,13 @@ pub fn check_add(
     expected
 }
 
-/// Demand 3: sum of the counts = letters - foreign - edge, over the files taken in.
+/// Demand 3: sum of the counts = letters - foreign - edge, over the files taken in, less the same over those
+/// withdrawn.
 pub fn check_sum(book: &Book, table: &Table) {
     let classes = class_count(&book.settings) as usize;
     let sum: u64 = table.slice()[..classes].iter().map(|&count| count as u64).sum();
-    let [_, letters, foreign, edge, _] = book.taken;
-    assert_eq!(sum, letters - foreign - edge, "{}: sum of the counts", book.settings);
+    let over = |[_, letters, foreign, edge, _]: Numbers| letters - foreign - edge;
+    assert_eq!(sum, over(book.taken) - over(book.withdrawn), "{}: sum of the counts", book.settings);
 }
 
 /// Settings with small tables, for the tests that go over many files.
@@ -176,11 +236,14 @@ pub fn cleared(settings: &Settings, more: usize) -> (Book, Table) {
 
 /// Sets all classes' places to 0, and one of them to a count; later places hold the most there is.
 pub fn table_with(settings: &Settings, place: usize, count: u64) -> (Book, Table) {
-    let classes = class_count(settings) as usize;
-    let mut places = vec![u32::MAX; classes + 4];
-    places[..classes].fill(0);
-    places[place] = count as u32;
-    (Book::starting(settings, &places[..classes]), Table::new(&places))
+    let mut counts = vec![0; class_count(settings) as usize];
+    counts[place] = count as u32;
+    table_of(settings, &counts, u32::MAX)
+}
+
+/// A table with these counts, one a class, and with some later places that all hold the same; and its book.
+pub fn table_of(settings: &Settings, counts: &[u32], later: u32) -> (Book, Table) {
+    (Book::starting(settings, counts), Table::new(&[counts, &[later; 4]].concat()))
 }
 
 /// A table with up to two places more than needed. About one place of `sparse` has a count, small or large.
@@ -193,10 +256,19 @@ pub fn drawn_table(random: &mut Random, settings: &Settings, sparse: u64) -> Vec
     (0..places).map(|_| count(random)).collect()
 }
 
-/// Adds one file to a cleared table beside the book.
+/// Adds one file to a cleared table beside the book, and gives the answer to that. Withdrawn before, it is refused 18
+/// if it has a window; withdrawn after, it is answered as the add was, and the table is as it was cleared.
 pub fn check_file(settings: &Settings, fastq: u64, file: &[u8]) -> Result<Numbers, Refusal> {
     let (mut book, mut table) = cleared(settings, 3);
-    check_add(&mut book, &mut table, fastq, file, 5)
+    let before = table.slice().to_vec();
+    let early = check_withdraw(&mut book, &mut table, fastq, file, 5);
+    let answer = check_add(&mut book, &mut table, fastq, file, 5);
+    let lacking = answer.is_ok_and(|numbers| numbers[4] > 0);
+    let what = || format!("{settings}: fastq {fastq}, file {}", shown_file(file));
+    assert_eq!(early, if lacking { refused(18, 0) } else { answer }, "{}", what());
+    assert_eq!(check_withdraw(&mut book, &mut table, fastq, file, 5), answer, "{}", what());
+    assert!(table.slice() == before, "{}: the table is not given back", what());
+    answer
 }
 
 /// A file of one record.
@@ -204,59 +276,22 @@ pub fn record(sequence: &[u8]) -> Vec<u8> {
     [b">r\n", sequence].concat()
 }
 
-/// What the book answers to a refused add.
+/// A FASTA file that has each class of code c in c % 5 + 1 windows, spelled as the canonical word and as its mirror by
+/// turns. Each is a record of its own, so that no reader is needed to know the windows.
+pub fn file_of_all_classes(settings: &Settings) -> Vec<u8> {
+    let coder = coder(settings);
+    let mut records = Vec::new();
+    for code in 0..coder.classes() {
+        let word = coder.word(code).expect("a code below the number of classes");
+        for time in 0..=code % 5 {
+            let turned = if time % 2 == 0 { coder.mirror(&word) } else { word.clone() };
+            records.push(spelled(&settings.letters, &turned));
+        }
+    }
+    as_fasta(&records)
+}
+
+/// What the book answers to a refused call.
 pub fn refused(number: u64, p: u64) -> Result<Numbers, Refusal> {
     Err(Refusal { number, p })
-}
-
-/// An add that is refused: letters, k, mirror, places, first place's count, file, room; number and P.
-pub type Faulty<'a> = (&'a [u8], usize, u64, usize, u32, &'a [u8], usize, (u64, u64));
-
-/// Makes a refused add, which answers as written out and changes no place of the table or of the list.
-pub fn check_refused(fastq: u64, (letters, k, mirror, places, first, file, room, (number, p)): Faulty) {
-    let settings = Settings::new(letters, k, mirror);
-    let mut table = Table::filled(places);
-    table.slice_mut().iter_mut().take(1).for_each(|place| *place = first);
-    let before = table.slice().to_vec();
-    let mut list = Lent::filled(room);
-    let what = format!("{settings}: {places} places, file {}, room {room}", shown_file(file));
-    let answer = add(&settings, &mut table, fastq, file, &mut list);
-    assert_eq!(answer, Refusal { number, p }.packed(), "{what}");
-    assert!(table.slice() == before && list.slice() == Lent::<u64>::filled(room).slice(), "{what}");
-}
-
-/// Ground 12: each place in turn, whether the file touches it or not, at the edge and above it.
-pub fn check_full_places(seed: u64, fastq: u64, file_of: impl Fn(&mut Random, &Settings) -> Vec<u8>) {
-    let mut random = Random::new(seed);
-    let zebra = [REVERSAL, COMPLEMENT].map(|mirror| Settings::new(b"ZEBRA", 3, mirror));
-    for settings in [two_bit_settings(3), two_bit_settings(4)].into_iter().chain(zebra) {
-        let file = file_of(&mut random, &settings);
-        let windows = check_file(&settings, fastq, &file).expect("a file without damage")[4];
-        for place in 0..class_count(&settings) as usize {
-            for (count, fits) in [(TOP - windows, true), (TOP - windows + 1, false), (TOP, false)] {
-                let (mut book, mut table) = table_with(&settings, place, count);
-                let answer = check_add(&mut book, &mut table, fastq, &file, 5).err();
-                let right = (!fits).then_some(Refusal { number: 12, p: 0 });
-                assert_eq!(answer, right, "{settings}: {place}");
-            }
-        }
-    }
-}
-
-/// Adds some files, as each kind that is named, under good and bad settings, to tables and with lists that are
-/// long enough or not, each beside the book.
-pub fn check_combinations(kinds: &[u64], files: &[&[u8]], sizes: &[usize], rooms: &[usize]) {
-    for settings in good_and_bad_settings() {
-        for &places in sizes {
-            let mut table = Table::filled(places);
-            check_clear(&settings, &mut table);
-            for (file, room) in files.iter().flat_map(|file| rooms.iter().map(move |room| (file, *room))) {
-                for &fastq in kinds {
-                    // The comparison with the book is within.
-                    let _ = check_add(&mut Book::new(&settings), &mut table, fastq, file, room);
-                    check_clear(&settings, &mut table);
-                }
-            }
-        }
-    }
 }

@@ -2,38 +2,13 @@
 
 use kmer_tests::book::Numbers;
 use kmer_tests::draw::Random;
-use kmer_tests::draw_fastq::drawn_quality;
+use kmer_tests::draw_fastq::{long_fastq, long_sequences};
 use kmer_tests::expected::{coder, Refusal};
 use kmer_tests::files::{as_fasta, FASTA, FASTQ};
 use kmer_tests::lent::Lent;
 use kmer_tests::sequences::{two_bit_settings, MOST_BYTES};
 use kmer_tests::settings::{shown_file, Settings};
 use kmer_tests::tables::*;
-
-/// The letters of records that make a FASTQ file of just the most bytes: reads of 50 to 249 letters and a few
-/// longer ones, with some foreign letters. Each record has 6 bytes besides letters and qualities.
-fn long_sequences(random: &mut Random) -> Vec<Vec<u8>> {
-    let mut left = MOST_BYTES;
-    let mut sequences = Vec::new();
-    while left > 0 {
-        let length = if random.below(1000) == 0 { 20_000 } else { 50 + random.below(200) as usize };
-        // The last record takes what is left, for which there is always room.
-        let length = if left < 2 * length + 1000 { (left - 6) / 2 } else { length };
-        let mut letter = || b"ACGTacgtACGTacgtACGTacgtACGTacgtN"[random.below(33) as usize];
-        sequences.push((0..length).map(|_| letter()).collect());
-        left -= 2 * length + 6;
-    }
-    sequences
-}
-
-/// As FASTQ, with bare marks for the first and the third lines.
-fn long_fastq(random: &mut Random, sequences: &[Vec<u8>]) -> Vec<u8> {
-    let record = |sequence: &Vec<u8>| {
-        let quality = drawn_quality(random, sequence.len());
-        [b"@\n", &sequence[..], b"\n+\n", &quality, b"\n"].concat()
-    };
-    sequences.iter().flat_map(record).collect()
-}
 
 /// The table and the five numbers after one add to a cleared table.
 fn after_one(settings: &Settings, fastq: u64, file: &[u8]) -> (Vec<u32>, Vec<u64>) {

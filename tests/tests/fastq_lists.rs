@@ -8,15 +8,6 @@ use kmer_tests::sequences::MOST_BYTES;
 use kmer_tests::settings::*;
 use kmer_tests::tables::*;
 
-/// A whole file of a drawn kind, with the number that names its kind.
-fn whole_file(random: &mut Random, settings: &Settings, length: u64) -> (u64, Vec<u8>) {
-    let fastq = match random.below(2) {
-        0 => FASTA,
-        _ => random.draw().max(1),
-    };
-    (fastq, drawn_of(random, Kind::named(fastq), settings, length))
-}
-
 /// A file for a list: mostly whole or damaged ones, now and then the last one again, one called by the other
 /// kind or one that is too long.
 fn next_file(random: &mut Random, settings: &Settings, last: &(u64, Vec<u8>), long: &[u8]) -> (u64, Vec<u8>) {

@@ -7,6 +7,7 @@ use kmer_tests::draw_fastq::drawn_fastq_of;
 use kmer_tests::draw_files::drawn_letters;
 use kmer_tests::files::{FASTA, FASTQ};
 use kmer_tests::sequences::{two_bit_settings, MOST_BYTES};
+use kmer_tests::table_faults::*;
 use kmer_tests::tables::*;
 
 /// Numbers that name FASTQ, some of which a call might cut to 0.
@@ -57,7 +58,7 @@ fn the_grounds_of_a_fastq_file_stand_after_7_and_before_12() {
         (b"ACGT", 2, 1, 10, full, b"@\nN\n+\nI\n@\nAC\n+\nII", 6, (12, 0)),
         (b"ACG", 1, 1, 2, full, b"@\nC\n+\n!", 5, (12, 0)),
     ];
-    cases.into_iter().for_each(|case| check_refused(FASTQ, case));
+    cases.into_iter().for_each(|case| check_refused(Call::Add, FASTQ, case));
 }
 
 #[test]
@@ -92,5 +93,5 @@ fn combinations_of_faults_answer_as_the_book() {
         b"@\nA",
         b">\nACGTBT",
     ];
-    check_combinations(&[FASTA, FASTQ], &files, &[0, 2, 3, 9, 10, 1000], &[4, 5, 6]);
+    check_combinations(&[Call::Add], &[FASTA, FASTQ], &files, &[0, 2, 3, 9, 10, 1000], &[4, 5, 6]);
 }

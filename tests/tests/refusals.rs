@@ -9,7 +9,7 @@ use kmer_tests::files::FASTA;
 use kmer_tests::lent::{filled, Lent};
 use kmer_tests::sequences::{codes, codes_two_bit};
 use kmer_tests::settings::*;
-use kmer_tests::tables::{add, clear, listed, record, Table};
+use kmer_tests::tables::{add, clear, listed, record, withdraw, Table};
 
 const MEGABYTE: usize = 1 << 20;
 
@@ -100,7 +100,7 @@ fn complement_with_odd_s_is_answered() {
 }
 
 /// What each call answers: words and sequences of letters A, and buffers and tables of so many places.
-fn answers(settings: &Settings, places: usize) -> [u64; 8] {
+fn answers(settings: &Settings, places: usize) -> [u64; 9] {
     let letters = vec![b'A'; settings.k.min(70)];
     let mut table = Table::filled(places);
     [
@@ -111,6 +111,7 @@ fn answers(settings: &Settings, places: usize) -> [u64; 8] {
         codes_two_bit(settings.k, &letters, places).0,
         clear(settings, &mut table),
         add(settings, &mut table, FASTA, &record(&letters), &mut Lent::filled(places)),
+        withdraw(settings, &mut table, FASTA, &record(&letters), &mut Lent::filled(places)),
         listed(settings, table.slice(), places).0,
     ]
 }

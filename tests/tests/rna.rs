@@ -81,6 +81,40 @@ fn files_and_their_copies_give_equal_tables() {
     assert!([7, 10, 11, 15, 16, 17].iter().all(|&number| turned_away[number] > 5), "{turned_away:?}");
 }
 
+/// Document 02, K4: a file is taken out by its copy, and a copy by its file, with the same numbers; a damaged one is
+/// refused alike. A file that stays keeps some other counts above 0.
+#[test]
+fn a_file_and_its_copy_take_each_other_out() {
+    let mut random = Random::new(94);
+    let (mut given_back, mut turned_away, mut replaced) = ([0; 2], 0, 0);
+    for (s, mirror, k) in sizes_up_to(20_000) {
+        let settings = Settings::new(&letters_with_t(&mut random, s), k, mirror);
+        let (mut book, mut table) = cleared(&settings, 2);
+        let stays = drawn_of(&mut random, Kind::Fasta, &settings, 300);
+        check_add(&mut book, &mut table, FASTA, &stays, 5).expect("a file without damage");
+        for turn in 0..8 {
+            let before = table.slice().to_vec();
+            let (fastq, file) = drawn_for_a_list(&mut random, &settings);
+            let copy = copied(&mut random, &file);
+            replaced += (copy != file) as usize;
+            let (added, withdrawn) = if turn % 2 == 0 { (&file, &copy) } else { (&copy, &file) };
+            let answer = check_add(&mut book, &mut table, fastq, added, 5);
+            let other = check_withdraw(&mut book, &mut table, fastq, withdrawn, 5);
+            assert_eq!(answer, other, "{settings}: {} and {}", shown_file(added), shown_file(withdrawn));
+            assert!(table.slice() == before, "{settings}: {}", shown_file(withdrawn));
+            match answer {
+                Ok(_) => given_back[(fastq == FASTQ) as usize] += 1,
+                Err(_) => turned_away += 1,
+            }
+        }
+    }
+    assert!(
+        given_back.iter().all(|&count| count > 200) && replaced > 300,
+        "{given_back:?}, {replaced} replaced"
+    );
+    assert!(turned_away > 100, "{turned_away} refused");
+}
+
 /// On both paths where there are two, with foreign bytes between the letters.
 #[test]
 fn sequences_and_their_copies_have_equal_codes() {

@@ -2,6 +2,7 @@
 
 use kmer_tests::book::*;
 use kmer_tests::draw::*;
+use kmer_tests::draw_files::long_file;
 use kmer_tests::expected::{coder, Refusal};
 use kmer_tests::files::{Kind, FASTA};
 use kmer_tests::lent::*;
@@ -56,26 +57,6 @@ fn the_largest_table_for_three_letters_under_complement_is_at_k_15() {
     let above = Settings::new(b"ABC", 16, COMPLEMENT);
     assert_eq!(clear(&above, &mut table), Refusal { number: 6, p: 0 }.packed());
     assert_eq!(check_add(&mut Book::new(&above), &mut table, FASTA, file, 5), refused(6, 0));
-}
-
-/// A file of so many bytes: records of some 90,000 letters in lines of 80, with some foreign letters.
-fn long_file(random: &mut Random, letters: &[u8], length: usize) -> Vec<u8> {
-    let mut file = b">first\n".to_vec();
-    let mut drawn = 0;
-    while file.len() < length {
-        if drawn % 91_003 == 91_002 {
-            file.extend(b"\n>next\r\n");
-        } else if drawn % 80 == 79 {
-            file.push(b'\n');
-        }
-        let letter = letters[random.below(letters.len() as u64) as usize];
-        file.push(if drawn % 5003 == 5002 { b'n' } else { letter });
-        drawn += 1;
-    }
-    file.truncate(length);
-    // The last byte is a letter, whatever was cut there.
-    file[length - 1] = letters[0];
-    file
 }
 
 /// How often each of the 4^k words is in the file's runs, by plain rank; the book's map is too slow for this.

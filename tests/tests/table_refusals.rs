@@ -8,6 +8,7 @@ use kmer_tests::expected::coder;
 use kmer_tests::files::FASTA;
 use kmer_tests::sequences::{two_bit_settings, MOST_BYTES};
 use kmer_tests::settings::*;
+use kmer_tests::table_faults::*;
 use kmer_tests::tables::*;
 
 #[test]
@@ -105,12 +106,12 @@ fn grounds_go_in_number_order() {
         (b"ACG", 1, 1, 2, full, b">\nC", 5, (12, 0)),
         (b"ACGT", 2, 1, 10, full, b">\nAC", 5, (12, 0)),
     ];
-    cases.into_iter().for_each(|case| check_refused(FASTA, case));
+    cases.into_iter().for_each(|case| check_refused(Call::Add, FASTA, case));
 }
 
 /// Every combination of good and bad arguments, beside the book.
 #[test]
 fn combinations_of_faults_answer_as_the_book() {
     let files: [&[u8]; 6] = [b"", b">\nACGTBT", b"A", b"*", b">\nA*", b">\nTT\r"];
-    check_combinations(&[FASTA], &files, &[0, 1, 2, 3, 6, 9, 10, 40, 1000], &[0, 4, 5, 6]);
+    check_combinations(&[Call::Add], &[FASTA], &files, &[0, 1, 2, 3, 6, 9, 10, 40, 1000], &[0, 4, 5, 6]);
 }

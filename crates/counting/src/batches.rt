@@ -1,6 +1,7 @@
-// The windows of a file, counted in batches: the ranks of a run's letters go into a local array, their codes into another, and then each code is
-// counted. Between the batches of one run its last k - 1 letters stay in the array.
-use super::counts::count_codes;
+// The windows of a file, counted or taken away in batches: the ranks of a run's letters go into a local array, their codes into another, and then each
+// code is counted or taken away. Between the batches of one run its last k - 1 letters stay in the array.
+use super::Way;
+use super::counts::change_codes;
 use fasta::Item;
 use fasta::Mode;
 use kernels::Coder;
@@ -8,17 +9,15 @@ use kernels::fill_codes;
 ghost use mathlib.Core.Path.{_≡_};
 ghost use mathlib.Core.Bool.{false};
 ghost use mathlib.Core.List.{_++_};
-ghost use Prim.Native.Nat.{_+_, _<_, _≤_};
+ghost use Prim.Native.Nat.{_+_, _<_, _≤_, min};
 ghost use lib.ListN.{length, take, drop};
 ghost use Rattle.settings.specs.Settings.{classes};
 ghost use Rattle.encoding.specs.Words.{Ranks};
-ghost use Rattle.fasta.specs.Items.{windowsIn};
-ghost use Rattle.fasta.specs.File.{itemsFrom};
 ghost use Rattle.settings.specs.RankTables.{asRank, rankByTable, RanksBelow};
 ghost use Rattle.kernels.specs.Windows.{windowCodes};
 ghost use Rattle.kernels.specs.Needs.{ReadyCoder};
-ghost use Rattle.tally.specs.Table.{bumps};
-ghost use Rattle.counting.specs.Needs.{Room, markOfRank, markOf, codesBy, Gathers, Carries};
+ghost use Rattle.counting.specs.declared.Way.the-variants.{In};
+ghost use Rattle.counting.specs.Needs.{Fits, Changed, TakenUnlessLacking, markOfRank, markOf, codesOfFile, Gathers, Carries};
 
 // What a byte does to the present run: how many letters it adds, 0 or 1, with the letter's rank; or that it ends the run.
 struct Mark {
@@ -160,20 +159,35 @@ fn no_codes() -> [u64; 1024]
     [0u64; 1024]
 }
 
-// Counts the windows of some letters of a run.
-fn count_batch(counts: &mut [u32], ranks: &[u8], c: Coder, powers: &[u64; 64], mirrors: &[u8; 256])
+// The smaller of two numbers.
+fn smaller(a: usize, b: usize) -> usize
+    ensures { λ r. ⌜ r ≡ min a b ⌝ }
+{
+    if a < b { a } else { b }
+}
+
+// One more or one less for the first windows of some letters of a run, `limit` at most. Answers for how many.
+fn change_batch(
+    counts: &mut [u32],
+    ranks: &[u8],
+    c: Coder,
+    powers: &[u64; 64],
+    mirrors: &[u8; 256],
+    way: Way,
+    limit: usize,
+) -> usize
     requires { ⌜ ReadyCoder c (now powers) (now mirrors) ⌝ }
     requires { ⌜ Ranks (c .s) (now ranks) ⌝ }
     requires { ⌜ length (now ranks) ≤ 1024 ⌝ }
     requires { ⌜ length (now counts) ≡ classes (c .s) (c .mirror) (c .k) ⌝ }
-    requires { ⌜ Room (length (windowCodes (c .s) (c .mirror) (c .k) (now ranks))) (now counts) ⌝ }
-    ensures { λ _.
-        ⌜ now (counts .exit) ≡ bumps (now (counts .entry)) (windowCodes (c .s) (c .mirror) (c .k) (now (ranks .entry))) ⌝ }
+    requires { ⌜ (way ≡ In → Fits (take limit (windowCodes (c .s) (c .mirror) (c .k) (now ranks))) (now counts)) ⌝ }
+    ensures { λ r.
+        ⌜ Changed way (now (counts .entry)) (take limit (windowCodes (c .s) (c .mirror) (c .k) (now (ranks .entry)))) r (now (counts .exit)) ⌝ }
 {
     let mut codes = no_codes();
     fill_codes(ranks, c, powers, mirrors, &mut codes);
-    let n = kernels::window_count(ranks.len(), c.k);
-    count_codes(counts, &codes[..n]);
+    let n = smaller(limit, kernels::window_count(ranks.len(), c.k));
+    change_codes(counts, &codes[..n], way)
 }
 
 // Room for the letters of a batch.
@@ -183,8 +197,9 @@ fn no_ranks() -> [u8; 1024]
     [0u8; 1024]
 }
 
-// Counts every window of a file, whose first byte stands in a mode.
-pub fn count_file(
+// One more or one less for the first windows, `limit` at most, of a file whose first byte stands in the mode `start`; on the way out up to the first of whose
+// class no count is left. Answers for how many.
+pub fn change_file(
     counts: &mut [u32],
     file: &[u8],
     start: Mode,
@@ -192,25 +207,62 @@ pub fn count_file(
     c: Coder,
     powers: &[u64; 64],
     mirrors: &[u8; 256],
-)
+    way: Way,
+    limit: usize,
+) -> usize
     requires { ⌜ ReadyCoder c (now powers) (now mirrors) ⌝ }
     requires { ⌜ RanksBelow (c .s) (now table) ⌝ }
     requires { ⌜ length (now counts) ≡ classes (c .s) (c .mirror) (c .k) ⌝ }
-    requires { ⌜ Room (length (windowsIn (rankByTable (now table)) (c .k) (itemsFrom start (now file)))) (now counts) ⌝ }
-    ensures { λ _.
-        ⌜ now (counts .exit)
-        ≡ bumps (now (counts .entry)) (codesBy c (windowsIn (rankByTable (now (table .entry))) (c .k) (itemsFrom start (now (file .entry))))) ⌝ }
+    requires { ⌜ (way ≡ In → Fits (take limit (codesOfFile c (now table) (now file) start)) (now counts)) ⌝ }
+    ensures { λ r.
+        ⌜ Changed way (now (counts .entry)) (take limit (codesOfFile c (now (table .entry)) (now (file .entry)) start)) r (now (counts .exit)) ⌝ }
 {
     let mut array = no_ranks();
     let mut at: usize = 0;
     let mut mode = start;
     let mut n: usize = 0;
+    let mut done: usize = 0;
     while at < file.len() {
         let g = gather(file, table, at, mode, n, &mut array);
         let letters = g.letters;
-        count_batch(counts, &array[..letters], c, powers, mirrors);
+        let left = limit - done;
+        let r = change_batch(counts, &array[..letters], c, powers, mirrors, way, left);
+        done += r;
+        if r < kernels::window_count(letters, c.k) {
+            return done;
+        }
         n = carry(&mut array, letters, c.k, g.ended);
         at = g.at;
         mode = g.mode;
     }
+    done
+}
+
+// Takes 1 from its class for each window of a file, of which there are `windows`; where some class has too few, what was taken is counted again, and all
+// counts are as before. Answers whether that was so.
+pub fn take_file(
+    counts: &mut [u32],
+    file: &[u8],
+    start: Mode,
+    table: &[u8; 256],
+    c: Coder,
+    powers: &[u64; 64],
+    mirrors: &[u8; 256],
+    windows: usize,
+) -> bool
+    requires { ⌜ ReadyCoder c (now powers) (now mirrors) ⌝ }
+    requires { ⌜ RanksBelow (c .s) (now table) ⌝ }
+    requires { ⌜ length (now counts) ≡ classes (c .s) (c .mirror) (c .k) ⌝ }
+    requires { ⌜ windows ≡ length (codesOfFile c (now table) (now file) start) ⌝ }
+    ensures { λ r.
+        ⌜ TakenUnlessLacking (now (counts .entry)) (codesOfFile c (now (table .entry)) (now (file .entry)) start) r (now (counts .exit)) ⌝ }
+{
+    let out = Way::Out;
+    let taken = change_file(counts, file, start, table, c, powers, mirrors, out, windows);
+    if taken == windows {
+        return false;
+    }
+    let back = Way::In;
+    change_file(counts, file, start, table, c, powers, mirrors, back, taken);
+    true
 }

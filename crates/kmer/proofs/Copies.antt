@@ -1,7 +1,7 @@
 -- Copies with T for U (document 02, K2) through the C calls: where the settings have T and no U, a `kmer_add` of a file and one of its copy, on the same table
--- and with the same lent list, return the same number and leave the same list and the same table (`copy-added-into`); so do two lists of such calls, the one
--- with copies in place of some or all of the other's files (`copies-from-c`). From the laws of copies in the crates files and tally, since what a call returns
--- and leaves is said by its grounds and the file's windows and numbers.
+-- and with the same lent list, return the same number and leave the same list and the same table, and so do two `kmer_withdraw` (`copy-called-into`); so do two
+-- lists of such calls, the one with copies in place of some or all of the other's files (`copies-from-c`). From the laws of copies in the crates files and
+-- tally, since what a call returns and leaves is said by its grounds and the file's windows and numbers.
 use mathlib.Core.Path.{_≡_, sym, ap₂, _∙_}
 use mathlib.Core.Bool.{true}
 use mathlib.Core.Option.{Option}
@@ -11,39 +11,42 @@ use lib.ListN.{length}
 use Rattle.settings.specs.Grounds.{Ground, overwritten}
 use Rattle.settings.specs.Settings.{readsUAsT}
 use Rattle.fasta.specs.declared.Numbers.{Numbers}
-use Rattle.files.specs.File.{File}
-use Rattle.files.specs.Copies.{FileCopy}
 use Rattle.files.proofs.Copies.{same-file-fault, same-file-numbers}
-use Rattle.tally.proofs.Copies.{same-calls, same-windows-of-file, same-ready-ground}
-use Rattle.kmer.specs.Adding.{addIntoGround, fiveNumbers, AddsInto}
-use Rattle.kmer.specs.Demand.{AddCalls}
+use Rattle.tally.specs.Table.{Call}
+use Rattle.tally.specs.Copies.{CallCopy}
+use Rattle.tally.proofs.Copies.{same-calls, copied-file, same-last, same-after, same-ready-ground}
+use Rattle.kmer.specs.FileCalls.{intoGround, fiveNumbers, CallsInto}
+use Rattle.kmer.specs.Demand.{FileCalls}
 use Rattle.kmer.specs.Copies.{AskedAlike}
 
 module _ (letters : List ℕ) (reads : readsUAsT letters ≡ true) (k m : ℕ) where
-  module _ {file copy : File} (C : FileCopy file copy) where
-    same-ground : (t : List ℕ) (room : ℕ) → addIntoGround letters k m t file room ≡ addIntoGround letters k m t copy room
-    unfolding addIntoGround
-    same-ground t room = rw (same-windows-of-file letters k C reads, same-ready-ground letters k C m (length t), same-file-fault C)
+  module _ {c d : Call} (C : CallCopy c d) where
+    same-ground : (t : List ℕ) (room : ℕ) → intoGround letters k m t c room ≡ intoGround letters k m t d room
+    unfolding intoGround
+    same-ground t room =
+        let file = copied-file C in
+        rw (same-last letters reads k m C t, same-ready-ground letters k file m (length t), same-file-fault file)
 
     -- Of one call, with a lent list of any length.
-    pub copy-added-into : {t lent t′ u′ new new′ : List ℕ} {r r′ : ℕ} → AddsInto letters k m t file lent r t′ new → AddsInto letters k m t copy lent r′ u′ new′
+    pub copy-called-into : {t lent t′ u′ new new′ : List ℕ} {r r′ : ℕ} → CallsInto letters k m t c lent r t′ new → CallsInto letters k m t d lent r′ u′ new′
         → _≡_ {A = ℕ × List ℕ} (r, new) (r′, new′) × (t′ ≡ u′)
-    copy-added-into {t} {lent} A B =
+    copy-called-into {t} {lent} A B =
         let ground = same-ground t (length lent) in
-        let list = ap₂ (λ (g : Option Ground) (n : Numbers). overwritten g (fiveNumbers n) lent) ground (same-file-numbers C letters reads k) in (
+        let numbers = same-file-numbers (copied-file C) letters reads k in
+        let list = ap₂ (λ (g : Option Ground) (n : Numbers). overwritten g (fiveNumbers n) lent) ground numbers in (
           ap₂ (λ (x : ℕ) (l : List ℕ). (x, l)) (A .returns ∙ rw ground (sym (B .returns))) (A .answer-left ∙ list ∙ sym (B .answer-left)),
-          A .table-left ∙ rw (ground, same-windows-of-file letters k C reads) (sym (B .table-left)),
+          A .table-left ∙ rw (ground, same-after letters reads k m C t) (sym (B .table-left)),
         )
 
-  call-alike : (t : List ℕ) (c d : File × List ℕ) (a b : ℕ × List ℕ) (t′ u′ : List ℕ) → AskedAlike c d
-      → (5 ≤ length (c .1)) × AddsInto letters k m t (c .0) (c .1) (a .0) t′ (a .1)
-      → (5 ≤ length (d .1)) × AddsInto letters k m t (d .0) (d .1) (b .0) u′ (b .1)
+  call-alike : (t : List ℕ) (c d : Call × List ℕ) (a b : ℕ × List ℕ) (t′ u′ : List ℕ) → AskedAlike c d
+      → (5 ≤ length (c .1)) × CallsInto letters k m t (c .0) (c .1) (a .0) t′ (a .1)
+      → (5 ≤ length (d .1)) × CallsInto letters k m t (d .0) (d .1) (b .0) u′ (b .1)
       → (a ≡ b) × (t′ ≡ u′)
   call-alike t c d a b t′ u′ C A B =
-      let other : AddsInto letters k m t (d .0) (c .1) (b .0) u′ (b .1) = rw (C .1) (B .1) in
-      copy-added-into (C .0) (A .1) other
+      let other : CallsInto letters k m t (d .0) (c .1) (b .0) u′ (b .1) = rw (C .1) (B .1) in
+      copy-called-into (C .0) (A .1) other
 
-  pub copies-from-c : {asked asked′ : List (File × List ℕ)} → Forall₂ AskedAlike asked asked′
-      → {t t′ u′ : List ℕ} {told told′ : List (ℕ × List ℕ)} → AddCalls letters k m t asked told t′ → AddCalls letters k m t asked′ told′ u′
+  pub copies-from-c : {asked asked′ : List (Call × List ℕ)} → Forall₂ AskedAlike asked asked′
+      → {t t′ u′ : List ℕ} {told told′ : List (ℕ × List ℕ)} → FileCalls letters k m t asked told t′ → FileCalls letters k m t asked′ told′ u′
       → (told ≡ told′) × (t′ ≡ u′)
   copies-from-c = same-calls _ AskedAlike call-alike

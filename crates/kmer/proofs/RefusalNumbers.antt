@@ -12,11 +12,11 @@ use Rattle.settings.specs.Settings.{isIn, mirrorOf, classes, settingsGround, Re
 use Rattle.settings.proofs.FirstGround.{NumberIn, test-has, place-has, then-has, settings-has, sizes-has}
 use Rattle.encoding.specs.Calls.{wrongLength, foreignFrom, codeGround, readGround, mirrorGround}
 use Rattle.sequence.specs.Sequences.{sequenceGround}
-use Rattle.files.specs.File.{File, fileFault}
-use Rattle.tally.specs.Table.{readyGround, clearGround, tableFull}
-use Rattle.tally.proofs.RefusalNumbers.{clearNumbers, clear-numbers, addNumbers, ready-has, file-numbers}
+use Rattle.files.specs.File.{fileFault}
+use Rattle.tally.specs.Table.{readyGround, clearGround, Call, add, withdraw, callFile, tableFull, tableLacks, lastGround}
+use Rattle.tally.proofs.RefusalNumbers.{clearNumbers, clear-numbers, callNumbers, ready-has, file-numbers}
 use Rattle.listing.specs.Listing.{listing, listingGround}
-use Rattle.kmer.specs.Adding.{addIntoGround}
+use Rattle.kmer.specs.FileCalls.{intoGround}
 
 -- kmer_code: 1, 2, 4, 5 or 9.
 pub code-numbers : (letters : List ℕ) (k m : ℕ) (word : List ℕ) → RefusedOnlyBy (1 ∷ 2 ∷ 4 ∷ 5 ∷ 9 ∷ []) (codeGround letters k m word)
@@ -59,17 +59,27 @@ sequence-numbers letters k m sequence room =
     sizes-has (NumberIn (1 ∷ 2 ∷ 4 ∷ 6 ∷ 7 ∷ [])) letters k m (ltb 16777216 (length sequence)) room (length (windows k sequence)) refl refl refl refl
     (λ _ _ _ _. refl)
 
--- kmer_add: 1, 2, 4, 6, 7 or 12; of FASTA 10 or 11, of FASTQ 10, 15, 16 or 17.
-pub add-into-numbers : (letters : List ℕ) (k m : ℕ) (t : List ℕ) (file : File) (room : ℕ)
-    → RefusedOnlyBy (addNumbers (file .kind)) (addIntoGround letters k m t file room)
-unfolding isIn addIntoGround
-add-into-numbers letters k m t file room =
-    let Q = NumberIn (addNumbers (file .kind)) in
+-- The number of a call's last ground.
+abbrev pub lastNumber : Call → ℕ
+lastNumber (add file) = 12
+lastNumber (withdraw file) = 18
+
+last-numbers : (letters : List ℕ) (k m : ℕ) (t : List ℕ) (c : Call)
+    → RefusedOnlyBy (callNumbers (lastNumber c) (callFile c .kind)) (fileFault (callFile c) orElse lastGround letters k m t c)
+last-numbers letters k m t (add file) = file-numbers 12 (tableFull letters k m t file) file
+last-numbers letters k m t (withdraw file) = file-numbers 18 (tableLacks letters k m t file) file
+
+-- kmer_add: 1, 2, 4, 6, 7 or 12; kmer_withdraw: 18 in place of 12; of FASTA 10 or 11, of FASTQ 10, 15, 16 or 17.
+pub into-numbers : (letters : List ℕ) (k m : ℕ) (t : List ℕ) (c : Call) (room : ℕ)
+    → RefusedOnlyBy (callNumbers (lastNumber c) (callFile c .kind)) (intoGround letters k m t c room)
+unfolding isIn intoGround
+into-numbers letters k m t c room =
+    let Q = NumberIn (callNumbers (lastNumber c) (callFile c .kind)) in
+    let bytes = callFile c .bytes in
     let g7 = groundAt 7 (tooShort room 5) in
-    let rest = fileFault file orElse ground 12 (tableFull letters k m t file) in
-    then-has Q (readyGround letters k m (length t) (file .bytes)) (g7 orElse rest)
-    (ready-has Q letters k m (length t) (file .bytes) refl refl refl refl (λ _. refl))
-    (λ _. then-has Q g7 rest (place-has Q 7 (tooShort room 5) (λ _ _. refl)) (λ _. file-numbers (tableFull letters k m t file) file))
+    let rest = fileFault (callFile c) orElse lastGround letters k m t c in
+    then-has Q (readyGround letters k m (length t) bytes) (g7 orElse rest) (ready-has Q letters k m (length t) bytes refl refl refl refl (λ _. refl))
+    (λ _. then-has Q g7 rest (place-has Q 7 (tooShort room 5) (λ _ _. refl)) (λ _. last-numbers letters k m t c))
 
 -- kmer_listing: 1, 2, 4, 6 or 7.
 pub listing-numbers : (letters : List ℕ) (k m : ℕ) (table : List ℕ) (room : ℕ) → RefusedOnlyBy clearNumbers (listingGround letters k m table room)

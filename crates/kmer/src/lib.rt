@@ -7,7 +7,8 @@ ghost use lib.ListN.{length, drop, replicate};
 ghost use Rattle.settings.specs.Grounds.{refused as Refused, groundOf, ofFilling};
 ghost use Rattle.tally.specs.Table.{classCount, clearGround};
 ghost use Rattle.files.specs.File.{fileOf};
-ghost use Rattle.kmer.specs.Adding.{kindOfNumber, fiveNumbers, AddsInto};
+ghost use Rattle.table.specs.Calls.{callOf};
+ghost use Rattle.kmer.specs.FileCalls.{kindOfNumber, fiveNumbers, CallsInto, AddsInto, WithdrawsInto};
 ghost use Rattle.encoding.specs.Calls.{coding, readGround, wordBytes, mirrorGround, mirrorBytes};
 ghost use Rattle.kmer.specs.Returned.{returned, returnedWithPlace, ReturnsPlaces};
 ghost use Rattle.kmer.specs.Needs.{PlaceFits};
@@ -15,6 +16,7 @@ ghost use Rattle.listing.specs.Listing.{listing, listingGround};
 ghost use Rattle.laws.specs.Text.{bytes};
 ghost use Rattle.laws.specs.Windows.{windows};
 ghost use Rattle.sequence.specs.Sequences.{sequenceGround, sequenceCodes};
+use counting::Way;
 use fasta::Answer;
 use fasta::Numbers;
 use files::Kind;
@@ -147,8 +149,9 @@ fn kind_of_number(fastq: u64) -> Kind
     if fastq == 0 { Kind::Fasta } else { Kind::Fastq }
 }
 
-// Adds a file of a kind to a table; the file's five numbers go into the answer list, whose own ground 7 comes after the table's.
-fn add_into(
+// An add or a withdrawal of a file of a kind; the file's five numbers go into the answer list, whose own ground 7 comes after the table's.
+fn call_into(
+    way: Way,
     letters: &[u8],
     k: usize,
     mirror: u64,
@@ -158,7 +161,7 @@ fn add_into(
     answer: &mut [u64],
 ) -> u64
     ensures { λ r.
-        ⌜ AddsInto (now (letters .entry)) k mirror (now (table .entry)) (fileOf kind (now (file .entry))) (now (answer .entry)) r
+        ⌜ CallsInto (now (letters .entry)) k mirror (now (table .entry)) (callOf way (fileOf kind (now (file .entry)))) (now (answer .entry)) r
         (now (table .exit)) (now (answer .exit)) ⌝ }
 {
     match table::ready(letters, k, mirror, table.len(), file) {
@@ -167,7 +170,7 @@ fn add_into(
             if answer.len() < 5 {
                 return refused_at(Refusal::ShortBuffer(5));
             }
-            match table::add(letters, k, mirror, table, kind, file) {
+            match table::call(way, letters, k, mirror, table, kind, file) {
                 Answer::Refused(f) => refused_at(f),
                 Answer::Taken(n) => {
                     write_numbers(n, answer);
@@ -193,7 +196,35 @@ pub extern "C" fn kmer_add(
         ⌜ AddsInto (now (letters .entry)) k mirror (now (table .entry)) (fileOf (kindOfNumber fastq) (now (file .entry))) (now (answer .entry)) r
         (now (table .exit)) (now (answer .exit)) ⌝ }
 {
-    add_into(
+    call_into(
+        Way::In,
+        letters,
+        k,
+        mirror,
+        table,
+        kind_of_number(fastq),
+        file,
+        answer,
+    )
+}
+
+// Withdraws a file from a table; `fastq` names its kind.
+#[no_mangle]
+pub extern "C" fn kmer_withdraw(
+    letters: &[u8],
+    k: usize,
+    mirror: u64,
+    table: &mut [u32],
+    fastq: u64,
+    file: &[u8],
+    answer: &mut [u64],
+) -> u64
+    ensures { λ r.
+        ⌜ WithdrawsInto (now (letters .entry)) k mirror (now (table .entry)) (fileOf (kindOfNumber fastq) (now (file .entry))) (now (answer .entry)) r
+        (now (table .exit)) (now (answer .exit)) ⌝ }
+{
+    call_into(
+        Way::Out,
         letters,
         k,
         mirror,

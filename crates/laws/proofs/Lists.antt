@@ -1,11 +1,11 @@
--- One number and a part of a list that is mapped, and one number of a list that is read backwards.
-use mathlib.Core.Path.{_≡_, refl, ap, _∙_}
+-- One number and a part of a list that is mapped, one number of a list that is read backwards, and the first numbers of a list that may have fewer.
+use mathlib.Core.Path.{_≡_, refl, sym, ap, _∙_}
 use mathlib.Core.List.{List, [], _∷_, _++_, map, reverse, reverse-cons}
-use Prim.Native.Nat.{ℕ, zero, suc, _-_, _<_}
-use native.Mathlib.Decide.{decLt}
+use Prim.Native.Nat.{ℕ, zero, suc, _-_, _<_, min}
+use native.Mathlib.Decide.{decLt, decLe}
 use native.Mathlib.Omega.{arith}
 use lib.ListN.{length, getD, take, drop, length-reverse, List·getD-append}
-use lib.Seq.{getD-at}
+use lib.Seq.{getD-at, take-all, length-take-le}
 
 -- Of a list that is mapped. (The library's law has the map of the default where there is no such number.)
 pub getD-map-in : (f : ℕ → ℕ) (l : List ℕ) (i : ℕ) → i < length l → getD (map f l) i 0 ≡ f (getD l i 0)
@@ -38,3 +38,14 @@ getD-reverse (a ∷ l) i h =
           let e : length (a ∷ l) - 1 - i ≡ 0 = omega arith in
           getD-at (reverse l) a [] 0 i (length-reverse l ∙ omega arith) ∙ rw e
     ]
+
+-- The first n elements, where there may be fewer, and how many these are.
+pub take-min : {A : Type 0} (n : ℕ) (l : List A) → take (min n (length l)) l ≡ take n l
+take-min n l =
+    elim (decLe n (length l)) as (λ _. take (min n (length l)) l ≡ take n l) [
+      | yes h ↦ ap (λ (i : ℕ). take i l) (let e : min n (length l) ≡ n = omega arith in e)
+      | no h ↦ take-all (min n (length l)) l (omega arith) ∙ sym (take-all n l (omega arith))
+    ]
+
+pub length-take : {A : Type 0} (n : ℕ) (l : List A) → length (take n l) ≡ min n (length l)
+length-take n l = ap length (sym (take-min n l)) ∙ length-take-le (min n (length l)) l (omega arith)

@@ -15,7 +15,7 @@ use Rattle.fasta.specs.Items.{recordsIn, lettersIn, oneIfForeign, foreignIn, ma
 use Rattle.fasta.specs.File.{isLetter, lfNext, lineItem, item, next, itemsFrom, faultFrom}
 use Rattle.fastq.specs.Fastq.{isThere, unlessAt, firstFailing, isQuality, recordFault, fastqFault}
 use Rattle.files.specs.Scan.{tooLong}
-use Rattle.tally.specs.Table.{windowsOfFile, bump, bumps, full, tooMany, readyGround, addGround}
+use Rattle.tally.specs.Table.{windowsOfFile, change, changes, oneMore, full, tooMany, readyGround, callGround}
 use Rattle.tally.specs.Demand.{sum}
 use Rattle.texts.specs.Decimals.{decimalFrom, decimal}
 use Rattle.survey.specs.Grammar.{spelt}
@@ -28,9 +28,9 @@ use Rattle.program.specs.Program.{fileLine, refusedLine, clearedTable, s
 unfoldable outputOf : String → List ℕ
 unfolding programText lineText kindByFirstByte surveyText refusedLine fileLine clearedTable listingOf surveyLine countLines countLine totalLine sum decimal decimalFrom
     wordBytes inCapitals wordOf wordOfPlain pairOfRank middleOfCode mirrorRank
-    addGround readyGround settingsGround goodLetters differentCapitals isCapital isIn
+    callGround readyGround settingsGround goodLetters differentCapitals isCapital isIn
     isOdd halfUp classes badSize tooLong tooMany faultFrom itemsFrom item next lineItem isLetter lfNext
-    recordsIn lettersIn foreignIn oneIfForeign marks runs onFirst windowsOf windows edgesOf edge placeFrom capitalOf readsUAsT readAs windowsOfFile full bump bumps
+    recordsIn lettersIn foreignIn oneIfForeign marks runs onFirst windowsOf windows edgesOf edge placeFrom capitalOf readsUAsT readAs windowsOfFile full change changes oneMore
     code codeOfCanonical canonical plain mirror digits pairRank differingPair shift oddShift
     reading.readLine reading.lineFrom reading.headOf reading.took reading.lineEnd reading.endAfter reading.nextForm reading.formAt
     reading.formFrom reading.formOf reading.numberOf reading.mirrorNumber reading.sized reading.valueByte reading.stretch

@@ -8,15 +8,15 @@ use lib.ListN.{length, length-append}
 use lib.Dec.{eqb}
 use Rattle.laws.specs.Text as text
 use Rattle.lines.proofs.Mapped.{first-mapped}
-use Rattle.settings.specs.Settings.{readsUAsT}
+use Rattle.settings.specs.Settings.{rankIn, readsUAsT}
 use Rattle.settings.specs.Copies.{tForU, CopyWithT}
 use Rattle.settings.proofs.Copies.{same-at, same-of-copies, same-length}
-use Rattle.settings.specs.Grounds.{Outcome, given, refused}
+use Rattle.settings.specs.Grounds.{Outcome, given, refused, outcome}
 use Rattle.fasta.specs.declared.Numbers.{Numbers}
-use Rattle.files.specs.File.{File}
+use Rattle.files.specs.File.{File, fileNumbers}
 use Rattle.files.specs.Copies.{FileCopy}
 use Rattle.files.proofs.Copies.{same-file-fault, same-file-numbers}
-use Rattle.tally.specs.Table.{tableFull, addGround, addAnswer}
+use Rattle.tally.specs.Table.{callGround, add, tableGround}
 use Rattle.tally.proofs.Copies.{same-windows-of-file, same-ready-ground}
 use Rattle.survey.specs.Grammar.{LineEnd, SurveyInput}
 use Rattle.survey.specs.Grammar.LineEnd.{lf, crlf, with-the-input}
@@ -43,11 +43,11 @@ module _ (letters : List ℕ) (reads : readsUAsT letters ≡ true) (k m : ℕ) w
 
   same-survey-text : {bytes copy : List ℕ} → CopyWithT bytes copy
       → surveyText letters k m (programFile bytes) ≡ surveyText letters k m (programFile copy)
-  unfolding surveyText addGround
+  unfolding surveyText callGround
   same-survey-text {bytes} C =
       let D = file-copy C in
-      same-answer-text D (addAnswer letters k m 16384 (tableFull letters k m clearedTable (programFile bytes)) (programFile bytes))
-      ∙ rw (same-windows-of-file letters k D reads, same-ready-ground letters k D m 16384, same-file-fault D, same-file-numbers D letters reads k)
+      same-answer-text D (outcome (tableGround letters k m clearedTable (add (programFile bytes))) (fileNumbers (rankIn letters) k (programFile bytes)))
+      ∙ rw (same-windows-of-file letters k D reads, same-ready-ground letters k D m (length clearedTable), same-file-fault D, same-file-numbers D letters reads k)
 
 -- ---- the whole input
 

@@ -11,9 +11,10 @@ use Rattle.settings.specs.Settings.{rankIn, settingsGround, settingsOf}
 use Rattle.settings.proofs.Outcomes.{passed, refused-on, first-none}
 use Rattle.fasta.specs.declared.Numbers.{Numbers}
 use Rattle.files.specs.File.{File, fileNumbers}
-use Rattle.tally.specs.Table.{classCount, places, bumps, tableFull, readyGround, tableGround, addGround, addAnswer, Added}
-use Rattle.table.proofs.CallGrounds.{ready-bad, ready-settings, ready-room}
-use Rattle.tally.proofs.Bumps.{length-bumps}
+use Rattle.tally.specs.Table.{classCount, places, oneMore, readyGround, tableGround, callGround, add, tableAfter, Added}
+use Rattle.table.proofs.CallGrounds.{ready-bad}
+use Rattle.tally.proofs.Ready.{ready-settings, ready-room}
+use Rattle.tally.proofs.Changes.{length-changes}
 use Rattle.texts.proofs.Decimals.{decimal-length}
 use Rattle.texts.specs.Needs.{Puts}
 use Rattle.texts.proofs.Writing.{measured, then}
@@ -62,21 +63,18 @@ length-cleared = length-replicate {A = ℕ} 16384 0
 
 module _ (letters : List ℕ) (k m : ℕ) (file : File) where
   pub settings-text : (f : Ground) → refused f ≡ outcome (settingsGround letters k m) (settingsOf letters k m) → surveyText letters k m file ≡ refusedLine f
-  unfolding surveyText addGround
+  unfolding surveyText callGround
   settings-text f e =
       ap (answerText letters k m file)
-      (sym (refused-on f (settingsOf letters k m) (fileNumbers (rankIn letters) k file) (readyGround letters k m 16384 (file .bytes)) _
-      (ready-bad letters k m 16384 (file .bytes) f e)))
+      (sym (refused-on f (settingsOf letters k m) (fileNumbers (rankIn letters) k file) (readyGround letters k m (length clearedTable) (file .bytes)) _
+      (ready-bad letters k m (length clearedTable) (file .bytes) f e)))
 
   answered-text : {t t′ : List ℕ} {answer : Outcome Numbers} → t ≡ clearedTable → Added letters k m t file answer t′
       → surveyText letters k m file ≡ answerText letters k m file answer
   unfolding surveyText
   answered-text {t} cleared A =
-      let e :
-      addAnswer letters k m (length t) (tableFull letters k m t file) file
-      ≡ addAnswer letters k m 16384 (tableFull letters k m clearedTable file) file =
-      rw (cleared, length-cleared) in
-      ap (answerText letters k m file) (sym (A .answers ∙ e))
+      let same = ap (λ (x : List ℕ). outcome (tableGround letters k m x (add file)) (fileNumbers (rankIn letters) k file)) cleared in
+      ap (answerText letters k m file) (sym (A .answers ∙ same))
 
   pub refused-text : {t t′ : List ℕ} {answer : Outcome Numbers} (f : Ground) → answer ≡ refused f → t ≡ clearedTable → Added letters k m t file answer t′
       → surveyText letters k m file ≡ refusedLine f
@@ -84,7 +82,7 @@ module _ (letters : List ℕ) (k m : ℕ) (file : File) where
 
   -- A file that is taken in leaves the counts of all classes, q of them, in the table, which has room for them.
   pub record TakenIn (q : ℕ) (t′ : List ℕ) : Type 0 where
-    pub grown : t′ ≡ bumps clearedTable (places letters k m file)
+    pub grown : t′ ≡ tableAfter letters k m clearedTable (add file)
     pub long : q ≤ length t′
     pub all : AllCounts letters k m (take q t′)
     pub few : q ≤ 16384
@@ -92,14 +90,14 @@ module _ (letters : List ℕ) (k m : ℕ) (file : File) where
   module _ {q : ℕ} (q-is : q ≡ classCount letters k m) {t t′ : List ℕ} {answer : Outcome Numbers} (n : Numbers) (e : answer ≡ given n)
       (cleared : t ≡ clearedTable) (A : Added letters k m t file answer t′) where
     pub taken-in : TakenIn q t′
-    unfolding addGround
+    unfolding callGround
     taken-in =
-        let no-ground = passed (fileNumbers (rankIn letters) k file) (tableGround letters k m t file) (sym e ∙ A .answers) .none-applies in
+        let no-ground = passed (fileNumbers (rankIn letters) k file) (tableGround letters k m t (add file)) (sym e ∙ A .answers) .none-applies in
         let ready = first-none (readyGround letters k m (length t) (file .bytes)) _ no-ground in
         let good = ready-settings letters k m (length t) (file .bytes) ready in
         let room = ready-room letters k m (length t) (file .bytes) ready in
-        let grown : t′ ≡ bumps clearedTable (places letters k m file) = A .leaves ∙ (rw (no-ground, cleared)) in
-        let same : length t′ ≡ 16384 = ap length grown ∙ length-bumps (places letters k m file) clearedTable ∙ length-cleared in
+        let grown : t′ ≡ tableAfter letters k m clearedTable (add file) = A .leaves ∙ (rw (no-ground, cleared)) in
+        let same : length t′ ≡ 16384 = ap length grown ∙ length-changes oneMore (places letters k m file) clearedTable ∙ length-cleared in
         let few : q ≤ 16384 = omega (arith, room, q-is, ap length cleared, length-cleared) in
         let long : q ≤ length t′ = omega arith in
         record { grown = grown; long = long; all = all-counts letters k m q t′ good q-is (omega arith) long; few = few }

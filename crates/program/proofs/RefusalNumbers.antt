@@ -1,7 +1,7 @@
 -- The program never prints refusal 3: "Refusal 3 then never occurs" (document 02, K10). From the numbers of an add's refusals, by a test that the line of
 -- refusal 3 passes and no output of the program does.
 use mathlib.Core.Path.{_≡_, refl, sym, ap, _∙_, subst}
-use mathlib.Core.Bool.{Bool, true, false, _&&_, false≢true}
+use mathlib.Core.Bool.{Bool, false, _&&_, false≢true}
 use mathlib.Core.Option.{Option, none, some}
 use mathlib.Core.List.{List, [], _∷_}
 use Prim.Native.Nat.{ℕ}
@@ -11,14 +11,14 @@ use lib.Dec.{eqb, ltb}
 use lib.ListN.{length, getD, take, drop}
 use Rattle.laws.specs.Each.{Each}
 use Rattle.laws.proofs.Tests.{by-test}
-use Rattle.settings.specs.Grounds.{Ground, outcome}
+use Rattle.settings.specs.Grounds.{Ground, ground, outcome}
 use Rattle.settings.specs.Settings.{isIn, rankIn, RefusedOnlyBy}
 use Rattle.settings.proofs.FirstGround.{NumberIn}
 use Rattle.files.specs.File.{File, fileNumbers}
 use Rattle.files.specs.declared.Kind.{Kind}
 use Rattle.files.specs.declared.Kind.the-variants.{Fasta, Fastq}
-use Rattle.tally.specs.Table.{tableFull, addGround}
-use Rattle.tally.proofs.RefusalNumbers.{addNumbers, add-numbers}
+use Rattle.tally.specs.Table.{tableFull, callGround}
+use Rattle.tally.proofs.RefusalNumbers.{callNumbers, call-numbers}
 use Rattle.texts.specs.Decimals.{decimalFrom, decimal}
 use Rattle.survey.specs.declared.Head.{Head}
 use Rattle.survey.specs.declared.Head.the-variants.{Survey, NoSurvey}
@@ -44,24 +44,24 @@ no-three (n ∷ ns) each g h =
       | no ne ↦ no-three ns (each .1) g (rw (ne-eqb n (g .0) ne) at h)
     ]
 
-of-an-add : (kind : Kind) → NoThree (addNumbers kind)
+of-an-add : (kind : Kind) → NoThree (callNumbers 12 kind)
 unfolding three refusedLine decimal decimalFrom
 of-an-add Fasta = (λ _. refl, (λ _. refl, (λ _. refl, (λ _. refl, (λ _. refl, (λ _. refl, (λ _. refl, (λ _. refl, tt))))))))
 of-an-add Fastq =
     (λ _. refl, (λ _. refl, (λ _. refl, (λ _. refl, (λ _. refl, (λ _. refl, (λ _. refl, (λ _. refl, (λ _. refl, (λ _. refl, tt))))))))))
 
 module _ (letters : List ℕ) (k m : ℕ) (file : File) where
-  answered : (g : Option Ground) → RefusedOnlyBy (addNumbers (file .kind)) g
+  answered : (g : Option Ground) → RefusedOnlyBy (callNumbers 12 (file .kind)) g
       → three (answerText letters k m file (outcome g (fileNumbers (rankIn letters) k file))) ≡ false
   unfolding three listingOf surveyLine
   answered none h = refl
-  answered (some g) h = no-three (addNumbers (file .kind)) (of-an-add (file .kind)) g (h g refl)
+  answered (some g) h = no-three (callNumbers 12 (file .kind)) (of-an-add (file .kind)) g (h g refl)
 
   of-a-survey : three (surveyText letters k m file) ≡ false
   unfolding surveyText
   of-a-survey =
       let full = tableFull letters k m clearedTable file in
-      answered (addGround letters k m 16384 full file) (add-numbers letters k m 16384 full file)
+      answered (callGround letters k m (length clearedTable) file (ground 12 full)) (call-numbers letters k m (length clearedTable) file 12 full)
 
 of-a-line : (input : List ℕ) (h : Head) → three (lineText input h) ≡ false
 unfolding three lineText refusedLine decimal decimalFrom

@@ -7,13 +7,14 @@ use lib.ListN.{length, take, drop, replicate}
 use lib.Dec.{ltb}
 use lib.Seq.{sets}
 use Rattle.laws.specs.Text.{bytes}
-use Rattle.settings.specs.Grounds.{Ground, Outcome, given, refused}
+use Rattle.settings.specs.Grounds.{Ground, Outcome, given, refused, outcome}
+use Rattle.settings.specs.Settings.{rankIn}
 use Rattle.lines.specs.Lines.{firstByteIs}
 use Rattle.fasta.specs.declared.Numbers.{Numbers}
 use Rattle.files.specs.declared.Kind.{Kind}
 use Rattle.files.specs.declared.Kind.the-variants.{Fasta, Fastq}
-use Rattle.files.specs.File.{File, fileOf}
-use Rattle.tally.specs.Table.{places, bumps, tableFull, addAnswer}
+use Rattle.files.specs.File.{File, fileOf, fileNumbers}
+use Rattle.tally.specs.Table.{add, tableGround, tableAfter}
 use Rattle.texts.specs.Decimals.{decimal}
 use Rattle.survey.specs.declared.Head.{Head}
 use Rattle.survey.specs.declared.Head.the-variants.{Survey, NoSurvey}
@@ -36,12 +37,13 @@ clearedTable = replicate 16384 0
 
 -- It "prints the whole listing, then the file line", of the table that the add of the file leaves; or the refusal.
 abbrev pub answerText : (letters : List ℕ) (k mirror : ℕ) (file : File) → Outcome Numbers → List ℕ
-answerText letters k m file (given n) = listing letters k m (bumps clearedTable (places letters k m file)) ++ fileLine n
+answerText letters k m file (given n) = listing letters k m (tableAfter letters k m clearedTable (add file)) ++ fileLine n
 answerText letters k m file (refused g) = refusedLine g
 
 -- What is printed for settings and a file: the add to a cleared table of 16,384 places answers it.
 unfoldable pub surveyText : (letters : List ℕ) (k mirror : ℕ) (file : File) → List ℕ
-surveyText letters k m file = answerText letters k m file (addAnswer letters k m 16384 (tableFull letters k m clearedTable file) file)
+surveyText letters k m file =
+    answerText letters k m file (outcome (tableGround letters k m clearedTable (add file)) (fileNumbers (rankIn letters) k file))
 
 -- "the program takes a file whose first byte is @ for FASTQ" (64 is @), and any other, an empty one too, for FASTA.
 unfoldable pub kindByFirstByte : (bytes : List ℕ) → Kind

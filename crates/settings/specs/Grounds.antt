@@ -9,7 +9,7 @@ use lib.Dec.{ltb}
 use Rattle.settings.specs.declared.Filling.{Filling}
 use Rattle.settings.specs.declared.Filling.the-variants.{Filled, Unfilled}
 use Rattle.settings.specs.declared.Refusal.{Refusal}
-use Rattle.settings.specs.declared.Refusal.the-variants.{BadLetters, BadMirror, BadK, WrongLength, TooLarge, ShortBuffer, NoSuchCode, ForeignByte, StrayByte, EarlyLetter, CountsFull, NoSurveyLine, LongInput, BadRecord, QualityLength, QualityByte}
+use Rattle.settings.specs.declared.Refusal.the-variants.{BadLetters, BadMirror, BadK, WrongLength, TooLarge, ShortBuffer, NoSuchCode, ForeignByte, StrayByte, EarlyLetter, CountsFull, NoSurveyLine, LongInput, BadRecord, QualityLength, QualityByte, CountsLacking}
 
 -- "Each .. gives its number and P": the number, then P.
 abbrev pub Ground : Type 0
@@ -34,6 +34,7 @@ groundOf LongInput = (14, 0)
 groundOf (BadRecord offset) = (15, offset)
 groundOf (QualityLength offset) = (16, offset)
 groundOf (QualityByte offset) = (17, offset)
+groundOf CountsLacking = (18, 0)
 
 -- What a call answers: its value, or the ground for refusing it.
 pub data Outcome (A : Type 0) : Type 0 where

@@ -13,7 +13,7 @@ pub enum Mirror {
     Complement,
 }
 
-// The grounds for refusing, in the order of their numbers 1 to 17, of which 3 is reserved. One that has a P other than 0 holds it.
+// The grounds for refusing, in the order of their numbers 1 to 18, of which 3 is reserved. One that has a P other than 0 holds it.
 pub enum Refusal {
     BadLetters,
     BadMirror,
@@ -31,6 +31,7 @@ pub enum Refusal {
     BadRecord(usize),
     QualityLength(usize),
     QualityByte(usize),
+    CountsLacking,
 }
 
 // The answer of a call that overwrites a lent buffer from its start: how many places it set, or the refusal, which leaves the buffer unchanged.
@@ -60,6 +61,7 @@ pub fn number_of(f: Refusal) -> u64
         Refusal::BadRecord(_) => 15,
         Refusal::QualityLength(_) => 16,
         Refusal::QualityByte(_) => 17,
+        Refusal::CountsLacking => 18,
     }
 }
 
@@ -84,6 +86,7 @@ pub fn place_of(f: Refusal) -> u64
         Refusal::BadRecord(at) => at as u64,
         Refusal::QualityLength(at) => at as u64,
         Refusal::QualityByte(at) => at as u64,
+        Refusal::CountsLacking => 0,
     }
 }
 

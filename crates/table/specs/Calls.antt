@@ -1,4 +1,4 @@
--- What a clearing with two adds after it promises.
+-- Which call a way names, and what a clearing with two adds after it promises.
 use mathlib.Core.Path.{_≡_}
 use mathlib.Core.Option.{none}
 use mathlib.Core.List.{List, [], _∷_}
@@ -9,8 +9,15 @@ use Rattle.fasta.specs.declared.Numbers.{Numbers}
 use Rattle.fasta.specs.Scan.{ofAnswer}
 use Rattle.files.specs.File.{File}
 use Rattle.table.specs.declared.Survey.{Survey}
-use Rattle.tally.specs.Table.{clearGround, Clears}
-use Rattle.tally.specs.Demand.{Adds, DemandThree}
+use Rattle.counting.specs.declared.Way.{Way}
+use Rattle.counting.specs.declared.Way.the-variants.{In, Out}
+use Rattle.tally.specs.Table.{clearGround, Clears, Call, add, withdraw}
+use Rattle.tally.specs.Demand.{TableCalls, DemandThree}
+
+-- The add or the withdrawal of a file.
+abbrev pub callOf : Way → File → Call
+callOf In file = add file
+callOf Out file = withdraw file
 
 -- The answers of two adds.
 abbrev pub twoAnswers : Survey → List (Outcome Numbers)
@@ -20,5 +27,5 @@ twoAnswers r = ofAnswer (r .first) ∷ ofAnswer (r .second) ∷ []
 pub record Surveyed (letters : List ℕ) (k mirror : ℕ) (t₀ : List ℕ) (one other : File) (r : Survey) (t : List ℕ) : Type 0 where
   pub cleared-table : List ℕ
   pub clearing : Clears letters k mirror t₀ (ofFilling (r .cleared)) cleared-table
-  pub adds : Adds letters k mirror cleared-table (one ∷ other ∷ []) (twoAnswers r) t
-  pub demand-three : clearGround letters k mirror (length t₀) ≡ none → DemandThree letters k mirror t₀ (one ∷ other ∷ []) (twoAnswers r) t
+  pub adds : TableCalls letters k mirror cleared-table (add one ∷ add other ∷ []) (twoAnswers r) t
+  pub demand-three : clearGround letters k mirror (length t₀) ≡ none → DemandThree letters k mirror t₀ (add one ∷ add other ∷ []) (twoAnswers r) t

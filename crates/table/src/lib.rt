@@ -1,5 +1,6 @@
-// The table of counts, one place a class: clearing it, and adding files to it. What holds of a list of adds, demand 3, is stated in
-// the crate tally (specs/Demand.antt); `survey_two` has it in its contract.
+// The table of counts, one place a class: clearing it, adding files to it and withdrawing them. What holds of a list of such calls, demand 3, is
+// stated in the crate tally (specs/Demand.antt); `survey_two` has it in its contract.
+use counting::Way;
 use counting::batches;
 use counting::counts;
 use fasta::Answer;
@@ -18,14 +19,14 @@ ghost use Prim.Native.Nat.{_≤_};
 ghost use lib.ListN.{length};
 ghost use Rattle.settings.specs.Grounds.{outcome, ofFilling};
 ghost use Rattle.settings.specs.Settings.{classes, settingsGround, settingsOf, ofChecked};
-ghost use Rattle.files.specs.File.{fileOf, fileWindows};
+ghost use Rattle.files.specs.File.{fileOf};
 ghost use Rattle.fasta.specs.Scan.{ofAnswer};
-ghost use Rattle.settings.specs.RankTables.{rankByTable, RankTable, RanksBelow};
+ghost use Rattle.settings.specs.RankTables.{RankTable, RanksBelow};
 ghost use Rattle.kernels.specs.Needs.{Takes, ReadyCoder};
-ghost use Rattle.tally.specs.Table.{classCount, readyGround, Added, Clears};
-ghost use Rattle.table.specs.Calls.{Surveyed};
-ghost use Rattle.counting.specs.Needs.{codesBy};
-ghost use Rattle.table.specs.Needs.{CountedUnlessFull, AddedUnlessFull, CleanFile, ClearsPlaces};
+ghost use Rattle.tally.specs.Table.{classCount, readyGround, Called, Added, Withdrawn, Clears};
+ghost use Rattle.counting.specs.declared.Way.the-variants.{In, Out};
+ghost use Rattle.table.specs.Calls.{callOf, Surveyed};
+ghost use Rattle.table.specs.Needs.{codesOf, ChangedUnlessRefused, CalledUnlessRefused, CleanFile, ClearsPlaces};
 
 // The answers of a clearing and of two adds after it.
 pub struct Survey {
@@ -73,7 +74,7 @@ fn kernel_for(s: u64, m: Mirror) -> Kernel
     }
 }
 
-// The second pass over a file, in the counts alone: all its windows are counted, or none where some count is too high for them.
+// The second pass over a file that is added, in the counts alone: all its windows are counted, or none where some count is too high for them.
 fn count_unless_full(
     counts: &mut [u32],
     kind: Kind,
@@ -87,16 +88,15 @@ fn count_unless_full(
     requires { ⌜ ReadyCoder c (now powers) (now mirrors) ⌝ }
     requires { ⌜ RanksBelow (c .s) (now ranks) ⌝ }
     requires { ⌜ length (now counts) ≡ classes (c .s) (c .mirror) (c .k) ⌝ }
-    requires { ⌜ n .windows ≡ length (fileWindows (rankByTable (now ranks)) (c .k) (fileOf kind (now file))) ⌝ }
+    requires { ⌜ n .windows ≡ length (codesOf c (now ranks) (fileOf kind (now file))) ⌝ }
     requires { ⌜ _≤_ (n .windows) 16777216 ⌝ }
     ensures { λ r.
-        ⌜ CountedUnlessFull n (codesBy c (fileWindows (rankByTable (now (ranks .entry))) (c .k) (fileOf kind (now (file .entry)))))
-        (now (counts .entry)) (ofAnswer r) (now (counts .exit)) ⌝ }
+        ⌜ ChangedUnlessRefused In n (codesOf c (now (ranks .entry)) (fileOf kind (now (file .entry)))) (now (counts .entry)) (ofAnswer r) (now (counts .exit)) ⌝ }
 {
     if counts::too_full(counts, n.windows) {
         return Answer::Refused(Refusal::CountsFull);
     }
-    batches::count_file(
+    batches::change_file(
         counts,
         file,
         files::start_of(kind),
@@ -104,12 +104,66 @@ fn count_unless_full(
         c,
         powers,
         mirrors,
+        Way::In,
+        n.windows,
     );
     Answer::Taken(n)
 }
 
-// An add of a file that was scanned without fault, to a table that is long enough.
-fn add_scanned(
+// The second pass over a file that is withdrawn: all its windows are taken away, or none where some count is too low for them.
+fn take_unless_lacking(
+    counts: &mut [u32],
+    kind: Kind,
+    file: &[u8],
+    ranks: &[u8; 256],
+    c: Coder,
+    powers: &[u64; 64],
+    mirrors: &[u8; 256],
+    n: Numbers,
+) -> Answer
+    requires { ⌜ ReadyCoder c (now powers) (now mirrors) ⌝ }
+    requires { ⌜ RanksBelow (c .s) (now ranks) ⌝ }
+    requires { ⌜ length (now counts) ≡ classes (c .s) (c .mirror) (c .k) ⌝ }
+    requires { ⌜ n .windows ≡ length (codesOf c (now ranks) (fileOf kind (now file))) ⌝ }
+    ensures { λ r.
+        ⌜ ChangedUnlessRefused Out n (codesOf c (now (ranks .entry)) (fileOf kind (now (file .entry)))) (now (counts .entry)) (ofAnswer r) (now (counts .exit)) ⌝ }
+{
+    let start = files::start_of(kind);
+    if batches::take_file(counts, file, start, ranks, c, powers, mirrors, n.windows) {
+        return Answer::Refused(Refusal::CountsLacking);
+    }
+    Answer::Taken(n)
+}
+
+// The second pass over a file, by the call's way.
+fn change_counts(
+    way: Way,
+    counts: &mut [u32],
+    kind: Kind,
+    file: &[u8],
+    ranks: &[u8; 256],
+    c: Coder,
+    powers: &[u64; 64],
+    mirrors: &[u8; 256],
+    n: Numbers,
+) -> Answer
+    requires { ⌜ ReadyCoder c (now powers) (now mirrors) ⌝ }
+    requires { ⌜ RanksBelow (c .s) (now ranks) ⌝ }
+    requires { ⌜ length (now counts) ≡ classes (c .s) (c .mirror) (c .k) ⌝ }
+    requires { ⌜ n .windows ≡ length (codesOf c (now ranks) (fileOf kind (now file))) ⌝ }
+    requires { ⌜ _≤_ (n .windows) 16777216 ⌝ }
+    ensures { λ r.
+        ⌜ ChangedUnlessRefused way n (codesOf c (now (ranks .entry)) (fileOf kind (now (file .entry)))) (now (counts .entry)) (ofAnswer r) (now (counts .exit)) ⌝ }
+{
+    match way {
+        Way::In => count_unless_full(counts, kind, file, ranks, c, powers, mirrors, n),
+        Way::Out => take_unless_lacking(counts, kind, file, ranks, c, powers, mirrors, n),
+    }
+}
+
+// A call with a file that was scanned without fault, on a table that is long enough.
+fn call_scanned(
+    way: Way,
     letters: &[u8],
     k: usize,
     mirror: u64,
@@ -125,7 +179,8 @@ fn add_scanned(
     requires { ⌜ RankTable (now letters) (now ranks) ⌝ }
     requires { ⌜ CleanFile (now letters) k (fileOf kind (now file)) n ⌝ }
     requires { ⌜ classCount (now letters) k mirror ≤ length (now table) ⌝ }
-    ensures { λ r. ⌜ AddedUnlessFull (now (letters .entry)) k mirror (now (table .entry)) (fileOf kind (now (file .entry))) (ofAnswer r) (now (table .exit)) ⌝ }
+    ensures { λ r.
+        ⌜ CalledUnlessRefused (now (letters .entry)) k mirror (now (table .entry)) (callOf way (fileOf kind (now (file .entry)))) (ofAnswer r) (now (table .exit)) ⌝ }
 {
     let m = st.mirror;
     let kernel = kernel_for(st.s, m);
@@ -133,7 +188,8 @@ fn add_scanned(
     let mirrors = packed::mirror_table();
     let classes = st.classes as usize;
     let c = kernels::coder_of(st, kernel);
-    count_unless_full(
+    change_counts(
+        way,
         &mut table[..classes],
         kind,
         file,
@@ -145,7 +201,7 @@ fn add_scanned(
     )
 }
 
-// Whether a file may be read for an add: the settings, where no ground among 1, 2, 4, 6 and 7 applies.
+// Whether a file may be read for an add or a withdrawal: the settings, where no ground among 1, 2, 4, 6 and 7 applies.
 pub fn ready(letters: &[u8], k: usize, mirror: u64, room: usize, file: &[u8]) -> Checked
     ensures { λ r.
         ⌜ ofChecked r ≡ outcome (readyGround (now (letters .entry)) k mirror room (now (file .entry))) (settingsOf (now (letters .entry)) k mirror) ⌝ }
@@ -168,8 +224,9 @@ pub fn ready(letters: &[u8], k: usize, mirror: u64, room: usize, file: &[u8]) ->
     }
 }
 
-// An add whose file may be read. The file is read to its end before the table is touched.
-fn add_checked(
+// A call whose file may be read. The file is read to its end before the table is touched.
+fn call_checked(
+    way: Way,
     letters: &[u8],
     k: usize,
     mirror: u64,
@@ -180,12 +237,34 @@ fn add_checked(
 ) -> Answer
     requires { ⌜ readyGround (now letters) k mirror (length (now table)) (now file) ≡ none ⌝ }
     requires { ⌜ st ≡ settingsOf (now letters) k mirror ⌝ }
-    ensures { λ r. ⌜ Added (now (letters .entry)) k mirror (now (table .entry)) (fileOf kind (now (file .entry))) (ofAnswer r) (now (table .exit)) ⌝ }
+    ensures { λ r.
+        ⌜ Called (now (letters .entry)) k mirror (now (table .entry)) (callOf way (fileOf kind (now (file .entry)))) (ofAnswer r) (now (table .exit)) ⌝ }
 {
     let ranks = settings::rank_table(letters);
     match files::scan_file(kind, file, &ranks, k) {
         Answer::Refused(f) => Answer::Refused(f),
-        Answer::Taken(n) => add_scanned(letters, k, mirror, table, kind, file, st, &ranks, n),
+        Answer::Taken(n) => {
+            call_scanned(way, letters, k, mirror, table, kind, file, st, &ranks, n)
+        }
+    }
+}
+
+// An add or a withdrawal of a file, by the way.
+pub fn call(
+    way: Way,
+    letters: &[u8],
+    k: usize,
+    mirror: u64,
+    table: &mut [u32],
+    kind: Kind,
+    file: &[u8],
+) -> Answer
+    ensures { λ r.
+        ⌜ Called (now (letters .entry)) k mirror (now (table .entry)) (callOf way (fileOf kind (now (file .entry)))) (ofAnswer r) (now (table .exit)) ⌝ }
+{
+    match ready(letters, k, mirror, table.len(), file) {
+        Checked::Bad(f) => Answer::Refused(f),
+        Checked::Good(st) => call_checked(way, letters, k, mirror, table, kind, file, st),
     }
 }
 
@@ -200,10 +279,22 @@ pub fn add(
 ) -> Answer
     ensures { λ r. ⌜ Added (now (letters .entry)) k mirror (now (table .entry)) (fileOf kind (now (file .entry))) (ofAnswer r) (now (table .exit)) ⌝ }
 {
-    match ready(letters, k, mirror, table.len(), file) {
-        Checked::Bad(f) => Answer::Refused(f),
-        Checked::Good(st) => add_checked(letters, k, mirror, table, kind, file, st),
-    }
+    call(Way::In, letters, k, mirror, table, kind, file)
+}
+
+// Takes 1 from its class for each window of a file, or refuses the file on the grounds 1, 2, 4, 6, 7, those of its kind or 18, and leaves every count as it
+// was.
+pub fn withdraw(
+    letters: &[u8],
+    k: usize,
+    mirror: u64,
+    table: &mut [u32],
+    kind: Kind,
+    file: &[u8],
+) -> Answer
+    ensures { λ r. ⌜ Withdrawn (now (letters .entry)) k mirror (now (table .entry)) (fileOf kind (now (file .entry))) (ofAnswer r) (now (table .exit)) ⌝ }
+{
+    call(Way::Out, letters, k, mirror, table, kind, file)
 }
 
 // Clears the table and adds two files, each of its kind, one after the other. No program calls it: it is here so that demand 3, a claim about a list of calls,

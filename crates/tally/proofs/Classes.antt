@@ -22,7 +22,7 @@ use Rattle.laws.specs.Each.{Each}
 use Rattle.laws.proofs.Tests.{bool-ext}
 use Rattle.tally.specs.Needs.{Below}
 use Rattle.laws.proofs.Each.{each-map}
-use Rattle.tally.proofs.Bumps.{occurrences}
+use Rattle.tally.specs.Table.{occurrences}
 use Rattle.tally.proofs.WordLists.{class-same, same-class}
 use Rattle.tally.proofs.FileWords.{windows-are-words}
 

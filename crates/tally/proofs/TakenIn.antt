@@ -1,26 +1,26 @@
--- The files that a list of adds takes in: their windows, their letters, and the tallies that they leave in a book. From the definitions in
--- specs/Book.antt and specs/Demand.antt, and from what is known of the windows (FileWords) and the letters (`letters-are`) of one file.
-use mathlib.Core.Path.{_≡_, refl, _∙_}
+-- The files that a list of calls takes in and those that it takes out: their windows and their letters. From the definitions in specs/Demand.antt, and
+-- from what is known of the windows (FileWords) and the letters (`letters-are`) of one file.
+use mathlib.Core.Path.{_≡_}
 use Prim.Native.Nat.{ℕ, _+_, _≤_}
 use native.Mathlib.Omega.{arith}
-use mathlib.Core.Option.{Option, none, some}
 use mathlib.Core.List.{List, [], _∷_, _++_}
 use lib.ListN.{length, length-append}
-use Rattle.settings.specs.Grounds.{Ground, Outcome, given, refused, outcome}
-use Rattle.settings.specs.Settings.{rankIn, mirrorOf}
+use Rattle.settings.specs.Grounds.{Outcome, given, refused}
+use Rattle.settings.specs.Settings.{rankIn}
 use Rattle.encoding.specs.Words.{Mirror, IsWord}
 use Rattle.fasta.specs.declared.Numbers.{Numbers}
-use Rattle.files.specs.File.{File, items, fileNumbers, fileWindows}
+use Rattle.files.specs.File.{File, items, fileWindows}
 use Rattle.fasta.proofs.Runs.{letters-are}
-use Rattle.tally.specs.Table.{windowsOfFile}
-use Rattle.tally.specs.Book.{hits, Book, bookGround, bookAfter, bookAnswers, bookAfterAll}
-use Rattle.tally.specs.Demand.{takenIn, windowsOfFiles, addedUp, lettersOf, foreignOf, edgeOf}
+use Rattle.tally.specs.Table.{windowsOfFile, Call, add, withdraw, callFile}
+use Rattle.tally.specs.Book.{hits}
+use Rattle.tally.specs.Demand.{takenIn, takenOut, windowsOfFiles, addedUp, lettersOf, foreignOf, edgeOf}
 use Rattle.laws.specs.Each.{Each}
 use Rattle.laws.proofs.Each.{each-append}
 use Rattle.tally.proofs.FileWords.{windows-are-words}
-use Rattle.tally.proofs.Steps.{taken}
+use Rattle.tally.proofs.Steps.{into, outOf}
 
-hits-append : (s : ℕ) (m : Mirror) (w : List ℕ) (us vs : List (List ℕ)) → hits s m w (us ++ vs) ≡ hits s m w us + hits s m w vs
+-- Words of a class, added up.
+pub hits-append : (s : ℕ) (m : Mirror) (w : List ℕ) (us vs : List (List ℕ)) → hits s m w (us ++ vs) ≡ hits s m w us + hits s m w vs
 unfolding hits
 hits-append s m w [] vs = omega arith
 hits-append s m w (u ∷ us) vs = omega (arith, hits-append s m w us vs)
@@ -34,13 +34,23 @@ module _ (letters : List ℕ) (k : ℕ) where
       each-append (IsWord (length letters) k) (windowsOfFile letters k file) (windowsOfFiles letters k files)
       (windows-are-words letters k file) (all-windows-are-words files)
 
-  -- One call more takes in the windows of its file, or none.
-  pub taken-more : (answer : Outcome Numbers) (file : File) (files : List File) (answers : List (Outcome Numbers))
-      → length (windowsOfFiles letters k (takenIn (file ∷ files) (answer ∷ answers)))
-      ≡ taken answer (length (windowsOfFile letters k file)) + length (windowsOfFiles letters k (takenIn files answers))
-  unfolding takenIn windowsOfFiles
-  taken-more (given n) file files answers = length-append (windowsOfFile letters k file) (windowsOfFiles letters k (takenIn files answers))
-  taken-more (refused g) file files answers = omega arith
+  -- A number of lists of words that is added up over their parts: one call more takes in that of its file's windows, or takes it out, or neither.
+  module _ (number : List (List ℕ) → ℕ) (adds : (us vs : List (List ℕ)) → number (us ++ vs) ≡ number us + number vs) where
+    pub in-more : (c : Call) (answer : Outcome Numbers) (calls : List Call) (answers : List (Outcome Numbers))
+        → number (windowsOfFiles letters k (takenIn (c ∷ calls) (answer ∷ answers)))
+        ≡ into c answer (number (windowsOfFile letters k (callFile c))) + number (windowsOfFiles letters k (takenIn calls answers))
+    unfolding takenIn windowsOfFiles
+    in-more (add file) (given n) calls answers = adds (windowsOfFile letters k file) (windowsOfFiles letters k (takenIn calls answers))
+    in-more (add file) (refused g) calls answers = omega arith
+    in-more (withdraw file) answer calls answers = omega arith
+
+    pub out-more : (c : Call) (answer : Outcome Numbers) (calls : List Call) (answers : List (Outcome Numbers))
+        → number (windowsOfFiles letters k (takenOut (c ∷ calls) (answer ∷ answers)))
+        ≡ outOf c answer (number (windowsOfFile letters k (callFile c))) + number (windowsOfFiles letters k (takenOut calls answers))
+    unfolding takenOut windowsOfFiles
+    out-more (withdraw file) (given n) calls answers = adds (windowsOfFile letters k file) (windowsOfFiles letters k (takenOut calls answers))
+    out-more (withdraw file) (refused g) calls answers = omega arith
+    out-more (add file) answer calls answers = omega arith
 
   -- The windows of some files are as many as their letters less the foreign ones and the edge letters, each added up.
   pub added-up : (files : List File) → 1 ≤ k
@@ -50,26 +60,3 @@ module _ (letters : List ℕ) (k : ℕ) where
   added-up (file ∷ files) h =
       let both = length-append (fileWindows (rankIn letters) k file) (windowsOfFiles letters k files) in
       omega (arith, letters-are (rankIn letters) k (items file) h, added-up files h)
-
-  -- A tally is what it was, and the windows of the files taken in that are of its class.
-  pub tally-is-hits : (m : ℕ) (book : Book) (files : List File) (w : List ℕ)
-      → bookAfterAll letters k m book files w
-      ≡ book w + hits (length letters) (mirrorOf m) w (windowsOfFiles letters k (takenIn files (bookAnswers letters k m book files)))
-  unfolding bookAfterAll bookAnswers takenIn windowsOfFiles hits
-  tally-is-hits m book [] w = omega arith
-  tally-is-hits m book (file ∷ files) w = go (bookGround letters k m book file) refl (tally-is-hits m (bookAfter letters k m book file) files w)
-    where
-      after : Book
-      after = bookAfter letters k m book file
-
-      more : List File
-      more = takenIn files (bookAnswers letters k m after files)
-
-      go : (g : Option Ground) → bookGround letters k m book file ≡ g
-          → bookAfterAll letters k m after files w ≡ after w + hits (length letters) (mirrorOf m) w (windowsOfFiles letters k more)
-          → bookAfterAll letters k m after files w
-          ≡ book w
-          + hits (length letters) (mirrorOf m) w
-          (windowsOfFiles letters k (takenIn (file ∷ files) (outcome g (fileNumbers (rankIn letters) k file) ∷ bookAnswers letters k m after files)))
-      go none e ih = ih ∙ rw (e, hits-append (length letters) (mirrorOf m) w (windowsOfFile letters k file) (windowsOfFiles letters k more)) (omega arith)
-      go (some g) e ih = ih ∙ rw e

@@ -1,19 +1,19 @@
--- Document 01, "The tally book". It keeps one tally a class, by the class's canonical word, and reads neither codes nor the
+-- Document 01, "The tally book", and document 02, K4, withdrawals in it. It keeps one tally a class, by the class's canonical word, and reads neither codes nor the
 -- table's places; the rules for the grounds are those of Table.
 -- Throughout, s is the number of letters and m the mirror.
 use mathlib.Core.Path.{_≡_}
 use mathlib.Core.Bool.{Bool, true, false, cond, _&&_, _||_}
 use mathlib.Core.Option.{Option}
 use mathlib.Core.List.{List, [], _∷_, _++_, map}
-use Prim.Native.Nat.{ℕ, zero, suc, _+_}
+use Prim.Native.Nat.{ℕ, zero, suc, _+_, _-_}
 use lib.ListN.{length}
-use lib.Dec.{eqb}
-use Rattle.settings.specs.Grounds.{Ground, Outcome, unlessRefused}
-use Rattle.settings.specs.Settings.{mirrorOf}
+use lib.Dec.{eqb, ltb}
+use Rattle.settings.specs.Grounds.{Ground, Outcome, ground, outcome, unlessRefused}
+use Rattle.settings.specs.Settings.{rankIn, mirrorOf}
 use Rattle.encoding.specs.Words.{Mirror, IsWord, mirror, canonical}
 use Rattle.fasta.specs.declared.Numbers.{Numbers}
-use Rattle.files.specs.File.{File}
-use Rattle.tally.specs.Table.{classCount, windowsOfFile, full, addGround, addAnswer}
+use Rattle.files.specs.File.{File, fileNumbers}
+use Rattle.tally.specs.Table.{classCount, windowsOfFile, full, callGround, Call, add, withdraw, callFile}
 
 -- ---- words and classes
 
@@ -71,29 +71,49 @@ tallies s m k book = map book (canonicalOnes s m (allWords s k))
 abbrev pub bookFull : (letters : List ℕ) (k mirror : ℕ) → Book → (file : File) → Bool
 bookFull letters k m book file = full (length (windowsOfFile letters k file)) (tallies (length letters) (mirrorOf m) k book)
 
--- "Where any ground for refusing applies to an add": the book has room for each class, so that ground 7 never applies to it; neither did it to
--- the clearing.
-abbrev pub bookGround : (letters : List ℕ) (k mirror : ℕ) → Book → (file : File) → Option Ground
-bookGround letters k m book file = addGround letters k m (classCount letters k m) (bookFull letters k m book file) file
+-- Whether some of these words passes a test.
+unfoldable pub someOf : (List ℕ → Bool) → List (List ℕ) → Bool
+someOf test [] = false
+someOf test (w ∷ ws) = test w || someOf test ws
+
+-- 18 read with the tallies: "some class has a smaller count than the file has windows of it" (document 02, K4)
+abbrev pub bookLacks : (letters : List ℕ) (k mirror : ℕ) → Book → (file : File) → Bool
+bookLacks letters k m book file =
+    someOf (λ (w : List ℕ). ltb (book w) (hits (length letters) (mirrorOf m) w (windowsOfFile letters k file)))
+    (canonicalOnes (length letters) (mirrorOf m) (allWords (length letters) k))
+
+-- The last ground of a call, read from the tallies.
+abbrev pub bookLast : (letters : List ℕ) (k mirror : ℕ) → Book → Call → Option Ground
+bookLast letters k m book (add file) = ground 12 (bookFull letters k m book file)
+bookLast letters k m book (withdraw file) = ground 18 (bookLacks letters k m book file)
+
+-- "Where any ground for refusing applies" to a call: the book has room for each class, so that ground 7 never applies to it; neither did it to the
+-- clearing.
+abbrev pub bookGround : (letters : List ℕ) (k mirror : ℕ) → Book → Call → Option Ground
+bookGround letters k m book c = callGround letters k m (classCount letters k m) (callFile c) (bookLast letters k m book c)
 
 -- "the book answers the number and P that the rules for the grounds give", "and the book answers the file's numbers"
-abbrev pub bookAnswer : (letters : List ℕ) (k mirror : ℕ) → Book → (file : File) → Outcome Numbers
-bookAnswer letters k m book file = addAnswer letters k m (classCount letters k m) (bookFull letters k m book file) file
+abbrev pub bookAnswer : (letters : List ℕ) (k mirror : ℕ) → Book → Call → Outcome Numbers
+bookAnswer letters k m book c = outcome (bookGround letters k m book c) (fileNumbers (rankIn letters) k (callFile c))
 
--- "no tally changes. Otherwise .. each class's tally grows by the number of the file's windows equal to its canonical word or to that
--- word's mirror"
-abbrev pub bookAfter : (letters : List ℕ) (k mirror : ℕ) → Book → (file : File) → Book
-bookAfter letters k m book file w =
-    unlessRefused (bookGround letters k m book file) (book w + hits (length letters) (mirrorOf m) w (windowsOfFile letters k file)) (book w)
+-- Of an add "each class's tally grows by the number of the file's windows equal to its canonical word or to that word's mirror"; the book "keeps
+-- withdrawals likewise" (document 02, K4), so of a withdrawal it falls by that number, which, by ground 18, is no larger than the tally.
+abbrev pub tallyAfter : (letters : List ℕ) (k mirror : ℕ) → Book → Call → Book
+tallyAfter letters k m book (add file) w = book w + hits (length letters) (mirrorOf m) w (windowsOfFile letters k file)
+tallyAfter letters k m book (withdraw file) w = book w - hits (length letters) (mirrorOf m) w (windowsOfFile letters k file)
 
--- ---- a list of adds
+-- "no tally changes. Otherwise .."
+abbrev pub bookAfter : (letters : List ℕ) (k mirror : ℕ) → Book → Call → Book
+bookAfter letters k m book c w = unlessRefused (bookGround letters k m book c) (tallyAfter letters k m book c w) (book w)
 
--- What the book answers to some files, one after the other.
-unfoldable pub bookAnswers : (letters : List ℕ) (k mirror : ℕ) → Book → List File → List (Outcome Numbers)
+-- ---- a list of calls
+
+-- What the book answers to some calls, one after the other.
+unfoldable pub bookAnswers : (letters : List ℕ) (k mirror : ℕ) → Book → List Call → List (Outcome Numbers)
 bookAnswers letters k m book [] = []
-bookAnswers letters k m book (file ∷ files) = bookAnswer letters k m book file ∷ bookAnswers letters k m (bookAfter letters k m book file) files
+bookAnswers letters k m book (c ∷ calls) = bookAnswer letters k m book c ∷ bookAnswers letters k m (bookAfter letters k m book c) calls
 
 -- The book after them.
-unfoldable pub bookAfterAll : (letters : List ℕ) (k mirror : ℕ) → Book → List File → Book
+unfoldable pub bookAfterAll : (letters : List ℕ) (k mirror : ℕ) → Book → List Call → Book
 bookAfterAll letters k m book [] = book
-bookAfterAll letters k m book (file ∷ files) = bookAfterAll letters k m (bookAfter letters k m book file) files
+bookAfterAll letters k m book (c ∷ calls) = bookAfterAll letters k m (bookAfter letters k m book c) calls

@@ -4,6 +4,18 @@ use crate::report::shown;
 use std::ffi::{OsStr, OsString};
 use std::os::unix::ffi::{OsStrExt, OsStringExt};
 
+/// What an option takes.
+#[derive(Clone, Copy, PartialEq, Eq)]
+pub enum Takes {
+    Nothing,
+    Value,
+    /// A value; the option may be given several times.
+    Values,
+}
+
+/// Options by name, without `--`, and what they take.
+pub type Options = &'static [(&'static str, Takes)];
+
 /// What was given on the command line.
 #[derive(Default)]
 pub struct Arguments {
@@ -34,8 +46,7 @@ fn taken_apart(argument: &OsStr) -> Option<(&[u8], Option<&[u8]>)> {
 }
 
 impl Arguments {
-    /// Options are given by name, with whether they take a value.
-    pub fn parse(given: &[OsString], known: &[(&'static str, bool)]) -> Result<Arguments, String> {
+    pub fn parse(given: &[OsString], known: Options) -> Result<Arguments, String> {
         let mut found = Arguments::default();
         let mut rest = given.iter();
         while let Some(argument) = rest.next() {
@@ -48,14 +59,14 @@ impl Arguments {
                 continue;
             };
             let option = known.iter().find(|(option, _)| option.as_bytes() == name);
-            let &(option, takes_value) = option.ok_or_else(|| format!("{} is no option", shown(argument)))?;
-            let value = match (takes_value, value) {
-                (true, Some(value)) => OsString::from_vec(value.to_vec()),
-                (true, None) => rest.next().ok_or_else(|| format!("--{option} lacks its value"))?.clone(),
-                (false, None) => OsString::new(),
-                (false, Some(_)) => return Err(format!("--{option} takes no value")),
+            let &(option, takes) = option.ok_or_else(|| format!("{} is no option", shown(argument)))?;
+            let value = match (takes, value) {
+                (Takes::Nothing, None) => OsString::new(),
+                (Takes::Nothing, Some(_)) => return Err(format!("--{option} takes no value")),
+                (_, Some(value)) => OsString::from_vec(value.to_vec()),
+                (_, None) => rest.next().ok_or_else(|| format!("--{option} lacks its value"))?.clone(),
             };
-            if found.value(option).is_some() {
+            if takes != Takes::Values && found.has(option) {
                 return Err(format!("--{option} is given twice"));
             }
             found.options.push((option, value));
@@ -65,6 +76,11 @@ impl Arguments {
 
     pub fn value(&self, option: &str) -> Option<&OsStr> {
         self.options.iter().find(|(name, _)| *name == option).map(|(_, value)| value.as_os_str())
+    }
+
+    /// The values of an option that may be given several times, in the order given.
+    pub fn values(&self, option: &'static str) -> impl Iterator<Item = &OsStr> {
+        self.options.iter().filter(move |(name, _)| *name == option).map(|(_, value)| value.as_os_str())
     }
 
     pub fn has(&self, option: &str) -> bool {

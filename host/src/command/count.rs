@@ -1,24 +1,26 @@
-//! `wontirje count`: clears a table, adds each file in order and prints the listing.
+//! `wontirje count`: clears a table, adds each file in order, withdraws files in order and prints the listing.
 
-use crate::arguments::Arguments;
+use crate::arguments::{Arguments, Options, Takes};
 use crate::failure::{reason, status, Failure, Outcome};
 use crate::fault::Fault;
 use crate::output;
 use crate::progress::Progress;
 use crate::report;
+use crate::task::Task;
 use crate::{input, survey};
-use std::ffi::{OsStr, OsString};
+use std::ffi::OsStr;
 use std::path::Path;
 use wontirje::{Kind, Settings};
 
-pub const OPTIONS: &[(&str, bool)] = &[
-    ("letters", true),
-    ("k", true),
-    ("mirror", true),
-    ("kind", true),
-    ("output", true),
-    ("strict", false),
-    ("no-listing", false),
+pub const OPTIONS: Options = &[
+    ("letters", Takes::Value),
+    ("k", Takes::Value),
+    ("mirror", Takes::Value),
+    ("kind", Takes::Value),
+    ("withdraw", Takes::Values),
+    ("output", Takes::Value),
+    ("strict", Takes::Nothing),
+    ("no-listing", Takes::Nothing),
 ];
 
 /// The table of a run, the kind that its files are given as, and the one buffer that they are read into.
@@ -37,27 +39,29 @@ impl Run<'_> {
         Ok(Run { settings, kind, table, buffer: Vec::new() })
     }
 
-    /// Adds a file and says its numbers, or why it is not counted. Gives whether it was taken in. Where no kind
-    /// is given, the file's first byte tells it.
-    fn add(&mut self, operand: &OsStr) -> bool {
-        let name = report::name(operand);
+    /// Adds or withdraws a file and says its numbers, or why that was not done. Gives whether it was. Where no
+    /// kind is given, the file's first byte tells it.
+    fn handle(&mut self, task: Task, file: &OsStr) -> bool {
+        let name = report::name(file);
         let mut progress = Progress::new(&name);
-        let read = input::read(operand, &mut self.buffer, &mut progress);
+        let read = input::read(file, &mut self.buffer, &mut progress);
         let kind = self.kind.unwrap_or(Kind::of(&self.buffer));
         let answer = read.map(|()| {
-            progress.counting(self.buffer.len());
-            self.settings.add(&mut self.table, kind, &self.buffer)
+            progress.working(task.doing(), self.buffer.len());
+            match task {
+                Task::Add => self.settings.add(&mut self.table, kind, &self.buffer),
+                Task::Withdraw => self.settings.withdraw(&mut self.table, kind, &self.buffer),
+            }
         });
         progress.done();
-        match &answer {
-            Ok(Ok(numbers)) => report::line(format_args!("{name}: {}", report::counted(numbers))),
+        let said = match &answer {
+            Ok(Ok(numbers)) => format!("{}{}", task.done(), report::counted(numbers)),
             Ok(Err(refusal)) => {
-                report::line(format_args!("{name}: {}", Fault::new(refusal, kind, &self.buffer)))
+                format!("{}{}", task.refused(), Fault::new(task, refusal, kind, &self.buffer))
             }
-            Err(error) => {
-                report::line(format_args!("{name}: not read: {}; nothing of it is counted", reason(error)))
-            }
-        }
+            Err(error) => task.unread(&reason(error)),
+        };
+        report::line(format_args!("{name}: {said}"));
         matches!(answer, Ok(Ok(_)))
     }
 
@@ -71,12 +75,18 @@ impl Run<'_> {
     }
 }
 
-fn check_operands(operands: &[OsString]) -> Result<(), Failure> {
-    match operands.iter().filter(|&operand| operand == "-").count() {
-        _ if operands.is_empty() => Err(Failure::said(
+/// The files and what to do with each: those to be counted come first, wherever the options stand.
+fn tasks(arguments: &Arguments) -> Result<Vec<(Task, &OsStr)>, Failure> {
+    if arguments.operands.is_empty() {
+        return Err(Failure::said(
             "no file given; name files, or - for standard input; see wontirje count --help",
-        )),
-        0 | 1 => Ok(()),
+        ));
+    }
+    let adds = arguments.operands.iter().map(|file| (Task::Add, file.as_os_str()));
+    let withdrawals = arguments.values("withdraw").map(|file| (Task::Withdraw, file));
+    let tasks: Vec<(Task, &OsStr)> = adds.chain(withdrawals).collect();
+    match tasks.iter().filter(|(_, file)| *file == "-").count() {
+        0 | 1 => Ok(tasks),
         _ => Err(Failure::said("- is given twice; standard input can be read only once")),
     }
 }
@@ -93,15 +103,15 @@ fn kind(arguments: &Arguments) -> Result<Option<Kind>, Failure> {
 pub fn run(arguments: &Arguments) -> Outcome {
     let settings = survey::settings(arguments)?;
     let kind = kind(arguments)?;
-    check_operands(&arguments.operands)?;
+    let tasks = tasks(arguments)?;
     if arguments.has("output") && arguments.has("no-listing") {
         return Err(Failure::said("--output and --no-listing exclude each other"));
     }
     let to = output::new_file(arguments, "output", "leave --output out to print the listing")?;
     let mut run = Run::new(settings, kind)?;
     let mut refused = false;
-    for operand in &arguments.operands {
-        if !run.add(operand) {
+    for (task, file) in tasks {
+        if !run.handle(task, file) {
             refused = true;
             if arguments.has("strict") {
                 return Ok(status(refused));

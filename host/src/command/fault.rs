@@ -1,6 +1,7 @@
 //! What is wrong in a file that was refused, where, and what whoever supplied it can do.
 
 use crate::input::bare;
+use crate::task::Task;
 use std::fmt;
 use wontirje::{Kind, Refusal};
 
@@ -21,8 +22,10 @@ const NEITHER: [(&[u8], &str); 11] = [
     (b"@CO\t", SAM),
 ];
 
-/// A refused file, the kind that it was taken for, and the line and column of the refusal's place, both from 1.
+/// A refused file, what was to be done with it, the kind that it was taken for, and the line and column of the
+/// refusal's place, both from 1.
 pub struct Fault<'a> {
+    task: Task,
     refusal: &'a Refusal,
     kind: Kind,
     file: &'a [u8],
@@ -42,11 +45,11 @@ fn byte(byte: u8) -> String {
 
 impl Fault<'_> {
     /// A line ends in LF; columns are bytes.
-    pub fn new<'a>(refusal: &'a Refusal, kind: Kind, file: &'a [u8]) -> Fault<'a> {
+    pub fn new<'a>(task: Task, refusal: &'a Refusal, kind: Kind, file: &'a [u8]) -> Fault<'a> {
         let before = &file[..file.len().min(refusal.place as usize)];
         let line = 1 + before.iter().filter(|&&byte| byte == b'\n').count();
         let start = before.iter().rposition(|&byte| byte == b'\n').map_or(0, |at| at + 1);
-        Fault { refusal, kind, file, line, column: before.len() - start + 1 }
+        Fault { task, refusal, kind, file, line, column: before.len() - start + 1 }
     }
 
     /// The record of FASTQ that the place is in, from 1. Where the file ends before the record's fourth line, the
@@ -185,12 +188,20 @@ impl Fault<'_> {
         }
     }
 
-    /// What to do.
+    /// What to do. A file whose bytes are at fault could not have been counted, so that to mend it is no way to
+    /// withdraw what was.
     fn advice(&self) -> &'static str {
         if let Some(advice) = self.of_another_kind() {
             return advice;
         }
         match (self.refusal.number, self.kind) {
+            (10 | 11 | 15..=17, _) if self.task == Task::Withdraw => {
+                "no file with this fault was counted: give it as it was counted, or leave its --withdraw out"
+            }
+            // Parts that are made now were not counted, and those given by a pattern would be counted.
+            (6, _) if self.task == Task::Withdraw => {
+                "no file of this length was counted: withdraw the parts that were, each with its own --withdraw"
+            }
             (6, Kind::Fasta) => "split it between records into files of at most 16,777,216 bytes and give them all",
             (6, Kind::Fastq) => {
                 "split it between records, each of four lines, into files of at most 16,777,216 bytes and give \
@@ -210,6 +221,10 @@ impl Fault<'_> {
             (17, _) => {
                 "qualities are printable bytes and no spaces (Phred+33 or Phred+64): mend the record, or take \
                  it out, and count the file again"
+            }
+            (18, _) => {
+                "withdraw only what was counted: the same file, unchanged, and no more often; or an earlier \
+                 --withdraw took its windows"
             }
             _ => "this is a fault of wontirje: report it",
         }

@@ -20,23 +20,29 @@ Settings of all but histogram, and what they are when not given:
 Example:
   wontirje count reads.fa > counts.txt && wontirje histogram counts.txt
 
-Exit status: 0 all was taken in; 1 a file was refused or not read by count, or a word, code or K was refused;
-2 the command could not do its work: options, settings, a listing, lines of standard input, an output.
+Exit status: 0 all was taken in or withdrawn; 1 a file was refused or not read by count, or a word, code or K
+was refused; 2 the command could not do its work: options, settings, a listing, lines of standard input, an
+output.
 See wontirje COMMAND --help. Codes and counts are the library's, which is proved; the command is tested.
 ";
 
 pub const COUNT: &str = "\
 wontirje count [--letters ACGT] [--k 11] [--mirror complement] [--kind KIND] [--output FILE] [--strict]
-               [--no-listing] FILE...
+               [--no-listing] FILE... [--withdraw FILE]...
 
-Clears a table, adds each file in order, and prints the listing: the survey line, a line for each class with
-its count, and the total. - is standard input. A file whose first byte is @ is taken for FASTQ, any other for
-FASTA; both may be given together. Of FASTQ, four lines a record, only the sequence line counts. On standard
-error is a line for each file: its records, letters, foreign letters (not in --letters; U is read as T where
-they have T and no U), edge letters (too near a run's end to begin a word) and windows (words counted); or
-why it was refused, where, and what to do. A refused file changes no count and does not stop the others.
+Clears a table, adds each file in order, withdraws those of --withdraw, and prints the listing: the survey
+line, a line for each class with its count, and the total. - is standard input. A file whose first byte is @
+is taken for FASTQ, any other for FASTA; both may be given together. Of FASTQ, four lines a record, only the
+sequence line counts. On standard error is a line for each file: its records, letters, foreign letters (not in
+--letters; U is read as T where they have T and no U), edge letters (too near a run's end to begin a word) and
+windows (words counted or withdrawn); or why it was refused, where, and what to do. A refused file changes no
+count and does not stop the others.
 
   --kind KIND     fasta or fastq: take all files for this kind, whatever their first byte is
+  --withdraw FILE when all files are counted, take this one out again: 1 from its class for each window. One
+                  file each time, in the order given (a further name after it is a file to count). Refused
+                  with 18 where some class has a smaller count than the file has windows of it. Files are not
+                  remembered: one that was not counted is withdrawn too where the counts allow it
   --output FILE   write the listing to a new file, which appears only when it is whole; a file that is there
                   already is not overwritten
   --strict        stop at the first file that is refused or not read, and print no listing
@@ -47,6 +53,7 @@ most 12.
 
 Examples:
   wontirje count --k 12 --output counts.txt lake-1.fa lake-2.fq
+  wontirje count lake-*.fa --withdraw lake-7.fa     (as if lake-7.fa had not been counted)
   gzip -dc reads.fa.gz | wontirje count -           (in jellyfish: count -C -m 11, then dump)
 ";
 

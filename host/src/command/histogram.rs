@@ -1,6 +1,6 @@
 //! `wontirje histogram`: how many classes of a listing have each count, as text bars and as a chart.
 
-use crate::arguments::Arguments;
+use crate::arguments::{Arguments, Options, Takes};
 use crate::bars::{self, Bar};
 use crate::failure::{reason, Failure, Outcome};
 use crate::listing::{self, Listing};
@@ -12,7 +12,7 @@ use std::fs::File;
 use std::io::{self, BufReader, Write};
 use std::path::Path;
 
-pub const OPTIONS: &[(&str, bool)] = &[("bars", true), ("each", false), ("svg", true)];
+pub const OPTIONS: Options = &[("bars", Takes::Value), ("each", Takes::Nothing), ("svg", Takes::Value)];
 
 /// How many bars there may be; more do not fit the chart.
 const MOST_BARS: usize = 200;

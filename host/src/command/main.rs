@@ -16,16 +16,17 @@ mod progress;
 mod report;
 mod survey;
 mod svg;
+mod task;
 mod translate;
 
-use arguments::Arguments;
+use arguments::{Arguments, Options};
 use failure::{Failure, Outcome};
 use std::env;
 use std::ffi::{OsStr, OsString};
 use std::process::ExitCode;
 
-/// The commands: name, help, options (with whether each takes a value), and what runs it.
-type Command = (&'static str, &'static str, &'static [(&'static str, bool)], fn(&Arguments) -> Outcome);
+/// The commands: name, help, options, and what runs it.
+type Command = (&'static str, &'static str, Options, fn(&Arguments) -> Outcome);
 
 const COMMANDS: [Command; 5] = [
     ("count", help::COUNT, count::OPTIONS, count::run),

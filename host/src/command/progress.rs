@@ -31,10 +31,10 @@ impl Progress {
         }
     }
 
-    /// All bytes were read and are being counted.
-    pub fn counting(&mut self, bytes: usize) {
+    /// All bytes were read, and this is being done with them.
+    pub fn working(&mut self, doing: &str, bytes: usize) {
         if self.terminal && bytes > QUIET {
-            self.show(&format!("counting {} MB", bytes / 1_000_000));
+            self.show(&format!("{doing} {} MB", bytes / 1_000_000));
         }
     }
 

@@ -1,13 +1,13 @@
 //! The settings from the command line: ACGT, k 11 and complement where nothing else is given.
 
-use crate::arguments::Arguments;
+use crate::arguments::{Arguments, Options, Takes};
 use crate::failure::Failure;
 use crate::report::shown;
 use std::ffi::OsStr;
 use std::os::unix::ffi::OsStrExt;
 use wontirje::{Mirror, Refusal, Settings};
 
-pub const OPTIONS: &[(&str, bool)] = &[("letters", true), ("k", true), ("mirror", true)];
+pub const OPTIONS: Options = &[("letters", Takes::Value), ("k", Takes::Value), ("mirror", Takes::Value)];
 
 /// The settings as options give them. The library judges them, but for the mirror's name.
 pub fn settings(arguments: &Arguments) -> Result<Settings<'_>, Failure> {

@@ -1,5 +1,5 @@
-//! What the tests of the command share: runs of it, folders of their own, drawn files of either kind, and the
-//! settings and kinds of tests/ lent to this crate. Each test file uses some of it.
+//! What the tests of the command share: runs of it, an example file, folders of their own, drawn files of either kind,
+//! and the settings and kinds of tests/ lent to this crate. Each test file uses some of it.
 #![allow(dead_code)]
 
 use kmer_tests::draw::Random;
@@ -18,6 +18,18 @@ use wontirje::Mirror;
 
 /// The command as cargo built it.
 pub const WONTIRJE: &str = env!("CARGO_BIN_EXE_wontirje");
+
+/// A FASTA file; the numbers that are told of it, and the listing of its words of 2 letters.
+pub const EXAMPLE: &[u8] = b">a\nACGTN\n>b\nAG\nCT\n";
+pub const NUMBERS: &str = "records 2, letters 9, foreign 1, edge 2, windows 6";
+pub const LISTING: &str = "(survey (letters ACGT) (k 2) (mirror complement))\n\
+    (count CG 1)\n(count GC 1)\n(count AG 2)\n(count AC 2)\n(total 6)\n";
+
+/// Its records as FASTQ; the bytes that begin lines also stand among the qualities.
+pub const READS: &[u8] = b"@a\nACGTN\n+\n@+>!~\n@b\nAGCT\n+b\n+III\n";
+
+/// The listing of words of 2 letters where nothing is counted.
+pub const EMPTY: &str = "(survey (letters ACGT) (k 2) (mirror complement))\n(total 0)\n";
 
 /// What a run of the command left.
 pub struct Run {

@@ -1,6 +1,6 @@
 -- `kmer::kind_of_number` meets its contract: by its test.
 use borrow.Author.Tests.{ne-eqb}
-use Rattle.kmer.specs.Adding.{kindOfNumber}
+use Rattle.kmer.specs.FileCalls.{kindOfNumber}
 use Rattle.kmer.proofs.kind_of_number.Statement.{statement}
 use Rattle.kmer.proofs.kind_of_number.Tie as tie
 

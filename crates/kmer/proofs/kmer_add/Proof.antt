@@ -1,4 +1,4 @@
--- `kmer::kmer_add` meets its contract: the number names the kind, and `add_into` adds the file of that kind.
+-- `kmer::kmer_add` meets its contract: the number names the kind, and `call_into` adds the file of that kind.
 use borrow.Author.Needs.{needs}
 use Rattle.kmer.proofs.kmer_add.Statement.{statement}
 use Rattle.kmer.proofs.kmer_add.Tie as tie
@@ -6,8 +6,8 @@ use Rattle.kmer.proofs.kmer_add.Tie as tie
 kind-of-number-requires : tie.Need-kind-of-number-requires
 kind-of-number-requires c κs = search needs
 
-add-into-requires : tie.Need-add-into-requires
-add-into-requires c κs = search needs
+call-into-requires : tie.Need-call-into-requires
+call-into-requires c κs = search needs
 
 same-length : tie.Need-same-length
 same-length c = search needs
@@ -17,9 +17,9 @@ same-length-2 c = search needs
 
 returns : tie.Need-returns
 returns c =
-    let add = c .before .before .before .before in
-    rw (add .before .before .kind-of-number .ensures) at (add .add-into .ensures)
+    let call = c .before .before .before .before in
+    rw (call .before .before .kind-of-number .ensures) at (call .call-into .ensures)
 
 pub kmer-add-spec : {M : Type 1} → statement M
 kmer-add-spec =
-    tie.close (tie.spec kind-of-number-requires add-into-requires same-length same-length-2 returns)
+    tie.close (tie.spec kind-of-number-requires call-into-requires same-length same-length-2 returns)

@@ -3,7 +3,7 @@ use native.Mathlib.Omega.{arith}
 use borrow.Author.Needs.{needs}
 use lib.ListN.{length-set}
 use lib.Seq.{sets-eq}
-use Rattle.kmer.specs.Adding.{fiveNumbers}
+use Rattle.kmer.specs.FileCalls.{fiveNumbers}
 use Rattle.kmer.proofs.write_numbers.Statement.{statement}
 use Rattle.kmer.proofs.write_numbers.Tie as tie
 

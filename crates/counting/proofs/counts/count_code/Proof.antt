@@ -1,6 +1,6 @@
 -- `counting::counts::count_code` meets its contract: one more at the code's place.
 use mathlib.Core.Path.{refl}
-use Rattle.tally.specs.Table.{bump}
+use Rattle.tally.specs.Table.{change, oneMore}
 use borrow.Author.Needs.{needs}
 use Rattle.counting.proofs.counts.count_code.Statement.{statement}
 use Rattle.counting.proofs.counts.count_code.Tie as tie
@@ -21,7 +21,7 @@ same-length : tie.Need-same-length
 same-length c = search needs
 
 returns : tie.Need-returns
-unfolding bump
+unfolding change oneMore
 returns c = refl
 
 pub count-code-spec : {M : Type 1} → statement M
