@@ -195,9 +195,9 @@ uint64_t kmer_add(const uint8_t *letters, size_t letters_len, size_t k, uint64_t
  * large a count as the file has windows of it. To undo that, add the same file (12 refuses it where some count is
  * above 4,294,967,295 less the file's windows).
  *
- * The call needs no second table: it counts down window by window; at the first whose class stands at 0 it stops,
- * counts the windows taken so far up again, and returns 18. So when a refused call returns, table and answer hold
- * what they held before; but while a call runs, the first places of the table, one a class, move, and no other
+ * The call needs no second table: it counts down window by window; at the first window whose class stands at 0 it
+ * stops, counts up again the windows taken so far, and returns 18. So when a refused call returns, table and answer
+ * hold what they held before; but while a call runs, the first places of the table, one a class, move, and no other
  * thread may read the table meanwhile. A call that does not return, since its thread or process is ended, leaves
  * these places anywhere in between.
  */

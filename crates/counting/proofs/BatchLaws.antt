@@ -32,7 +32,7 @@ module _ {c : Coder} {powers mirrors : List ℕ} (C : ReadyCoder c powers mirror
       → take n new ≡ codesBy c (windows (c .k) ranks)
   codes-front F n e = front-is (codesBy c (windows (c .k) ranks)) _ (F .is) (codes-length ∙ sym e)
 
-  -- Where `limit` of them at most are asked for, these do.
+  -- And so do the first of them, where at most `limit` are asked for.
   pub codes-first : {old new : List ℕ} → Fills (codesBy c (windows (c .k) ranks)) old new → (limit n : ℕ) → n ≡ min limit (length ranks + 1 - c .k)
       → take n new ≡ take limit (codesBy c (windows (c .k) ranks))
   codes-first {new = new} F limit n e =

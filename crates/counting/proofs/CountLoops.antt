@@ -111,7 +111,7 @@ counted-in {counts} {codes} e =
       stopped = λ h. absurd (omega arith);
     }
 
--- Codes that went in went in all.
+-- On the way in all codes are counted.
 pub all-in : {counts codes counts′ : List ℕ} {r : ℕ} → Changed In counts codes r counts′ → counts′ ≡ changes oneMore counts codes
 all-in {counts} {codes} {r = r} C =
     let whole : length codes ≤ r =

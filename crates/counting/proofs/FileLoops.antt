@@ -34,7 +34,7 @@ by-way : {way way′ : Way} {counts : List ℕ} (counts₀ qs : List ℕ) → wa
     → counts ≡ changes (byWay way′) counts₀ qs
 by-way {counts = counts} counts₀ qs e h = subst (λ (w : Way). counts ≡ changes (byWay w) counts₀ qs) e h
 
--- A part of the first of a list has no more than these.
+-- A number up to the length of the first `limit` elements of a list is at most `limit` and at most the list's length.
 at-most : (limit r : ℕ) (l : List ℕ) → r ≤ length (take limit l) → (r ≤ limit) × (r ≤ length l)
 at-most limit r l h = let n = length-take limit l in (omega arith, omega arith)
 
@@ -113,7 +113,7 @@ module _ {c : Coder} {powers mirrors : List ℕ} (C : ReadyCoder c powers mirror
                   (omega (arith, left, K .enough out .at q h));
             }
 
-        -- Not all of the batch was: the limit is reached, or no count is left.
+        -- Not all of the batch was counted or taken away: the limit is reached, or no count is left.
         pub changes-stop : r < length codes → Changed way counts₀ (take limit all) (done + r) counts₁
         changes-stop h =
             let same : take (done + r) (take limit all) ≡ take (done + r) all = take-take (done + r) limit all within-limit in

@@ -73,7 +73,7 @@ module _ {counts₀ codes counts : List ℕ} {i : ℕ} (D : TakingOn counts₀ c
 
 -- ---- ground 18
 
--- As many codes as there are, all.
+-- A limit that is the number of codes leaves none out.
 pub of-all : {counts codes counts′ : List ℕ} {limit r : ℕ} → limit ≡ length codes → Changed Out counts (take limit codes) r counts′
     → Changed Out counts codes r counts′
 of-all {codes = codes} {limit} e C = rw (take-all limit codes (omega arith)) at C
@@ -101,7 +101,7 @@ too-few {counts} {codes} {counts′} {r} L h =
     let one : _≡_ {A = ℕ} (cond (eqb q q) 1 0) 1 = rw (eq-eqb q q refl) in
     (q, lt, omega (arith, L .enough refl .at q lt))
 
--- And counting what was taken again leaves the counts as they were.
+-- And to count again what was taken leaves the counts as they were.
 taken-restored : {counts codes counts′ : List ℕ} {r : ℕ} → Changed Out counts codes r counts′ → changes oneMore counts′ (take r codes) ≡ counts
 taken-restored {counts} {codes} {r = r} L = rw (L .leaves) (restored counts (take r codes) (L .enough refl .at))
 

@@ -1,4 +1,4 @@
--- What the functions that count a file ask of each other and promise each other. No claim and no call of document 01 rests on it.
+-- What the functions that count a file, or take it away, ask of each other and promise each other. No claim and no call of document 01 rests on it.
 use mathlib.Core.Path.{_≡_}
 use Prim.Native.Nat.{ℕ, _+_, _-_, _<_, _≤_, max}
 use mathlib.Core.Bool.{Bool, true, false, cond}

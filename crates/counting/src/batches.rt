@@ -166,7 +166,8 @@ fn smaller(a: usize, b: usize) -> usize
     if a < b { a } else { b }
 }
 
-// One more or one less for the first windows of some letters of a run, `limit` at most. Answers for how many.
+// One more or one less for the first windows of some letters of a run, `limit` at most; on the way out up to the first of whose class no count is left. Answers
+// for how many.
 fn change_batch(
     counts: &mut [u32],
     ranks: &[u8],

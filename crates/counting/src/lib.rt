@@ -3,7 +3,7 @@
 pub mod batches; // a file's windows, in batches
 pub mod counts; // the counts, one a class
 
-// Whether a file's windows are counted, or taken away again.
+// Whether a file's windows are counted or taken away.
 pub enum Way {
     In,
     Out,

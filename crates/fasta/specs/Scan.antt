@@ -1,4 +1,4 @@
--- Document 01, "Sequence file (FASTA)": the answer of a scan or of an add as a value, a file's five numbers or the ground for refusing it.
+-- Document 01, "Sequence file (FASTA)": the answer of a scan, an add or a withdrawal as a value, a file's five numbers or the ground for refusing it.
 use Rattle.settings.specs.Grounds.{Outcome, given, refused, groundOf}
 use Rattle.fasta.specs.declared.Numbers.{Numbers}
 use Rattle.fasta.specs.declared.Answer.{Answer}

@@ -42,7 +42,7 @@ pub struct Numbers {
     pub windows: usize,
 }
 
-// What a scan of a file answers, or an add: the numbers of a file that was taken, or the refusal.
+// What a scan of a file answers, an add or a withdrawal: the numbers of a file that was taken, or the refusal.
 pub enum Answer {
     Taken(Numbers),
     Refused(Refusal),

@@ -1,5 +1,5 @@
--- What the kernels ask and promise. No sentence of document 01 rests on it; the contract of `kernels::fill_codes`, which codes along a sequence and adding a
--- file use, does.
+-- What the kernels ask and promise. No sentence of document 01 rests on it; the contract of `kernels::fill_codes`, which codes along a sequence, adding and
+-- withdrawing a file use, does.
 use mathlib.Core.Path.{_≡_}
 use mathlib.Core.List.{List, _++_}
 use mathlib.Core.Logic.{_≢_}

@@ -1,4 +1,4 @@
-// From ranks to codes: the piece that codes along a sequence and adding a file share. It takes good settings as a `Coder` with the powers of s and the
+// From ranks to codes: the piece that codes along a sequence, adding and withdrawing a file share. It takes good settings as a `Coder` with the powers of s and the
 // table of mirrors, each made once a call, and a list of ranks. Callers cut what is too long for their arrays into pieces that overlap by k - 1 letters.
 mod general; // every alphabet
 mod pairs; // the lower and the higher of two numbers, an entry of a list of ranks

@@ -40,7 +40,8 @@ pub record KeptFromC (letters : List ℕ) (k mirror : ℕ) (book : Book) (t t′
   pub as-calls : AsTableCalls letters k mirror t t′ asked told
   pub kept : Kept letters k mirror book t (map (λ (c : Call × List ℕ). c .0) asked) (as-calls .answers) t′
 
--- Two such lists, from the tables t and u: "Two such lists with the same settings leave the same counts exactly when" the adds and withdrawals that they are do.
+-- Two such lists, from the tables t and u: they are lists of adds and withdrawals, of which "Two such lists with the same settings leave the same counts exactly
+-- when .." is said.
 pub record SameCountsFromC (letters : List ℕ) (k mirror : ℕ) (t t′ : List ℕ) (asked : List (Call × List ℕ)) (told : List (ℕ × List ℕ)) (u u′ : List ℕ)
     (asked′ : List (Call × List ℕ)) (told′ : List (ℕ × List ℕ)) : Type 0 where
   pub one : AsTableCalls letters k mirror t t′ asked told

@@ -90,7 +90,7 @@ module _ (n : Numbers) (ps counts : List ℕ) where
     pub counts-fallen : b ≡ false → ChangedUnlessRefused Out n ps counts (given n) counts′
     counts-fallen e = let f : lacks counts ps ≡ false = sym (L .answers) ∙ e in record { answers = rw f; leaves = L .leaves ∙ rw f }
 
--- By the way that was told.
+-- What holds of a way's variant holds of the way that is that variant.
 pub by-way : {way told : Way} {n : Numbers} {ps counts : List ℕ} {answer : Outcome Numbers} {counts′ : List ℕ} → way ≡ told
     → ChangedUnlessRefused told n ps counts answer counts′
     → ChangedUnlessRefused way n ps counts answer counts′

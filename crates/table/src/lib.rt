@@ -249,7 +249,7 @@ fn call_checked(
     }
 }
 
-// An add or a withdrawal of a file, by the way.
+// An add or a withdrawal of a file, as `way` says.
 pub fn call(
     way: Way,
     letters: &[u8],
