@@ -19,14 +19,16 @@ struct Compared {
     counted: AtomicUsize,
     file_refused: AtomicUsize,
     settings_refused: AtomicUsize,
+    /// Forms in another order: the command has no survey line.
+    other_order: AtomicUsize,
     /// Not in the command's reach: no survey line, an unknown mirror, letters that no argument can hold, an
     /// input above 65,536 bytes, or a table above the program's 16,384 places.
     out_of_reach: AtomicUsize,
 }
 
 impl Compared {
-    fn numbers(&self) -> [usize; 4] {
-        [&self.counted, &self.file_refused, &self.settings_refused, &self.out_of_reach]
+    fn numbers(&self) -> [usize; 5] {
+        [&self.counted, &self.file_refused, &self.settings_refused, &self.other_order, &self.out_of_reach]
             .map(|number| number.load(Ordering::Relaxed))
     }
 }
@@ -60,6 +62,10 @@ fn as_said(file_line: &str) -> String {
 fn check(input: &[u8], output: &[u8], compared: &Compared) {
     let printed = std::str::from_utf8(output).expect("text");
     let refusal = refusal(printed);
+    if let Some((19, _)) = refusal {
+        compared.other_order.fetch_add(1, Ordering::Relaxed);
+        return;
+    }
     let (Some(settings), false) = (in_reach(input), matches!(refusal, Some((7 | 13 | 14, _)))) else {
         compared.out_of_reach.fetch_add(1, Ordering::Relaxed);
         return;
@@ -96,11 +102,11 @@ fn check(input: &[u8], output: &[u8], compared: &Compared) {
 #[test]
 fn stored_runs() {
     let compared = Compared::default();
-    let by_hand = cases_by_hand(107).into_iter().chain(fastq_cases_by_hand(39));
-    let cases: Vec<_> = vectors([232, 193, 198, 200, 40, 40]).into_iter().chain(by_hand).collect();
+    let by_hand = cases_by_hand(137).into_iter().chain(fastq_cases_by_hand(43));
+    let cases: Vec<_> = vectors([199, 153, 154, 162, 34, 30, 200]).into_iter().chain(by_hand).collect();
     check_each(&cases, |case| check(&case.input, &case.output, &compared));
-    let [counted, file_refused, settings_refused, out_of_reach] = compared.numbers();
-    assert_eq!(counted + file_refused + settings_refused + out_of_reach, 1049);
+    let [counted, file_refused, settings_refused, other_order, out_of_reach] = compared.numbers();
+    assert_eq!(counted + file_refused + settings_refused + other_order + out_of_reach, 1112);
     assert!(counted > 300 && file_refused > 200 && settings_refused > 60, "{:?}", compared.numbers());
     assert!(out_of_reach < 150, "{:?}", compared.numbers());
 }
@@ -112,7 +118,7 @@ fn drawn_inputs() {
         let mut inputs = Inputs::new(121, kind);
         let drawn: Vec<Vec<u8>> = (0..800).map(|_| inputs.any()).collect();
         check_each(&drawn, |input| check(input, &run_in_pieces(input, input.len().max(1)), &compared));
-        let [counted, file_refused, settings_refused, _] = compared.numbers();
+        let [counted, file_refused, settings_refused, ..] = compared.numbers();
         let enough = counted > 350 && file_refused > 40 && settings_refused > 40;
         assert!(enough, "{kind:?}: {:?}", compared.numbers());
     }

@@ -1,6 +1,6 @@
 //! Standard inputs of the counter program drawn from a fixed seed: survey lines whose settings are good, bad
-//! or no settings at all, with files that are whole or damaged, and whole inputs with bytes changed, lost or
-//! put in.
+//! or no settings at all, some with their forms in another order, with files that are whole or damaged, and whole
+//! inputs with bytes changed, lost or put in.
 
 use crate::draw::{drawn_capitals, Random};
 use crate::draw_fastq::{damaged_of, drawn_of};
@@ -47,12 +47,15 @@ impl Values {
         }
     }
 
-    /// The line without its end, its forms in any order.
-    fn line(&self, random: &mut Random) -> Vec<u8> {
+    /// The line without its end. Its forms stand as document 02, K5, has them, and about once in `gap` lines in any
+    /// order; 0 for never.
+    fn line(&self, random: &mut Random, gap: u64) -> Vec<u8> {
         let form = |name: &[u8], value: &[u8]| [b"(", name, b" ", value, b")"].concat();
         let mut forms = [form(b"letters", &self.letters), form(b"k", &self.k), form(b"mirror", &self.mirror)];
-        forms.swap(0, random.below(3) as usize);
-        forms.swap(1, 1 + random.below(2) as usize);
+        if gap > 0 && random.below(gap) == 0 {
+            forms.swap(0, random.below(3) as usize);
+            forms.swap(1, 1 + random.below(2) as usize);
+        }
         [b"(survey ", &forms.join(&b" "[..])[..], b")"].concat()
     }
 }
@@ -84,23 +87,28 @@ impl Inputs {
 
     /// An input that is counted, with the settings that it has. Records have up to so many letters.
     pub fn good(&mut self, length: u64) -> (Settings, Vec<u8>) {
+        self.whole(length, 0)
+    }
+
+    /// Good settings and a whole file, the line's forms in any order about once in `gap` lines; 0 for never.
+    fn whole(&mut self, length: u64, gap: u64) -> (Settings, Vec<u8>) {
         let settings = self.settings(true);
         let file = self.file(&settings, length);
-        let input = self.with_file(&Values::of(&settings), &file);
+        let input = self.with_file(&Values::of(&settings), &file, gap);
         (settings, input)
     }
 
-    fn with_file(&mut self, values: &Values, file: &[u8]) -> Vec<u8> {
-        let line = values.line(&mut self.random);
+    fn with_file(&mut self, values: &Values, file: &[u8], gap: u64) -> Vec<u8> {
+        let line = values.line(&mut self.random, gap);
         [&line[..], drawn_end(&mut self.random), file].concat()
     }
 
-    /// A good survey line and a damaged file.
+    /// Good settings and a damaged file.
     fn with_damaged_file(&mut self) -> Vec<u8> {
         let settings = self.settings(true);
         let whole = self.file(&settings, 200);
         let file = damaged_of(&mut self.random, self.kind, &settings, whole);
-        self.with_file(&Values::of(&settings), &file)
+        self.with_file(&Values::of(&settings), &file, 8)
     }
 
     /// Any good size, or one with k above the largest: mostly too many classes.
@@ -110,7 +118,7 @@ impl Inputs {
             settings.k = largest_k(settings.letters.len()) + 1 + self.random.below(3) as usize;
         }
         let file = self.file(&settings, 60);
-        self.with_file(&Values::of(&settings), &file)
+        self.with_file(&Values::of(&settings), &file, 8)
     }
 
     /// One to three values that are bad or no values.
@@ -128,7 +136,7 @@ impl Inputs {
             values.mirror = one(&mut self.random, &BAD_MIRRORS).to_vec();
         }
         let file = self.file(&settings, 30);
-        self.with_file(&values, &file)
+        self.with_file(&values, &file, 4)
     }
 
     /// One to three bytes changed, put in or lost at any place below `end`, or the input cut there.
@@ -152,7 +160,7 @@ impl Inputs {
 
     /// An input of any kind: about half of them good.
     pub fn any(&mut self) -> Vec<u8> {
-        match self.random.below(20) {
+        match self.random.below(21) {
             0..=8 => self.good(200).1,
             9..=11 => self.with_damaged_file(),
             12 | 13 => self.with_any_size(),
@@ -164,9 +172,11 @@ impl Inputs {
             }
             // In the survey line or just after it.
             18 => {
-                let (_, input) = self.good(30);
+                let (_, input) = self.whole(30, 2);
                 self.changed(input, 60)
             }
+            // The forms in any order.
+            19 => self.whole(100, 1).1,
             _ => self.good(2000).1,
         }
     }

@@ -1,5 +1,5 @@
-//! A second counter program, written from document 01 ("Listing and counter program") and document 02, K1 and K2,
-//! and not from the library: from the bytes of standard input to the bytes that are printed. Of the other
+//! A second counter program, written from document 01 ("Listing and counter program") and document 02, K1, K2 and
+//! K5, and not from the library: from the bytes of standard input to the bytes that are printed. Of the other
 //! references it uses the second coder, the rank of a byte, the grounds for table calls and the records of FASTQ
 //! files; the survey line, the FASTA file, the tallies and the printed lines are its own.
 
@@ -14,6 +14,9 @@ pub const MOST_INPUT: usize = 65_536;
 
 /// The places of the program's table.
 pub const PLACES: usize = 16_384;
+
+/// The order of the inner forms, each with its bracket: "They now stand as letters, k, mirror" (document 02, K5).
+const ORDER: [&[u8]; 3] = [b"(letters", b"(k", b"(mirror"];
 
 /// What the program prints for a standard input.
 pub fn answer(input: &[u8]) -> Vec<u8> {
@@ -33,13 +36,17 @@ pub fn answer_kind(output: &[u8]) -> String {
     }
 }
 
-/// Checks go in number order, save that 14 and 13 come first.
+/// Checks go in number order, save that 14 and 13 come first, and 19 next: "it precedes 1" (document 02, K5).
 fn counted(input: &[u8]) -> Result<Vec<u8>, Refusal> {
     if input.len() > MOST_INPUT {
         return Err(Refusal { number: 14, p: 0 });
     }
     let (line, file) = first_line(input);
-    let settings = survey(line).ok_or(Refusal { number: 13, p: 0 })?;
+    let (names, settings) = forms(line).ok_or(Refusal { number: 13, p: 0 })?;
+    // "19, not 13, when just these three forms are there, each once and well formed, in another order"
+    if names != ORDER {
+        return Err(Refusal { number: 19, p: 0 });
+    }
     // The file is no longer than the input, so that of ground 6 only the number of classes is left.
     table_ground(&settings, false, PLACES)?;
     // The records of a FASTQ file are counted as those of a FASTA file that has the same letters.
@@ -69,9 +76,15 @@ pub fn first_line(input: &[u8]) -> (&[u8], &[u8]) {
     }
 }
 
-/// The settings of a survey line, good or bad; none where the line is no survey line. No value holds a space,
-/// so cutting at every space gives the name and the value of the three forms, and nothing else.
+/// The settings of a survey line, good or bad; none where ground 13 or 19 refuses the line.
 pub fn survey(line: &[u8]) -> Option<Settings> {
+    forms(line).filter(|(names, _)| *names == ORDER).map(|(_, settings)| settings)
+}
+
+/// The three forms of a line, each there once and well formed: their names as they stand, and the settings, good or
+/// bad, that they give in any order. None where the line is something else. No value holds a space, so cutting at
+/// every space gives the name and the value of the three forms, and nothing else.
+fn forms(line: &[u8]) -> Option<([&[u8]; 3], Settings)> {
     let inner = line.strip_prefix(b"(survey ")?.strip_suffix(b")")?;
     let parts: Vec<&[u8]> = inner.split(|&byte| byte == b' ').collect();
     let [name_1, value_1, name_2, value_2, name_3, value_3] = parts[..] else { return None };
@@ -85,7 +98,8 @@ pub fn survey(line: &[u8]) -> Option<Settings> {
     if letters.is_empty() || letters.iter().any(|byte| b"() \r\n".contains(byte)) {
         return None;
     }
-    Some(Settings::new(letters, read_k(value(b"(k")?)?, read_mirror(value(b"(mirror")?)?))
+    let settings = Settings::new(letters, read_k(value(b"(k")?)?, read_mirror(value(b"(mirror")?)?);
+    Some(([name_1, name_2, name_3], settings))
 }
 
 /// 1 to 3 digits, with no leading zero except 0 itself.

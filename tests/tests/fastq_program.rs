@@ -13,9 +13,9 @@ const DRAWN: usize = 4000;
 
 #[test]
 fn cases_worked_out_by_hand() {
-    let cases = fastq_cases_by_hand(39);
+    let cases = fastq_cases_by_hand(43);
     check_each(&cases, check_stored);
-    for number in [10, 15, 16, 17] {
+    for number in [10, 15, 16, 17, 19] {
         let ground = format!("(refused {number} ").into_bytes();
         let count = cases.iter().filter(|case| case.output.starts_with(&ground)).count();
         assert!(count >= 2, "{count} cases of ground {number}");
@@ -45,7 +45,7 @@ fn drawn_inputs_beside_the_second_counter() {
     let fastq = inputs.iter().filter(|input| first_line(input).1.starts_with(b"@")).count();
     assert!(fastq * 2 > inputs.len(), "{fastq} inputs with FASTQ files");
     assert!(kinds["counted"] * 3 > inputs.len(), "{kinds:?}");
-    for number in ["empty", "1", "2", "4", "6", "7", "10", "13", "15", "16", "17"] {
+    for number in ["empty", "1", "2", "4", "6", "7", "10", "13", "15", "16", "17", "19"] {
         assert!(kinds.get(number).is_some_and(|&count| count >= 10), "{number}: {kinds:?}");
     }
 }

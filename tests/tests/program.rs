@@ -20,15 +20,15 @@ const FILE: &[u8] = b">a\nACGTN\n>b\nAG\nCT\n";
 
 #[test]
 fn stored_answers() {
-    check_each(&vectors([232, 193, 198, 200, 40, 40]), check_stored);
+    check_each(&vectors([199, 153, 154, 162, 34, 30, 200]), check_stored);
 }
 
 #[test]
 fn cases_worked_out_by_hand() {
-    let cases = cases_by_hand(107);
+    let cases = cases_by_hand(137);
     check_each(&cases, check_stored);
     // The program gives these grounds, and each has its cases.
-    for number in [1, 2, 4, 6, 7, 10, 11, 13, 14] {
+    for number in [1, 2, 4, 6, 7, 10, 11, 13, 14, 19] {
         let ground = format!("(refused {number} ").into_bytes();
         let count = cases.iter().filter(|case| case.output.starts_with(&ground)).count();
         assert!(count >= 2, "{count} cases of ground {number}");
@@ -38,7 +38,7 @@ fn cases_worked_out_by_hand() {
 /// Each with every end that the first line may have, and with a file after it.
 #[test]
 fn lines_that_are_no_survey_lines() {
-    check_each(&malformed_lines(127), |line| {
+    check_each(&malformed_lines(181), |line| {
         for rest in [&b""[..], b"\n", b"\r\n", b"\n>a\nACGT\n", b"\r\n>a\nACGT\n"] {
             let input = [line, rest].concat();
             assert_eq!(answer(&input), b"(refused 13 0)\n", "the second counter: {}", shown_file(&input));
@@ -155,7 +155,7 @@ fn large_inputs_beside_the_second_counter() {
     for (letters, k) in [(&b"AB"[..], 15), (b"ABCDEFGH", 5), (b"ACGT", 7), (b"ABC", 9)] {
         for length in [30_000, MOST_INPUT - 1, MOST_INPUT, MOST_INPUT + 1, MOST_INPUT + 2, 100_000] {
             let line =
-                format!("(survey (k {k}) (letters {}) (mirror complement))\n>\n", letters.escape_ascii());
+                format!("(survey (letters {}) (k {k}) (mirror complement))\n>\n", letters.escape_ascii());
             let mut random = Random::new(52);
             let drawn = (line.len()..length).map(|_| drawn_byte(&mut random, letters));
             inputs.push(line.bytes().chain(drawn).collect::<Vec<u8>>());
@@ -179,7 +179,7 @@ fn drawn_inputs_beside_the_second_counter() {
     let kinds = check_beside_second(&inputs);
     // The comparison is worth something only where all kinds of inputs are in it.
     assert!(kinds["counted"] * 3 > inputs.len(), "{kinds:?}");
-    for number in ["empty", "1", "2", "4", "6", "7", "10", "11", "13", "14"] {
+    for number in ["empty", "1", "2", "4", "6", "7", "10", "11", "13", "14", "19"] {
         assert!(kinds.get(number).is_some_and(|&count| count >= 20), "{number}: {kinds:?}");
     }
 }

@@ -1,4 +1,4 @@
--- Computed checks of the program's definition: the worked example of document 01 and cases of document 02, K10 and K1, from input to output, and refusals.
+-- Computed checks of the program's definition: the worked example of document 01 and cases of document 02, K10, K1 and K5, from input to output, and refusals.
 use mathlib.Core.Path.{_≡_, refl}
 use mathlib.Core.List.{List, _++_}
 use Prim.Native.Nat.{ℕ}
@@ -32,7 +32,7 @@ unfolding programText lineText kindByFirstByte surveyText refusedLine fileLine c
     isOdd halfUp classes badSize tooLong tooMany faultFrom itemsFrom item next lineItem isLetter lfNext
     recordsIn lettersIn foreignIn oneIfForeign marks runs onFirst windowsOf windows edgesOf edge placeFrom capitalOf readsUAsT readAs windowsOfFile full change changes oneMore
     code codeOfCanonical canonical plain mirror digits pairRank differingPair shift oddShift
-    reading.readLine reading.lineFrom reading.headOf reading.took reading.lineEnd reading.endAfter reading.nextForm reading.formAt
+    reading.readLine reading.lineFrom reading.headOf reading.byOrder reading.inOrder reading.eachOnce reading.lineEnd reading.endAfter reading.nextForm reading.formAt
     reading.formFrom reading.formOf reading.numberOf reading.mirrorNumber reading.sized reading.valueByte reading.stretch
     reading.startsWith spelt
     lines textOf firstByteIs isThere unlessAt firstFailing isQuality recordFault fastqFault
@@ -50,6 +50,14 @@ refusals :
     × Gives "(survey (letters ACGT) (k 0) (mirror complement))\n" "(refused 4 0)\n"
 unfolding outputOf
 refusals = (refl, refl, refl, refl, refl)
+
+-- Document 02, K5: forms in another order (19), before any ground of the settings or of the file, after 13.
+order-of-forms :
+    Gives "(survey (k 2) (letters ACGT) (mirror complement))\n>a\nAC\n" "(refused 19 0)\n"
+    × Gives "(survey (k 0) (letters AA) (mirror foo))\n-" "(refused 19 0)\n"
+    × Gives "(survey (k 01) (letters ACGT) (mirror complement))\n>a\nAC\n" "(refused 13 0)\n"
+unfolding outputOf
+order-of-forms = (refl, refl, refl)
 
 -- Too many classes for any table; too many for the program's; a stray byte and an early letter, with their offsets in the file.
 more-refusals :

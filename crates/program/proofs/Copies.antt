@@ -6,7 +6,6 @@ use mathlib.Core.List.{List, _++_, Forall₂·nil, append-assoc, append-cancel-r
 use Prim.Native.Nat.{ℕ}
 use lib.ListN.{length, length-append}
 use lib.Dec.{eqb}
-use Rattle.laws.specs.Text as text
 use Rattle.lines.proofs.Mapped.{first-mapped}
 use Rattle.settings.specs.Settings.{rankIn, readsUAsT}
 use Rattle.settings.specs.Copies.{tForU, CopyWithT}
@@ -20,9 +19,9 @@ use Rattle.tally.specs.Table.{callGround, add, tableGround}
 use Rattle.tally.proofs.Copies.{same-windows-of-file, same-ready-ground}
 use Rattle.survey.specs.Grammar.{LineEnd, SurveyInput}
 use Rattle.survey.specs.Grammar.LineEnd.{lf, crlf, with-the-input}
-use Rattle.survey.specs.Reading.{readLine}
-use Rattle.survey.proofs.Theorems.{reads-all}
-use Rattle.program.specs.Program.{clearedTable, answerText, surveyText, kindByFirstByte, programFile, lineText, programText}
+use Rattle.survey.proofs.Theorems.{another-end}
+use Rattle.program.specs.Program.{clearedTable, answerText, surveyText, kindByFirstByte, programFile, programText}
+use Rattle.program.proofs.SurveyLines.{survey-line-text}
 
 -- ---- a file
 
@@ -61,35 +60,12 @@ module _ (letters : List ℕ) (k m : ℕ) where
   survey-copied : (line : List ℕ) {file copy : List ℕ} → CopyWithT file copy → SurveyInput (line ++ file) letters k m file
       → SurveyInput (line ++ copy) letters k m copy
   survey-copied line {file} {copy} C S =
-      record {
-        kText = S .kText;
-        mirrorText = S .mirrorText;
-        forms = S .forms;
-        end = S .end;
-        letters-good = S .letters-good;
-        k-good = S .k-good;
-        mirror-good = S .mirror-good;
-        any-order = S .any-order;
-        ends = line-end-copied C (S .ends);
-        whole =
-            let front = text.bytes "(survey " ++ (S .forms ++ (text.bytes ")" ++ S .end)) in
-            let same : line ≡ front = append-cancel-right line front file (S .whole ∙ sym (regrouped file)) in
-            ap (λ (l : List ℕ). l ++ copy) same ∙ regrouped copy;
-      }
-    where
-      regrouped : (rest : List ℕ)
-          → (text.bytes "(survey " ++ (S .forms ++ (text.bytes ")" ++ S .end))) ++ rest
-          ≡ text.bytes "(survey " ++ (S .forms ++ (text.bytes ")" ++ (S .end ++ rest)))
-      regrouped rest = simp append-assoc
-
-  -- What is printed for a survey line and a file.
-  line-text : {input file : List ℕ} → SurveyInput input letters k m file → lineText input (readLine input) ≡ surveyText letters k m (programFile file)
-  unfolding lineText
-  line-text S = let A = reads-all S in rw (A .is, A .letters-there, A .file-there)
+      let same : line ≡ S .line ++ S .end = append-cancel-right line (S .line ++ S .end) file (S .whole ∙ sym (append-assoc (S .line) (S .end) file)) in
+      another-end S (line-end-copied C (S .ends)) (ap (λ (l : List ℕ). l ++ copy) same ∙ append-assoc (S .line) (S .end) copy)
 
   pub same-output : readsUAsT letters ≡ true → (line : List ℕ) {file copy : List ℕ} → CopyWithT file copy → SurveyInput (line ++ file) letters k m file
       → programText (line ++ file) ≡ programText (line ++ copy)
   unfolding programText
   same-output reads line {file} {copy} C S =
       let lengths : length (line ++ file) ≡ length (line ++ copy) = length-append line file ∙ rw (same-length C) (sym (length-append line copy)) in
-      rw (lengths, line-text S, line-text (survey-copied line C S), same-survey-text letters reads k m C)
+      rw (lengths, survey-line-text S, survey-line-text (survey-copied line C S), same-survey-text letters reads k m C)

@@ -18,7 +18,7 @@ use Rattle.tally.proofs.Changes.{length-changes}
 use Rattle.texts.proofs.Decimals.{decimal-length}
 use Rattle.texts.specs.Needs.{Puts}
 use Rattle.texts.proofs.Writing.{measured, then}
-use Rattle.survey.specs.declared.Head.the-variants.{Survey, NoSurvey}
+use Rattle.survey.specs.declared.Head.the-variants.{Survey, OtherOrder, NoSurvey}
 use Rattle.survey.specs.Reading.{readLine}
 use Rattle.listing.specs.Listing.{listingOf}
 use Rattle.listing.specs.Needs.{AllCounts}
@@ -137,6 +137,10 @@ module _ (input : List ℕ) where
     pub no-survey-text : readLine input ≡ NoSurvey → programText input ≡ refusedLine (13, 0)
     unfolding programText lineText
     no-survey-text e = rw (le-ltb 65536 (length input) short, e)
+
+    pub other-order-text : readLine input ≡ OtherOrder → programText input ≡ refusedLine (19, 0)
+    unfolding programText lineText
+    other-order-text e = rw (le-ltb 65536 (length input) short, e)
 
     -- The letters end at the place from + len.
     pub line-text : {from len k m next : ℕ} → readLine input ≡ Survey from len k m next

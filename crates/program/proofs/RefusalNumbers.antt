@@ -1,7 +1,7 @@
--- The program never prints refusal 3: "Refusal 3 then never occurs" (document 02, K10). From the numbers of an add's refusals, by a test that the line of
--- refusal 3 passes and no output of the program does.
+-- Which refusals the program prints. Never 3: "Refusal 3 then never occurs" (document 02, K10). 19 only for lines in another order, and 13 only for inputs that
+-- are neither those nor survey lines (K5). From the numbers of an add's refusals, by a test that the line of one refusal passes and no other output does.
 use mathlib.Core.Path.{_≡_, refl, sym, ap, _∙_, subst}
-use mathlib.Core.Bool.{Bool, false, _&&_, false≢true}
+use mathlib.Core.Bool.{Bool, true, false, _&&_, false≢true}
 use mathlib.Core.Option.{Option, none, some}
 use mathlib.Core.List.{List, [], _∷_}
 use Prim.Native.Nat.{ℕ}
@@ -21,58 +21,102 @@ use Rattle.tally.specs.Table.{tableFull, callGround}
 use Rattle.tally.proofs.RefusalNumbers.{callNumbers, call-numbers}
 use Rattle.texts.specs.Decimals.{decimalFrom, decimal}
 use Rattle.survey.specs.declared.Head.{Head}
-use Rattle.survey.specs.declared.Head.the-variants.{Survey, NoSurvey}
+use Rattle.survey.specs.declared.Head.the-variants.{Survey, OtherOrder, NoSurvey}
 use Rattle.survey.specs.Line.{surveyLine}
+use Rattle.survey.specs.Grammar.{OtherOrderInput}
+use Rattle.survey.specs.Claims.{Neither}
 use Rattle.survey.specs.Reading.{readLine}
+use Rattle.survey.proofs.Theorems.{other-order-only, refuses}
 use Rattle.listing.specs.Listing.{listingOf}
 use Rattle.program.specs.Program.{refusedLine, clearedTable, answerText, surveyText, programFile, lineText, programText}
 
--- (refused 3 .. has an r in its place 1 and a 3 in its place 9.
-three : List ℕ → Bool
-three text = eqb (getD text 1 0) 114 && eqb (getD text 9 0) 51
+-- (refused 19 .. has an r in its place 1 and its number from place 9 on: whether a text has that r, and there the bytes a and b. Of a number of one digit the
+-- second is the space behind it.
+shows : (a b : ℕ) → List ℕ → Bool
+shows a b text = eqb (getD text 1 0) 114 && (eqb (getD text 9 0) a && eqb (getD text 10 0) b)
 
--- Of the numbers in a list none shows the digit 3 there.
-abbrev NoThree : List ℕ → Type 0
-NoThree ns = Each (λ (n : ℕ). (p : ℕ) → three (refusedLine (n, p)) ≡ false) ns
+-- Of the numbers in a list none shows these bytes.
+abbrev ShownByNone : (a b : ℕ) → List ℕ → Type 0
+ShownByNone a b ns = Each (λ (n : ℕ). (p : ℕ) → shows a b (refusedLine (n, p)) ≡ false) ns
 
-no-three : (ns : List ℕ) → NoThree ns → (g : Ground) → NumberIn ns g → three (refusedLine g) ≡ false
-unfolding isIn
-no-three [] each g h = absurd (false≢true h)
-no-three (n ∷ ns) each g h =
-    elim (ℕ-discrete n (g .0)) as (λ _. three (refusedLine g) ≡ false) [
-      | yes e ↦ subst (λ (i : ℕ). three (refusedLine (i, g .1)) ≡ false) e (each .0 (g .1))
-      | no ne ↦ no-three ns (each .1) g (rw (ne-eqb n (g .0) ne) at h)
-    ]
+module _ (a b : ℕ) where
+  by-none : (ns : List ℕ) → ShownByNone a b ns → (g : Ground) → NumberIn ns g → shows a b (refusedLine g) ≡ false
+  unfolding isIn
+  by-none [] each g h = absurd (false≢true h)
+  by-none (n ∷ ns) each g h =
+      elim (ℕ-discrete n (g .0)) as (λ _. shows a b (refusedLine g) ≡ false) [
+        | yes e ↦ subst (λ (i : ℕ). shows a b (refusedLine (i, g .1)) ≡ false) e (each .0 (g .1))
+        | no ne ↦ by-none ns (each .1) g (rw (ne-eqb n (g .0) ne) at h)
+      ]
 
-of-an-add : (kind : Kind) → NoThree (callNumbers 12 kind)
-unfolding three refusedLine decimal decimalFrom
-of-an-add Fasta = (λ _. refl, (λ _. refl, (λ _. refl, (λ _. refl, (λ _. refl, (λ _. refl, (λ _. refl, (λ _. refl, tt))))))))
-of-an-add Fastq =
+  -- Where no refusal of an add shows them, nothing that is printed for settings and a file does.
+  module _ (of-an-add : (kind : Kind) → ShownByNone a b (callNumbers 12 kind)) (letters : List ℕ) (k m : ℕ) (file : File) where
+    answered : (g : Option Ground) → RefusedOnlyBy (callNumbers 12 (file .kind)) g
+        → shows a b (answerText letters k m file (outcome g (fileNumbers (rankIn letters) k file))) ≡ false
+    unfolding shows listingOf surveyLine
+    answered none h = refl
+    answered (some g) h = by-none (callNumbers 12 (file .kind)) (of-an-add (file .kind)) g (h g refl)
+
+    of-a-survey : shows a b (surveyText letters k m file) ≡ false
+    unfolding surveyText
+    of-a-survey =
+        let full = tableFull letters k m clearedTable file in
+        answered (callGround letters k m (length clearedTable) file (ground 12 full)) (call-numbers letters k m (length clearedTable) file 12 full)
+
+  -- If 14 does not show them either, they tell which answer the reader gave: one of the two whose refusal shows them.
+  module _ (of-an-add : (kind : Kind) → ShownByNone a b (callNumbers 12 kind)) (of-length : shows a b (refusedLine (14, 0)) ≡ false)
+      (Q : Head → Type 0) (no-survey : shows a b (refusedLine (13, 0)) ≡ true → Q NoSurvey)
+      (other-order : shows a b (refusedLine (19, 0)) ≡ true → Q OtherOrder) (input : List ℕ) where
+    of-a-line : (h : Head) → shows a b (lineText input h) ≡ true → Q h
+    unfolding lineText
+    of-a-line (Survey from len k m next) z =
+        absurd (false≢true (sym (of-a-survey of-an-add (take len (drop from input)) k m (programFile (drop next input))) ∙ z))
+    of-a-line NoSurvey z = no-survey z
+    of-a-line OtherOrder z = other-order z
+
+    only-by : shows a b (programText input) ≡ true → Q (readLine input)
+    unfolding programText
+    only-by =
+        by-test (λ (text : List ℕ). shows a b text ≡ true → Q (readLine input)) (ltb 65536 (length input))
+        (λ _ z. absurd (false≢true (sym of-length ∙ z))) (λ _. of-a-line (readLine input))
+
+-- ---- 3
+
+no-add-refused-3 : (kind : Kind) → ShownByNone 51 32 (callNumbers 12 kind)
+unfolding shows refusedLine decimal decimalFrom
+no-add-refused-3 Fasta = (λ _. refl, (λ _. refl, (λ _. refl, (λ _. refl, (λ _. refl, (λ _. refl, (λ _. refl, (λ _. refl, tt))))))))
+no-add-refused-3 Fastq =
     (λ _. refl, (λ _. refl, (λ _. refl, (λ _. refl, (λ _. refl, (λ _. refl, (λ _. refl, (λ _. refl, (λ _. refl, (λ _. refl, tt))))))))))
-
-module _ (letters : List ℕ) (k m : ℕ) (file : File) where
-  answered : (g : Option Ground) → RefusedOnlyBy (callNumbers 12 (file .kind)) g
-      → three (answerText letters k m file (outcome g (fileNumbers (rankIn letters) k file))) ≡ false
-  unfolding three listingOf surveyLine
-  answered none h = refl
-  answered (some g) h = no-three (callNumbers 12 (file .kind)) (of-an-add (file .kind)) g (h g refl)
-
-  of-a-survey : three (surveyText letters k m file) ≡ false
-  unfolding surveyText
-  of-a-survey =
-      let full = tableFull letters k m clearedTable file in
-      answered (callGround letters k m (length clearedTable) file (ground 12 full)) (call-numbers letters k m (length clearedTable) file 12 full)
-
-of-a-line : (input : List ℕ) (h : Head) → three (lineText input h) ≡ false
-unfolding three lineText refusedLine decimal decimalFrom
-of-a-line input (Survey from len k m next) = of-a-survey (take len (drop from input)) k m (programFile (drop next input))
-of-a-line input NoSurvey = refl
-
-of-the-program : (input : List ℕ) → three (programText input) ≡ false
-unfolding three programText refusedLine decimal decimalFrom
-of-the-program input = by-test (λ (text : List ℕ). three text ≡ false) (ltb 65536 (length input)) (λ _. refl) (λ _. of-a-line input (readLine input))
 
 -- For no input does the program print (refused 3 P), whatever P is.
 pub never-prints-refusal-3 : (input : List ℕ) (p : ℕ) → programText input ≡ refusedLine (3, p) → ⊥
-unfolding three refusedLine decimal decimalFrom
-never-prints-refusal-3 input p e = false≢true (sym (of-the-program input) ∙ ap three e)
+unfolding shows refusedLine decimal decimalFrom
+never-prints-refusal-3 input p e =
+    only-by 51 32 no-add-refused-3 refl (λ (_ : Head). ⊥) (λ z. false≢true z) (λ z. false≢true z) input (ap (shows 51 32) e)
+
+-- ---- 19 and 13
+
+no-add-refused-19 : (kind : Kind) → ShownByNone 49 57 (callNumbers 12 kind)
+unfolding shows refusedLine decimal decimalFrom
+no-add-refused-19 Fasta = (λ _. refl, (λ _. refl, (λ _. refl, (λ _. refl, (λ _. refl, (λ _. refl, (λ _. refl, (λ _. refl, tt))))))))
+no-add-refused-19 Fastq =
+    (λ _. refl, (λ _. refl, (λ _. refl, (λ _. refl, (λ _. refl, (λ _. refl, (λ _. refl, (λ _. refl, (λ _. refl, (λ _. refl, tt))))))))))
+
+-- Where the program prints (refused 19 P), the forms of the input's line stand in another order.
+pub prints-19-only : (input : List ℕ) (p : ℕ) → programText input ≡ refusedLine (19, p) → OtherOrderInput input
+unfolding shows refusedLine decimal decimalFrom
+prints-19-only input p e =
+    other-order-only input
+    (only-by 49 57 no-add-refused-19 refl (λ (h : Head). h ≡ OtherOrder) (λ z. absurd (false≢true z)) (λ _. refl) input (ap (shows 49 57) e))
+
+no-add-refused-13 : (kind : Kind) → ShownByNone 49 51 (callNumbers 12 kind)
+unfolding shows refusedLine decimal decimalFrom
+no-add-refused-13 Fasta = (λ _. refl, (λ _. refl, (λ _. refl, (λ _. refl, (λ _. refl, (λ _. refl, (λ _. refl, (λ _. refl, tt))))))))
+no-add-refused-13 Fastq =
+    (λ _. refl, (λ _. refl, (λ _. refl, (λ _. refl, (λ _. refl, (λ _. refl, (λ _. refl, (λ _. refl, (λ _. refl, (λ _. refl, tt))))))))))
+
+-- Where it prints (refused 13 P), the input starts neither with a survey line nor with one in another order.
+pub prints-13-only : (input : List ℕ) (p : ℕ) → programText input ≡ refusedLine (13, p) → Neither input
+unfolding shows refusedLine decimal decimalFrom
+prints-13-only input p e =
+    refuses input (only-by 49 51 no-add-refused-13 refl (λ (h : Head). h ≡ NoSurvey) (λ _. refl) (λ z. absurd (false≢true z)) input (ap (shows 49 51) e))

@@ -1,4 +1,4 @@
--- Document 01, "Listing and counter program", and document 02, K1: what the program prints for every input.
+-- Document 01, "Listing and counter program", and document 02, K1 and K5: what the program prints for every input.
 use mathlib.Core.Path.{_≡_}
 use Prim.Native.Nat.{ℕ, _≤_}
 use mathlib.Core.Bool.{cond}
@@ -17,7 +17,7 @@ use Rattle.files.specs.File.{File, fileOf, fileNumbers}
 use Rattle.tally.specs.Table.{add, tableGround, tableAfter}
 use Rattle.texts.specs.Decimals.{decimal}
 use Rattle.survey.specs.declared.Head.{Head}
-use Rattle.survey.specs.declared.Head.the-variants.{Survey, NoSurvey}
+use Rattle.survey.specs.declared.Head.the-variants.{Survey, OtherOrder, NoSurvey}
 use Rattle.survey.specs.Reading.{readLine}
 use Rattle.listing.specs.Listing.{listing}
 
@@ -52,12 +52,14 @@ kindByFirstByte bytes = cond (firstByteIs 64 bytes) Fastq Fasta
 abbrev pub programFile : (bytes : List ℕ) → File
 programFile bytes = fileOf (kindByFirstByte bytes) bytes
 
--- "a survey line, then a sequence file"; 13: "standard input's first line is no survey line".
+-- "a survey line, then a sequence file"; 13: "standard input's first line is no survey line"; "19, not 13, when just these three forms are there .. in
+-- another order; it precedes 1" (document 02, K5).
 unfoldable pub lineText : (input : List ℕ) → Head → List ℕ
 lineText input (Survey from len k m next) = surveyText (take len (drop from input)) k m (programFile (drop next input))
 lineText input NoSurvey = refusedLine (13, 0)
+lineText input OtherOrder = refusedLine (19, 0)
 
--- 14, "standard input above 65,536 bytes", comes before 13.
+-- 14, "standard input above 65,536 bytes", comes before 13 and 19.
 unfoldable pub programText : (input : List ℕ) → List ℕ
 programText input = cond (ltb 65536 (length input)) (refusedLine (14, 0)) (lineText input (readLine input))
 

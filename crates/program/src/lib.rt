@@ -134,6 +134,7 @@ pub fn run(input: &[u8], out: &mut [u8]) -> usize
     }
     match survey::read_line(input) {
         Head::NoSurvey => put_refused(out, Refusal::NoSurveyLine),
+        Head::OtherOrder => put_refused(out, Refusal::FormOrder),
         Head::Survey {
             from,
             len,

@@ -1,4 +1,4 @@
--- Document 01, "Grounds for refusing", and document 02, K1 (15 to 17) and K4 (18): how a call reports a refusal, and the order in which grounds are tried.
+-- Document 01, "Grounds for refusing", and document 02, K1 (15 to 17), K4 (18) and K5 (19): how a call reports a refusal, and the order in which grounds are tried.
 use Prim.Native.Nat.{ℕ}
 use mathlib.Core.Path.{_≡_}
 use mathlib.Core.Bool.{Bool, true, false, cond}
@@ -9,7 +9,7 @@ use lib.Dec.{ltb}
 use Rattle.settings.specs.declared.Filling.{Filling}
 use Rattle.settings.specs.declared.Filling.the-variants.{Filled, Unfilled}
 use Rattle.settings.specs.declared.Refusal.{Refusal}
-use Rattle.settings.specs.declared.Refusal.the-variants.{BadLetters, BadMirror, BadK, WrongLength, TooLarge, ShortBuffer, NoSuchCode, ForeignByte, StrayByte, EarlyLetter, CountsFull, NoSurveyLine, LongInput, BadRecord, QualityLength, QualityByte, CountsLacking}
+use Rattle.settings.specs.declared.Refusal.the-variants.{BadLetters, BadMirror, BadK, WrongLength, TooLarge, ShortBuffer, NoSuchCode, ForeignByte, StrayByte, EarlyLetter, CountsFull, NoSurveyLine, LongInput, BadRecord, QualityLength, QualityByte, CountsLacking, FormOrder}
 
 -- "Each .. gives its number and P": the number, then P.
 abbrev pub Ground : Type 0
@@ -35,6 +35,7 @@ groundOf (BadRecord offset) = (15, offset)
 groundOf (QualityLength offset) = (16, offset)
 groundOf (QualityByte offset) = (17, offset)
 groundOf CountsLacking = (18, 0)
+groundOf FormOrder = (19, 0)
 
 -- What a call answers: its value, or the ground for refusing it.
 pub data Outcome (A : Type 0) : Type 0 where

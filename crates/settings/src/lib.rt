@@ -13,7 +13,7 @@ pub enum Mirror {
     Complement,
 }
 
-// The grounds for refusing, in the order of their numbers 1 to 18, of which 3 is reserved. One that has a P other than 0 holds it.
+// The grounds for refusing, in the order of their numbers 1 to 19, of which 3 is reserved. One that has a P other than 0 holds it.
 pub enum Refusal {
     BadLetters,
     BadMirror,
@@ -32,6 +32,7 @@ pub enum Refusal {
     QualityLength(usize),
     QualityByte(usize),
     CountsLacking,
+    FormOrder,
 }
 
 // The answer of a call that overwrites a lent buffer from its start: how many places it set, or the refusal, which leaves the buffer unchanged.
@@ -62,6 +63,7 @@ pub fn number_of(f: Refusal) -> u64
         Refusal::QualityLength(_) => 16,
         Refusal::QualityByte(_) => 17,
         Refusal::CountsLacking => 18,
+        Refusal::FormOrder => 19,
     }
 }
 
@@ -87,6 +89,7 @@ pub fn place_of(f: Refusal) -> u64
         Refusal::QualityLength(at) => at as u64,
         Refusal::QualityByte(at) => at as u64,
         Refusal::CountsLacking => 0,
+        Refusal::FormOrder => 0,
     }
 }
 

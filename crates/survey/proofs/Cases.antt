@@ -1,40 +1,37 @@
--- Computed checks of the reading's definition: lines with their answers, and inputs that start with no survey line, by the rule that they keep or
--- break. A place counts from the first byte: `Survey 17 4 2 1 50` has its letters in the 4 bytes from 17 on, k 2, mirror 1, and the file from 50 on.
+-- Computed checks of the reading's definition: lines with their answers, lines in another order, and inputs that start with no survey line, by the rule that
+-- they keep or break. A place counts from the first byte: `Survey 17 4 2 1 50` has its letters in the 4 bytes from 17 on, k 2, mirror 1, and the file from 50 on.
 use mathlib.Core.Path.{_≡_, refl}
 use mathlib.Core.List.{List, _∷_, _++_}
 use Prim.Native.Nat.{ℕ}
 use Prim.Native.String.{String}
 use Rattle.laws.specs.Text.{bytes}
 use Rattle.survey.specs.declared.Head.{Head}
-use Rattle.survey.specs.declared.Head.the-variants.{Survey, NoSurvey}
+use Rattle.survey.specs.declared.Head.the-variants.{Survey, OtherOrder, NoSurvey}
 use Rattle.settings.specs.Settings.{isIn}
 use Rattle.survey.specs.Grammar.{spelt}
-use Rattle.survey.specs.Reading.{startsWith, stretch, valueByte, sized, mirrorNumber, numberOf, formOf, formFrom, formAt, nextForm, endAfter, lineEnd, took, headOf, lineFrom, readLine}
+use Rattle.survey.specs.Reading.{startsWith, stretch, valueByte, sized, mirrorNumber, numberOf, formOf, formFrom, formAt, nextForm, endAfter, lineEnd, inOrder, eachOnce, byOrder, headOf, lineFrom, readLine}
 
 -- What an input is read as. A case that unfolds it computes with all that its `unfolding` line names.
 unfoldable reading : List ℕ → Head
-unfolding readLine lineFrom headOf took lineEnd endAfter nextForm formAt formFrom formOf numberOf mirrorNumber
+unfolding readLine lineFrom headOf byOrder inOrder eachOnce lineEnd endAfter nextForm formAt formFrom formOf numberOf mirrorNumber
     sized valueByte isIn stretch startsWith spelt
 reading input = readLine input
 
 abbrev Reads : String → Head → Type 0
 Reads line answer = reading (bytes line) ≡ answer
 
+abbrev InAnotherOrder : String → Type 0
+InAnotherOrder line = Reads line OtherOrder
+
 abbrev Refused : String → Type 0
 Refused line = Reads line NoSurvey
 
 -- ---- survey lines
 
--- "its three inner forms may stand in any order": the worked example's line, and the five other orders.
-any-order :
-    Reads "(survey (letters ACGT) (k 2) (mirror complement))\n>a" (Survey 17 4 2 1 50)
-    × Reads "(survey (letters ACGT) (mirror complement) (k 2))\n>a" (Survey 17 4 2 1 50)
-    × Reads "(survey (k 2) (letters ACGT) (mirror complement))\n>a" (Survey 23 4 2 1 50)
-    × Reads "(survey (k 2) (mirror complement) (letters ACGT))\n>a" (Survey 43 4 2 1 50)
-    × Reads "(survey (mirror complement) (letters ACGT) (k 2))\n>a" (Survey 37 4 2 1 50)
-    × Reads "(survey (mirror complement) (k 2) (letters ACGT))\n>a" (Survey 43 4 2 1 50)
+-- The worked example's line.
+in-order : Reads "(survey (letters ACGT) (k 2) (mirror complement))\n>a" (Survey 17 4 2 1 50)
 unfolding reading
-any-order = (refl, refl, refl, refl, refl, refl)
+in-order = refl
 
 -- "ends in LF, CR LF or with the input"
 line-ends :
@@ -58,6 +55,43 @@ values = (refl, refl, refl, refl, refl)
 high-bytes : reading (bytes "(survey (letters A" ++ (128 ∷ 255 ∷ bytes ") (k 7) (mirror reversal))\n")) ≡ Survey 17 3 7 0 47
 unfolding reading
 high-bytes = refl
+
+-- ---- lines in another order
+
+-- The five other orders, with each end of a line.
+another-order :
+    InAnotherOrder "(survey (letters ACGT) (mirror complement) (k 2))\n>a"
+    × InAnotherOrder "(survey (k 2) (letters ACGT) (mirror complement))\n>a"
+    × InAnotherOrder "(survey (k 2) (mirror complement) (letters ACGT))\r\n>a"
+    × InAnotherOrder "(survey (mirror complement) (letters ACGT) (k 2))"
+    × InAnotherOrder "(survey (mirror complement) (k 2) (letters ACGT))\n"
+unfolding reading
+another-order = (refl, refl, refl, refl, refl)
+
+-- "well formed" is a matter of shape: k 0, k 999, letters that are no capitals and any mirror's name are.
+shapes :
+    InAnotherOrder "(survey (k 0) (letters AB) (mirror reversal))\n"
+    × InAnotherOrder "(survey (k 999) (letters AB) (mirror reversal))\n"
+    × InAnotherOrder "(survey (mirror foo) (k 2) (letters AB))\n"
+    × InAnotherOrder "(survey (letters a-a) (mirror foo) (k 0))\n"
+unfolding reading
+shapes = (refl, refl, refl, refl)
+
+-- What makes a line no survey line makes it no line in another order either: a value that is not well formed, a form that is missing or there twice, a fourth
+-- form, two spaces, no end.
+neither :
+    Refused "(survey (k 01) (letters AB) (mirror reversal))\n"
+    × Refused "(survey (mirror Foo) (letters AB) (k 7))\n"
+    × Refused "(survey (k 7) (letters ) (mirror reversal))\n"
+    × Refused "(survey (k 7) (letters AB))\n"
+    × Refused "(survey (k 7) (letters AB) (k 7))\n"
+    × Refused "(survey (mirror reversal) (letters AB) (letters AB))\n"
+    × Refused "(survey (k 7) (letters AB) (mirror reversal) (k 7))\n"
+    × Refused "(survey (k 7) (letters AB)  (mirror reversal))\n"
+    × Refused "(survey (k 7) (letters AB) (mirror reversal))\r>a\n"
+    × Refused "(survey (k 7) (letters AB) (mirror reversal)"
+unfolding reading
+neither = (refl, refl, refl, refl, refl, refl, refl, refl, refl, refl)
 
 -- ---- no survey lines
 

@@ -12,11 +12,10 @@ use Rattle.survey.specs.declared.Name.{Name}
 use Rattle.survey.specs.declared.Name.the-variants.{Letters, K, Mirror}
 use Rattle.survey.specs.declared.Form.{Form}
 use Rattle.survey.specs.declared.Form.the-variants.{Of, NoForm}
-use Rattle.survey.specs.declared.Forms.{Forms}
 use Rattle.survey.specs.declared.End.{End}
 use Rattle.survey.specs.Needs.{Within}
-use Rattle.survey.specs.Grammar.{parted}
-use Rattle.survey.specs.Reading.{startsWith, stretch, valueByte, sized, numberOf, formOf, formFrom, formAt, nextForm, lineEnd, took, noneMet, headOf, lineFrom}
+use Rattle.survey.specs.Grammar.{lineOf}
+use Rattle.survey.specs.Reading.{startsWith, stretch, valueByte, sized, numberOf, formOf, formFrom, formAt, nextForm, lineEnd, headOf, lineFrom}
 use Rattle.survey.proofs.TextLaws.{starts-at}
 use Rattle.survey.proofs.ByteLaws.{stretch-le}
 use Rattle.survey.proofs.ValueLaws.{ValueText, some-bytes, value-read, value-there}
@@ -31,9 +30,9 @@ opening Mirror = bytes "(mirror "
 abbrev pub written : Name → List ℕ → List ℕ
 written name value = opening name ++ (value ++ bytes ")")
 
--- Three forms in a row as they are written, with what stands before and after them.
+-- A line of three forms as they are written, its end and the file.
 abbrev pub row : (x y z end file : List ℕ) → List ℕ
-row x y z end file = bytes "(survey " ++ (parted x y z ++ (bytes ")" ++ (end ++ file)))
+row x y z end file = lineOf x y z ++ (end ++ file)
 
 -- The same with no brackets around the parts.
 abbrev pub flat : (a x b y c z end file : List ℕ) → List ℕ
@@ -125,7 +124,8 @@ module _ (t : List ℕ) (name : Name) (from n : ℕ) (e : n ≡ stretch (valueBy
   unfolding formFrom formOf
   form-made number s h = rw (← e, s, h)
 
-pub line-made : (t : List ℕ) (at : ℕ) (a b c : Form) (p q r : Forms) (e : End) → a ≡ formAt t at → b ≡ nextForm t a → c ≡ nextForm t b
-    → p ≡ took noneMet a → q ≡ took p b → r ≡ took q c → e ≡ lineEnd t c → headOf e (r .letters) (r .k) (r .mirror) ≡ lineFrom t at
+-- The line's end is known to be e′.
+pub line-made : (t : List ℕ) (at : ℕ) (a b c : Form) (e e′ : End) → a ≡ formAt t at → b ≡ nextForm t a → c ≡ nextForm t b → e ≡ lineEnd t c → e ≡ e′
+    → headOf e′ a b c ≡ lineFrom t at
 unfolding lineFrom
-line-made t at a b c p q r e ha hb hc hp hq hr he = rw (he, hr, hq, hp, hc, hb, ha)
+line-made t at a b c e e′ ha hb hc he told = rw (← told, he, hc, hb, ha)

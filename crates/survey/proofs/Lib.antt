@@ -1,4 +1,5 @@
--- The reading of a survey line: laws of texts, of a form's value, of a form and of a whole line; what we print; the theorems; computed cases.
+-- The reading of a survey line: laws of texts, of a form's value, of a form and of a whole line; what we print, and that settings which are not refused have
+-- no other line; the theorems; computed cases.
 pub mod TextLaws
 pub mod ByteLaws
 pub mod MirrorNames
@@ -8,5 +9,6 @@ pub mod LineEnds
 pub mod LineRead
 pub mod LineThere
 pub mod Written
+pub mod OneLine
 pub mod Theorems
 pub mod Cases

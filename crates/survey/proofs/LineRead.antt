@@ -1,5 +1,5 @@
--- From the reader to the grammar, `line-good`: where the reader finds a survey line, the input is one, with these letters, k, mirror and file.
--- From the laws of one form (FormLaws) and of the line's end (LineEnds).
+-- From the reader to the grammar, `line-good`: where the reader finds a survey line, the input is one, with these letters, k, mirror and file; where it
+-- finds a line in another order, the input is one. From the laws of one form (FormLaws) and of the line's end (LineEnds).
 use mathlib.Core.Path.{_≡_}
 use mathlib.Core.Bool.{true}
 use mathlib.Core.List.{List, _++_}
@@ -14,10 +14,10 @@ use Rattle.survey.specs.declared.Form.the-variants.{Of, NoForm}
 use Rattle.survey.specs.declared.End.{End}
 use Rattle.survey.specs.declared.End.the-variants.{At, Nowhere}
 use Rattle.survey.specs.declared.Head.{Head}
-use Rattle.survey.specs.declared.Head.the-variants.{Survey, NoSurvey}
-use Rattle.survey.specs.Grammar.{parted, AnyOrder, xyz, xzy, yxz, yzx, zxy, zyx, LineEnd, LettersText, KText, MirrorText}
+use Rattle.survey.specs.declared.Head.the-variants.{Survey, OtherOrder, NoSurvey}
+use Rattle.survey.specs.Grammar.{lineOf, xyz, InAnotherOrder, xzy, yxz, yzx, zxy, zyx, LineEnd, LettersText, KText, MirrorText, LineInput, OtherOrderInput}
 use Rattle.survey.specs.Claims.{Says}
-use Rattle.survey.specs.Reading.{startsWith, formAt, nextForm, endAfter, lineEnd, took, headOf, answerOf, lineFrom, readLine}
+use Rattle.survey.specs.Reading.{startsWith, formAt, nextForm, endAfter, lineEnd, inOrder, eachOnce, byOrder, headOf, lineFrom, readLine}
 use Rattle.survey.proofs.TextLaws.{starts-at}
 use Rattle.survey.proofs.ValueLaws.{ValueText}
 use Rattle.survey.proofs.FormLaws.{opening, written, row, flat-row, FormRead, FormGood, form-good}
@@ -32,6 +32,7 @@ joined a x b y c z end file p q r s u v w = rw (p, q, r, s, u, v, w) (flat-row a
 -- What an answer says of the input; that there is no survey line says nothing.
 abbrev pub Fine : List ℕ → Head → Type 0
 Fine t NoSurvey = Unit
+Fine t OtherOrder = OtherOrderInput t
 Fine t (Survey from len k mirror next) = Says t from len k mirror next
 
 -- Three forms and an end, as they were read: the names are a, b and c, the values the l, m and n bytes from f, g and h on, the numbers v, w
@@ -42,62 +43,60 @@ record RowRead (t : List ℕ) (a : Name) (f l v : ℕ) (b : Name) (g m w : ℕ) 
   second : ValueText b (take m (drop g t)) w
   third : ValueText c (take n (drop h t)) x
   first-in : f + l ≤ length t
-  second-in : g + m ≤ length t
-  third-in : h + n ≤ length t
   next-in : next ≤ length t
   ends : LineEnd end (drop next t)
   whole : t ≡ row (written a (take l (drop f t))) (written b (take m (drop g t))) (written c (take n (drop h t))) end (drop next t)
 
--- Such a row, whichever of its forms has the letters, is a survey line.
-fine : {t : List ℕ} {a b c : Name} {f l v g m w h n x next : ℕ} {from len k mirror : ℕ} {kText mirrorText : List ℕ}
-    → RowRead t a f l v b g m w c h n x next → from + len ≤ length t → LettersText (take len (drop from t)) → KText kText k → MirrorText mirrorText mirror
-    → AnyOrder (written Letters (take len (drop from t))) (written K kText) (written Mirror mirrorText)
-    (parted (written a (take l (drop f t))) (written b (take m (drop g t))) (written c (take n (drop h t))))
-    → Says t from len k mirror next
-fine r inside letters k mirror order = record {
-  letters-inside = inside;
-  file-inside = r .next-in;
-  survey = record {
-    kText = _;
-    mirrorText = _;
-    forms = _;
-    end = r .end;
-    letters-good = letters;
-    k-good = k;
-    mirror-good = mirror;
-    any-order = order;
-    ends = r .ends;
-    whole = r .whole;
-  };
+-- Such a row is a line of each order that its three forms, as they stand, have; any of them may be the letters'.
+line-in : {Order : (x y z line : List ℕ) → Type 0} {t : List ℕ} {a b c : Name} {f l v g m w h n x next : ℕ} {letters kText mirrorText : List ℕ} {k mirror : ℕ}
+    → RowRead t a f l v b g m w c h n x next → LettersText letters → KText kText k → MirrorText mirrorText mirror
+    → Order (written Letters letters) (written K kText) (written Mirror mirrorText)
+    (lineOf (written a (take l (drop f t))) (written b (take m (drop g t))) (written c (take n (drop h t))))
+    → LineInput Order t letters k mirror (drop next t)
+line-in r letters k mirror order = record {
+  kText = _;
+  mirrorText = _;
+  line = _;
+  end = r .end;
+  letters-good = letters;
+  k-good = k;
+  mirror-good = mirror;
+  order = order;
+  ends = r .ends;
+  whole = r .whole;
 }
 
+other : {t letters file : List ℕ} {k mirror : ℕ} → LineInput InAnotherOrder t letters k mirror file → OtherOrderInput t
+other L = record { letters = _; k = _; mirror = _; file = _; is = L }
+
 module _ (t : List ℕ) (next f l v g m w h n x : ℕ) where
-  -- Only six of the orders of three names have each once; in the others a form is missing.
+  -- Of the 27 rows of three names one is in order and five have the three names in another order; in the others a name is missing.
   by-order : (a b c : Name) → RowRead t a f l v b g m w c h n x next
-      → Fine t (answerOf (At next) (Of a f l v) (Of b g m w) (Of c h n x))
-  unfolding took headOf
+      → Fine t (headOf (At next) (Of a f l v) (Of b g m w) (Of c h n x))
+  unfolding headOf byOrder inOrder eachOnce
   by-order Letters Letters Letters r = tt
   by-order Letters Letters K r = tt
   by-order Letters Letters Mirror r = tt
   by-order Letters K Letters r = tt
   by-order Letters K K r = tt
-  by-order Letters K Mirror r = fine r (r .first-in) (r .first .0) (r .second) (r .third) xyz
+  by-order Letters K Mirror r =
+      record { letters-inside = r .first-in; file-inside = r .next-in; survey = line-in r (r .first .0) (r .second) (r .third) xyz }
   by-order Letters Mirror Letters r = tt
-  by-order Letters Mirror K r = fine r (r .first-in) (r .first .0) (r .third) (r .second) xzy
+  by-order Letters Mirror K r = other (line-in r (r .first .0) (r .third) (r .second) xzy)
   by-order Letters Mirror Mirror r = tt
   by-order K Letters Letters r = tt
   by-order K Letters K r = tt
-  by-order K Letters Mirror r = fine r (r .second-in) (r .second .0) (r .first) (r .third) yxz
+  by-order K Letters Mirror r = other (line-in r (r .second .0) (r .first) (r .third) yxz)
   by-order K K Letters r = tt
   by-order K K K r = tt
   by-order K K Mirror r = tt
-  by-order K Mirror Letters r = fine r (r .third-in) (r .third .0) (r .first) (r .second) yzx
+  by-order K Mirror Letters r = other (line-in r (r .third .0) (r .first) (r .second) yzx)
   by-order K Mirror K r = tt
   by-order K Mirror Mirror r = tt
   by-order Mirror Letters Letters r = tt
-  by-order Mirror Letters K r = fine r (r .second-in) (r .second .0) (r .third) (r .first) zxy
+  by-order Mirror Letters K r = other (line-in r (r .second .0) (r .third) (r .first) zxy)
   by-order Mirror Letters Mirror r = tt
-  by-order Mirror K Letters r = fine r (r .third-in) (r .third .0) (r .second) (r .first) zyx
+  by-order Mirror K Letters r = other (line-in r (r .third .0) (r .second) (r .first) zyx)
   by-order Mirror K K r = tt
   by-order Mirror K Mirror r = tt
   by-order Mirror Mirror Letters r = tt
@@ -119,8 +118,6 @@ module _ (t : List ℕ) where
           second = B .means _ Q;
           third = C .means _ (E .text);
           first-in = A .inside;
-          second-in = B .inside;
-          third-in = C .inside;
           next-in = E .inside;
           ends = E .ends;
           whole = joined (opening a) (take l (drop f t)) (opening b) (take m (drop g t)) (opening c) (take n (drop h t)) (E .end) (drop next t)
@@ -128,7 +125,7 @@ module _ (t : List ℕ) where
         }
 
     ended : (e : End) → EndGood t (h + n) e
-        → Fine t (answerOf e (Of a f l v) (Of b g m w) (Of c h n x))
+        → Fine t (headOf e (Of a f l v) (Of b g m w) (Of c h n x))
     unfolding headOf
     ended Nowhere E = tt
     ended (At next) E = by-order t next f l v g m w h n x a b c (row-read next E)
@@ -136,26 +133,26 @@ module _ (t : List ℕ) where
   third-good : {a b : Name} {f l v g m w : ℕ} → startsWith (bytes "(survey ") t ≡ true → FormRead t 8 a f l v
       → startsWith (bytes ") ") (drop (f + l) t) ≡ true → FormRead t (f + l + 2) b g m w
       → startsWith (bytes ") ") (drop (g + m) t) ≡ true → (c : Form) → FormGood t (g + m + 2) c
-      → Fine t (answerOf (lineEnd t c) (Of a f l v) (Of b g m w) c)
+      → Fine t (headOf (lineEnd t c) (Of a f l v) (Of b g m w) c)
   unfolding lineEnd headOf
   third-good s A p B q NoForm C = tt
   third-good s A p B q (Of c h n x) C = ended s A p B q C (endAfter t (h + n)) (end-good t (h + n))
 
   second-good : {a : Name} {f l v : ℕ} → startsWith (bytes "(survey ") t ≡ true → FormRead t 8 a f l v
       → startsWith (bytes ") ") (drop (f + l) t) ≡ true → (b : Form) → FormGood t (f + l + 2) b
-      → Fine t (answerOf (lineEnd t (nextForm t b)) (Of a f l v) b (nextForm t b))
+      → Fine t (headOf (lineEnd t (nextForm t b)) (Of a f l v) b (nextForm t b))
   unfolding nextForm lineEnd headOf
   second-good s A p NoForm B = tt
   second-good {a} {f} {l} {v} s A p (Of b g m w) B =
-      by-test (λ (c : Form). Fine t (answerOf (lineEnd t c) (Of a f l v) (Of b g m w) c)) (startsWith (bytes ") ") (drop (g + m) t))
+      by-test (λ (c : Form). Fine t (headOf (lineEnd t c) (Of a f l v) (Of b g m w) c)) (startsWith (bytes ") ") (drop (g + m) t))
       (λ q. third-good s A p B q (formAt t (g + m + 2)) (form-good t (g + m + 2))) (λ q. tt)
 
   first-good : startsWith (bytes "(survey ") t ≡ true → (a : Form) → FormGood t 8 a
-      → Fine t (let b = nextForm t a in let c = nextForm t b in answerOf (lineEnd t c) a b c)
+      → Fine t (let b = nextForm t a in let c = nextForm t b in headOf (lineEnd t c) a b c)
   unfolding nextForm lineEnd headOf
   first-good s NoForm A = tt
   first-good s (Of a f l v) A =
-      by-test (λ (b : Form). Fine t (answerOf (lineEnd t (nextForm t b)) (Of a f l v) b (nextForm t b))) (startsWith (bytes ") ") (drop (f + l) t))
+      by-test (λ (b : Form). Fine t (headOf (lineEnd t (nextForm t b)) (Of a f l v) b (nextForm t b))) (startsWith (bytes ") ") (drop (f + l) t))
       (λ p. second-good s A p (formAt t (f + l + 2)) (form-good t (f + l + 2))) (λ p. tt)
 
   pub line-good : Fine t (readLine t)

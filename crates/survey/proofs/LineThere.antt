@@ -1,5 +1,5 @@
--- From the grammar to the reader, `in-order`: a survey line of the grammar, in any of the six orders, is read. From the laws of one form
--- (FormLaws) and of the line's end (LineEnds).
+-- From the grammar to the reader: a survey line of the grammar is read (`in-order`), and a line with its forms in another order is told (`in-another-order`).
+-- From the laws of one form (FormLaws) and of the line's end (LineEnds).
 use mathlib.Core.Path.{_≡_, refl, sym, ap, _∙_}
 use mathlib.Core.Bool.{true}
 use mathlib.Core.List.{List, _∷_, _++_}
@@ -13,10 +13,10 @@ use Rattle.survey.specs.declared.Form.{Form}
 use Rattle.survey.specs.declared.Form.the-variants.{Of}
 use Rattle.survey.specs.declared.End.{End}
 use Rattle.survey.specs.declared.End.the-variants.{At}
-use Rattle.survey.specs.declared.Head.the-variants.{Survey}
-use Rattle.survey.specs.Grammar.{AnyOrder, xyz, xzy, yxz, yzx, zxy, zyx, LineEnd, LettersText, KText, MirrorText}
+use Rattle.survey.specs.declared.Head.the-variants.{OtherOrder}
+use Rattle.survey.specs.Grammar.{InOrder, xyz, InAnotherOrder, xzy, yxz, yzx, zxy, zyx, LineEnd, LettersText, KText, MirrorText}
 use Rattle.survey.specs.Claims.{Answers}
-use Rattle.survey.specs.Reading.{startsWith, formAt, nextForm, lineEnd, took, headOf, answerOf, lineFrom, readLine}
+use Rattle.survey.specs.Reading.{startsWith, formAt, nextForm, lineEnd, inOrder, eachOnce, byOrder, headOf, lineFrom, readLine}
 use Rattle.survey.proofs.ValueLaws.{ValueText}
 use Rattle.survey.proofs.FormLaws.{opening, written, row, flat-row, form-there, drop-more}
 use Rattle.survey.proofs.LineEnds.{end-there}
@@ -27,14 +27,12 @@ record RowThere (t : List ℕ) (a b c : Name) (x y z : List ℕ) (v w u : ℕ) (
   second : ℕ
   third : ℕ
   next : ℕ
-  is : readLine t ≡ answerOf (At next) (Of a first (length x) v) (Of b second (length y) w) (Of c third (length z) u)
+  is : readLine t ≡ headOf (At next) (Of a first (length x) v) (Of b second (length y) w) (Of c third (length z) u)
   at-first : take (length x) (drop first t) ≡ x
-  at-second : take (length y) (drop second t) ≡ y
-  at-third : take (length z) (drop third t) ≡ z
   rest : drop next t ≡ file
 
 line-is : (t : List ℕ) (a b c : Form) (e : End) → startsWith (bytes "(survey ") t ≡ true → formAt t 8 ≡ a → nextForm t a ≡ b
-    → nextForm t b ≡ c → lineEnd t c ≡ e → readLine t ≡ answerOf e a b c
+    → nextForm t b ≡ c → lineEnd t c ≡ e → readLine t ≡ headOf e a b c
 unfolding readLine lineFrom
 line-is t a b c e s ha hb hc he = rw (s, ha, hb, hc, he)
 
@@ -87,36 +85,24 @@ row-there t a b c {x} {y} {z} {end} {file} {v} {w} {u} A B C E whole =
       next = F .next;
       is = line-is t _ _ _ _ (rw e) (read-there S) (next-is S ∙ read-there T) (next-is T ∙ read-there R) (F .is);
       at-first = taken S;
-      at-second = taken T;
-      at-third = taken R;
       rest = F .rest;
     }
 
-answered : {t letters file : List ℕ} {from len next k mirror : ℕ} → readLine t ≡ Survey from len k mirror next → take len (drop from t) ≡ letters
-    → drop next t ≡ file → Answers t letters k mirror file
-answered e there rest = record { from = _; len = _; next = _; is = e; letters-there = there; file-there = rest }
-
--- So is a line in each of the six orders.
-pub in-order : {t letters kText mirrorText forms end file : List ℕ} {k mirror : ℕ} → LettersText letters → KText kText k
-    → MirrorText mirrorText mirror → LineEnd end file
-    → AnyOrder (written Letters letters) (written K kText) (written Mirror mirrorText) forms
-    → t ≡ bytes "(survey " ++ (forms ++ (bytes ")" ++ (end ++ file))) → Answers t letters k mirror file
-unfolding took headOf
+-- The letters are those of the first form.
+pub in-order : {t letters kText mirrorText line end file : List ℕ} {k mirror : ℕ} → LettersText letters → KText kText k → MirrorText mirrorText mirror
+    → LineEnd end file → InOrder (written Letters letters) (written K kText) (written Mirror mirrorText) line → t ≡ line ++ (end ++ file)
+    → Answers t letters k mirror file
+unfolding headOf byOrder inOrder
 in-order {t} letters k mirror end xyz e =
     let r = row-there t Letters K Mirror (letters, refl) k mirror end e in
-    answered (r .is) (r .at-first) (r .rest)
-in-order {t} letters k mirror end xzy e =
-    let r = row-there t Letters Mirror K (letters, refl) mirror k end e in
-    answered (r .is) (r .at-first) (r .rest)
-in-order {t} letters k mirror end yxz e =
-    let r = row-there t K Letters Mirror k (letters, refl) mirror end e in
-    answered (r .is) (r .at-second) (r .rest)
-in-order {t} letters k mirror end yzx e =
-    let r = row-there t K Mirror Letters k mirror (letters, refl) end e in
-    answered (r .is) (r .at-third) (r .rest)
-in-order {t} letters k mirror end zxy e =
-    let r = row-there t Mirror Letters K mirror (letters, refl) k end e in
-    answered (r .is) (r .at-second) (r .rest)
-in-order {t} letters k mirror end zyx e =
-    let r = row-there t Mirror K Letters mirror k (letters, refl) end e in
-    answered (r .is) (r .at-third) (r .rest)
+    record { from = _; len = _; next = _; is = r .is; letters-there = r .at-first; file-there = r .rest }
+
+pub in-another-order : {t letters kText mirrorText line end file : List ℕ} {k mirror : ℕ} → LettersText letters → KText kText k
+    → MirrorText mirrorText mirror → LineEnd end file → InAnotherOrder (written Letters letters) (written K kText) (written Mirror mirrorText) line
+    → t ≡ line ++ (end ++ file) → readLine t ≡ OtherOrder
+unfolding headOf byOrder inOrder eachOnce
+in-another-order {t} letters k mirror end xzy e = row-there t Letters Mirror K (letters, refl) mirror k end e .is
+in-another-order {t} letters k mirror end yxz e = row-there t K Letters Mirror k (letters, refl) mirror end e .is
+in-another-order {t} letters k mirror end yzx e = row-there t K Mirror Letters k mirror (letters, refl) end e .is
+in-another-order {t} letters k mirror end zxy e = row-there t Mirror Letters K mirror (letters, refl) k end e .is
+in-another-order {t} letters k mirror end zyx e = row-there t Mirror K Letters mirror k (letters, refl) end e .is

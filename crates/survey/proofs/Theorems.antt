@@ -1,20 +1,24 @@
 -- What is proved of reading a survey line: `readLine`, which `read_line` answers, takes exactly the inputs of the grammar, each with the letters,
--- k, mirror and file that it has. From the two directions (LineRead, LineThere) and the line that we print (Written).
-use mathlib.Core.Path.{_≡_}
+-- k, mirror and file that it has, and tells exactly those whose forms stand in another order. From the two directions (LineRead, LineThere), the line that we
+-- print (Written), and that it is the only one for its settings (OneLine).
+use mathlib.Core.Path.{_≡_, refl, sym, _∙_}
 use mathlib.Core.Option.{none}
-use mathlib.Core.List.{List, _++_}
+use mathlib.Core.List.{List, _++_, append-nil, append-cancel-right}
 use Prim.Native.Nat.{ℕ, _≤_}
 use native.Mathlib.Omega.{arith}
+use Rattle.laws.specs.Text.{bytes}
 use Rattle.settings.specs.Settings.{settingsGround}
 use Rattle.settings.proofs.SettingsGrounds.{good-settings}
-use Rattle.survey.specs.declared.Head.the-variants.{Survey, NoSurvey}
+use Rattle.survey.specs.declared.Head.{Head}
+use Rattle.survey.specs.declared.Head.the-variants.{Survey, OtherOrder, NoSurvey}
 use Rattle.survey.specs.Line.{surveyLine}
-use Rattle.survey.specs.Grammar.{LettersText, SurveyInput}
-use Rattle.survey.specs.Claims.{Says, Answers}
+use Rattle.survey.specs.Grammar.{LettersText, LineEnd, with-the-input, SurveyInput, OtherOrderInput}
+use Rattle.survey.specs.Claims.{Says, Answers, Neither}
 use Rattle.survey.specs.Reading.{readLine}
 use Rattle.survey.proofs.LineRead.{line-good}
-use Rattle.survey.proofs.LineThere.{in-order}
+use Rattle.survey.proofs.LineThere.{in-order, in-another-order}
 use Rattle.survey.proofs.Written.{good-letters, line-written}
+use Rattle.survey.proofs.OneLine.{line-printed}
 
 -- Only survey lines are read: where the answer is a survey line, the letters and the file that it points to lie inside the input, and the
 -- input is a survey line with these letters, this k and this mirror, and then the file.
@@ -24,7 +28,14 @@ reads-only t e = rw e at (line-good t)
 -- Every survey line is read: on an input that is a survey line and a file, the answer is a survey line, points to the same letters and the
 -- same file, and has the same k and mirror.
 pub reads-all : {t letters : List ℕ} {k mirror : ℕ} {file : List ℕ} → SurveyInput t letters k mirror file → Answers t letters k mirror file
-reads-all s = in-order (s .letters-good) (s .k-good) (s .mirror-good) (s .ends) (s .any-order) (s .whole)
+reads-all s = in-order (s .letters-good) (s .k-good) (s .mirror-good) (s .ends) (s .order) (s .whole)
+
+-- Only lines in another order, and all of them, are told as such.
+pub other-order-only : (t : List ℕ) → readLine t ≡ OtherOrder → OtherOrderInput t
+other-order-only t e = rw e at (line-good t)
+
+pub other-order-all : {t : List ℕ} → OtherOrderInput t → readLine t ≡ OtherOrder
+other-order-all o = let s = o .is in in-another-order (s .letters-good) (s .k-good) (s .mirror-good) (s .ends) (s .order) (s .whole)
 
 -- So a line has one reading: an input is not a survey line in two ways.
 pub one-reading : {t letters letters′ : List ℕ} {k k′ mirror mirror′ : ℕ} {file file′ : List ℕ} → SurveyInput t letters k mirror file
@@ -34,9 +45,24 @@ one-reading s s′ =
     let b = reads-all s′ in
     (cc (a .letters-there, b .letters-there), cc, cc, cc (a .file-there, b .file-there))
 
--- And what is not read is no survey line.
-pub refuses : {t letters : List ℕ} {k mirror : ℕ} {file : List ℕ} → readLine t ≡ NoSurvey → SurveyInput t letters k mirror file → ⊥
-refuses e s = let a = reads-all s in let z : _≡_ {A = ℕ} 0 1 = cc in omega arith
+-- No input is both a survey line and a line in another order.
+pub one-order : {t letters : List ℕ} {k mirror : ℕ} {file : List ℕ} → SurveyInput t letters k mirror file → OtherOrderInput t → ⊥
+one-order s o = let a = reads-all s in let e = other-order-all o in let z : _≡_ {A = ℕ} 0 1 = cc in omega arith
+
+-- `NoSurvey` is answered for what is neither, and for nothing else.
+pub refuses : (t : List ℕ) → readLine t ≡ NoSurvey → Neither t
+refuses t e = record {
+  no-survey = λ s. let a = reads-all s in let z : _≡_ {A = ℕ} 0 1 = cc in omega arith;
+  no-other-order = λ o. let d = other-order-all o in let z : _≡_ {A = ℕ} 0 1 = cc in omega arith;
+}
+
+pub refuses-all : (t : List ℕ) → Neither t → readLine t ≡ NoSurvey
+refuses-all t n = go (readLine t) refl
+  where
+    go : (h : Head) → readLine t ≡ h → readLine t ≡ NoSurvey
+    go (Survey from len k mirror next) e = absurd (n .no-survey (reads-only t e .survey))
+    go OtherOrder e = absurd (n .no-other-order (other-order-only t e))
+    go NoSurvey e = e
 
 -- A written line is read back: the survey line that is written for letters, a k up to 999 and a mirror 0 or 1 is read as these, whatever
 -- follows it, and what follows it is the file.
@@ -51,3 +77,39 @@ pub reads-back-what-is-printed : (letters : List ℕ) (k mirror : ℕ) (rest : L
 reads-back-what-is-printed letters k mirror rest passed =
     let good = good-settings letters k mirror passed in
     reads-back letters k mirror rest (good-letters letters k mirror passed) (omega (arith, good .short-k)) (good .low)
+
+-- Where settings are not refused, each survey line with them, with LF after it, is the line that we print.
+pub the-line-we-print : {input letters file : List ℕ} {k mirror : ℕ} → settingsGround letters k mirror ≡ none
+    → (S : SurveyInput input letters k mirror file) → S .line ++ bytes "\n" ≡ surveyLine letters k mirror
+the-line-we-print passed S = line-printed passed S
+
+-- "Where the settings are not refused, equal settings then mean equal lines, save for the line's end" (document 02, K5).
+pub equal-settings-equal-lines : {input input′ letters file file′ : List ℕ} {k mirror : ℕ} → settingsGround letters k mirror ≡ none
+    → (S : SurveyInput input letters k mirror file) (S′ : SurveyInput input′ letters k mirror file′) → S .line ≡ S′ .line
+equal-settings-equal-lines passed S S′ =
+    append-cancel-right (S .line) (S′ .line) (bytes "\n") (the-line-we-print passed S ∙ sym (the-line-we-print passed S′))
+
+-- With another end, and another file behind it, a survey line has the same settings.
+pub another-end : {input input′ letters file file′ end : List ℕ} {k mirror : ℕ} (S : SurveyInput input letters k mirror file) → LineEnd end file′
+    → input′ ≡ S .line ++ (end ++ file′) → SurveyInput input′ letters k mirror file′
+another-end S ends whole = record {
+  kText = S .kText;
+  mirrorText = S .mirrorText;
+  line = S .line;
+  end = _;
+  letters-good = S .letters-good;
+  k-good = S .k-good;
+  mirror-good = S .mirror-good;
+  order = S .order;
+  ends = ends;
+  whole = whole;
+}
+
+-- And equal lines mean equal settings, refused ones too: so groups may compare lines by bytes.
+pub equal-lines-equal-settings : {input input′ letters letters′ file file′ : List ℕ} {k k′ mirror mirror′ : ℕ} (S : SurveyInput input letters k mirror file)
+    (S′ : SurveyInput input′ letters′ k′ mirror′ file′) → S .line ≡ S′ .line → (letters ≡ letters′) × (k ≡ k′) × (mirror ≡ mirror′)
+equal-lines-equal-settings S S′ e =
+    let alone = another-end S′ with-the-input (sym (append-nil (S′ .line))) in
+    let same = another-end S with-the-input (sym e ∙ sym (append-nil (S .line))) in
+    let one = one-reading same alone in
+    (one .0, one .1, one .2)

@@ -1,6 +1,6 @@
 -- The survey line that we print is one of the grammar's: k up to 999 in decimal is a k, the two mirrors' names are mirrors, and the letters of
 -- settings that pass the check are letters. From the laws of decimal digits of the texts and what is known of such settings.
-use mathlib.Core.Path.{_≡_, refl, sym, _∙_}
+use mathlib.Core.Path.{_≡_, refl, sym, ap, _∙_}
 use mathlib.Core.Bool.{Bool, true, false, not, _&&_, and-eq-true-iff}
 use mathlib.Core.Option.{none}
 use mathlib.Core.List.{List, [], _∷_, _++_, append-assoc}
@@ -16,7 +16,7 @@ use Rattle.settings.proofs.SettingsGrounds.{good-settings}
 use Rattle.texts.specs.Decimals.{decimal}
 use Rattle.texts.proofs.Decimals.{one-digit, more-digits}
 use Rattle.survey.specs.Line.{mirrorName, surveyLine}
-use Rattle.survey.specs.Grammar.{LetterByte, LettersText, Digit, KText, MirrorText, reversal, complement, spelt, xyz, lf, SurveyInput}
+use Rattle.survey.specs.Grammar.{LetterByte, LettersText, Digit, KText, MirrorText, reversal, complement, spelt, form, lineOf, xyz, lf, SurveyInput}
 use Rattle.survey.proofs.ByteLaws.{letter-above}
 use Rattle.survey.proofs.MirrorNames.{reversal-small, complement-small}
 
@@ -78,18 +78,28 @@ mirror-written zero h = record { some = omega arith; each = reversal-small; numb
 mirror-written (suc zero) h = record { some = omega arith; each = complement-small; number = complement }
 mirror-written (suc (suc m)) h = absurd (omega arith)
 
+-- ---- the line
+
+-- A line in order with these values.
+abbrev pub valuesLine : (letters k mirror : List ℕ) → List ℕ
+valuesLine letters k mirror = lineOf (form (bytes "letters") letters) (form (bytes "k") k) (form (bytes "mirror") mirror)
+
+-- What we print is such a line, and LF.
+pub printed : (letters : List ℕ) (k mirror : ℕ) → valuesLine letters (decimal k) (mirrorName mirror) ++ bytes "\n" ≡ surveyLine letters k mirror
+unfolding surveyLine
+printed letters k mirror = simp append-assoc
+
 pub line-written : (letters : List ℕ) (k mirror : ℕ) (rest : List ℕ) → LettersText letters → k ≤ 999 → mirror ≤ 1
     → SurveyInput (surveyLine letters k mirror ++ rest) letters k mirror rest
-unfolding surveyLine
 line-written letters k mirror rest good small known = record {
   kText = decimal k;
   mirrorText = mirrorName mirror;
-  forms = _;
+  line = valuesLine letters (decimal k) (mirrorName mirror);
   end = bytes "\n";
   letters-good = good;
   k-good = k-written k small;
   mirror-good = mirror-written mirror known;
-  any-order = xyz;
+  order = xyz;
   ends = lf;
-  whole = simp append-assoc;
+  whole = ap (λ (line : List ℕ). line ++ rest) (sym (printed letters k mirror)) ∙ append-assoc (valuesLine letters (decimal k) (mirrorName mirror)) (bytes "\n") rest;
 }

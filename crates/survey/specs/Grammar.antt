@@ -1,5 +1,5 @@
--- Document 01, "Listing and counter program": what a survey line is, sentence by sentence. `SurveyInput` is the whole; it says what the input
--- is made of and nothing of how it is read.
+-- Document 01, "Listing and counter program", and document 02, K5: what a survey line is, sentence by sentence, and what a line with its forms in another
+-- order is. `SurveyInput` and `OtherOrderInput` are the wholes; they say what the input is made of and nothing of how it is read.
 use mathlib.Core.Path.{_≡_}
 use mathlib.Core.Logic.{_≢_}
 use mathlib.Core.List.{List, [], _∷_, _++_}
@@ -50,18 +50,21 @@ pub record MirrorText (text : List ℕ) (mirror : ℕ) : Type 0 where
 abbrev pub form : (name value : List ℕ) → List ℕ
 form name value = bytes "(" ++ (name ++ (bytes " " ++ (value ++ bytes ")")))
 
--- "Forms are parted by one space."
-abbrev pub parted : (x y z : List ℕ) → List ℕ
-parted x y z = x ++ (bytes " " ++ (y ++ (bytes " " ++ z)))
+-- A line of three inner forms, without its end. "Forms are parted by one space."
+abbrev pub lineOf : (x y z : List ℕ) → List ℕ
+lineOf x y z = bytes "(survey " ++ (x ++ (bytes " " ++ (y ++ (bytes " " ++ (z ++ bytes ")")))))
 
--- "its three inner forms may stand in any order, each once"
-pub data AnyOrder (x y z : List ℕ) : List ℕ → Type 0 where
-  xyz : AnyOrder x y z (parted x y z)
-  xzy : AnyOrder x y z (parted x z y)
-  yxz : AnyOrder x y z (parted y x z)
-  yzx : AnyOrder x y z (parted y z x)
-  zxy : AnyOrder x y z (parted z x y)
-  zyx : AnyOrder x y z (parted z y x)
+-- "They now stand as letters, k, mirror" (document 02, K5): x, y and z in this order.
+pub data InOrder (x y z : List ℕ) : (line : List ℕ) → Type 0 where
+  xyz : InOrder x y z (lineOf x y z)
+
+-- "just these three forms are there, each once .. in another order" (K5): the five others.
+pub data InAnotherOrder (x y z : List ℕ) : (line : List ℕ) → Type 0 where
+  xzy : InAnotherOrder x y z (lineOf x z y)
+  yxz : InAnotherOrder x y z (lineOf y x z)
+  yzx : InAnotherOrder x y z (lineOf y z x)
+  zxy : InAnotherOrder x y z (lineOf z x y)
+  zyx : InAnotherOrder x y z (lineOf z y x)
 
 -- "The survey line read ends in LF, CR LF or with the input": the line's end and the file after it.
 pub data LineEnd : (end file : List ℕ) → Type 0 where
@@ -69,16 +72,29 @@ pub data LineEnd : (end file : List ℕ) → Type 0 where
   crlf : {file : List ℕ} → LineEnd (bytes "\r\n") file
   with-the-input : LineEnd [] []
 
--- "The program reads standard input: a survey line, then a sequence file." The input is a survey line with these letters, k and mirror,
--- and then this file.
-pub record SurveyInput (input letters : List ℕ) (k mirror : ℕ) (file : List ℕ) : Type 0 where
+-- The input is a line with the three forms, well formed, as `Order` has them, its end, and then a file. Well formed is a matter of shape: k may be 0 and
+-- the mirror any name.
+pub record LineInput (Order : (x y z line : List ℕ) → Type 0) (input letters : List ℕ) (k mirror : ℕ) (file : List ℕ) : Type 0 where
   pub kText : List ℕ
   pub mirrorText : List ℕ
-  pub forms : List ℕ
+  pub line : List ℕ
   pub end : List ℕ
   pub letters-good : LettersText letters
   pub k-good : KText kText k
   pub mirror-good : MirrorText mirrorText mirror
-  pub any-order : AnyOrder (form (bytes "letters") letters) (form (bytes "k") kText) (form (bytes "mirror") mirrorText) forms
+  pub order : Order (form (bytes "letters") letters) (form (bytes "k") kText) (form (bytes "mirror") mirrorText) line
   pub ends : LineEnd end file
-  pub whole : input ≡ bytes "(survey " ++ (forms ++ (bytes ")" ++ (end ++ file)))
+  pub whole : input ≡ line ++ (end ++ file)
+
+-- "The program reads standard input: a survey line, then a sequence file." The input is a survey line with these letters, k and mirror,
+-- and then this file.
+abbrev pub SurveyInput : (input letters : List ℕ) (k mirror : ℕ) (file : List ℕ) → Type 0
+SurveyInput = LineInput InOrder
+
+-- 19 (document 02, K5): "just these three forms are there, each once and well formed, in another order".
+pub record OtherOrderInput (input : List ℕ) : Type 0 where
+  pub letters : List ℕ
+  pub k : ℕ
+  pub mirror : ℕ
+  pub file : List ℕ
+  pub is : LineInput InAnotherOrder input letters k mirror file

@@ -12,11 +12,10 @@ use Rattle.survey.specs.declared.Name.{Name}
 use Rattle.survey.specs.declared.Name.the-variants.{Letters, K, Mirror}
 use Rattle.survey.specs.declared.Form.{Form}
 use Rattle.survey.specs.declared.Form.the-variants.{Of, NoForm}
-use Rattle.survey.specs.declared.Forms.{Forms}
 use Rattle.survey.specs.declared.End.{End}
 use Rattle.survey.specs.declared.End.the-variants.{At, Nowhere}
 use Rattle.survey.specs.declared.Head.{Head}
-use Rattle.survey.specs.declared.Head.the-variants.{Survey, NoSurvey}
+use Rattle.survey.specs.declared.Head.the-variants.{Survey, OtherOrder, NoSurvey}
 
 -- Whether an input starts with a text.
 unfoldable pub startsWith : (text input : List ℕ) → Bool
@@ -83,28 +82,32 @@ unfoldable pub lineEnd : List ℕ → Form → End
 lineEnd t NoForm = Nowhere
 lineEnd t (Of name from len number) = endAfter t (from + len)
 
--- The forms met, by name, and one more.
-unfoldable pub took : Forms → Form → Forms
-took p NoForm = p
-took p (Of Letters from len number) = record { letters = Of Letters from len number; k = p .k; mirror = p .mirror }
-took p (Of K from len number) = record { letters = p .letters; k = Of K from len number; mirror = p .mirror }
-took p (Of Mirror from len number) = record { letters = p .letters; k = p .k; mirror = Of Mirror from len number }
+-- A form's position among the three, from 0: "They now stand as letters, k, mirror" (document 02, K5).
+abbrev pub position : Name → ℕ
+position Letters = 0
+position K = 1
+position Mirror = 2
 
--- No form is met yet.
-abbrev pub noneMet : Forms
-noneMet = record { letters = NoForm; k = NoForm; mirror = NoForm }
+-- Whether three forms with these names stand each in its position.
+unfoldable pub inOrder : (a b c : Name) → Bool
+inOrder a b c = eqb (position a) 0 && (eqb (position b) 1 && eqb (position c) 2)
 
--- A line has all three forms and an end. There are only three places for forms, so each is there once.
-unfoldable pub headOf : End → (letters k mirror : Form) → Head
-headOf Nowhere letters k mirror = NoSurvey
-headOf (At next) NoForm k mirror = NoSurvey
-headOf (At next) (Of name from len number) NoForm mirror = NoSurvey
-headOf (At next) (Of name from len number) (Of name₁ from₁ len₁ k) NoForm = NoSurvey
-headOf (At next) (Of name from len number) (Of name₁ from₁ len₁ k) (Of name₂ from₂ len₂ mirror) = Survey from len k mirror next
+-- Whether the three names are there "each once": no two are the same.
+unfoldable pub eachOnce : (a b c : Name) → Bool
+eachOnce a b c = not (eqb (position a) (position b)) && (not (eqb (position b) (position c)) && not (eqb (position c) (position a)))
 
--- The answer on three forms in a row.
-abbrev pub answerOf : End → (a b c : Form) → Head
-answerOf end a b c = let p = took (took (took noneMet a) b) c in headOf end (p .letters) (p .k) (p .mirror)
+-- The answer on three forms with these names, which in order are this survey line.
+unfoldable pub byOrder : (a b c : Name) (survey : Head) → Head
+byOrder a b c survey = cond (inOrder a b c) survey (cond (eachOnce a b c) OtherOrder NoSurvey)
+
+-- The answer on three forms in a row and the line's end. In order, k is the second form's number and the mirror the third's.
+unfoldable pub headOf : End → (first second third : Form) → Head
+headOf Nowhere first second third = NoSurvey
+headOf (At next) NoForm second third = NoSurvey
+headOf (At next) (Of a from len number) NoForm third = NoSurvey
+headOf (At next) (Of a from len number) (Of b from₁ len₁ k) NoForm = NoSurvey
+headOf (At next) (Of a from len number) (Of b from₁ len₁ k) (Of c from₂ len₂ mirror) =
+    byOrder a b c (Survey from len k mirror next)
 
 -- Three forms in a row from a place on, and the line's end after them.
 unfoldable pub lineFrom : List ℕ → ℕ → Head
@@ -112,8 +115,9 @@ lineFrom t at =
     let a = formAt t at in
     let b = nextForm t a in
     let c = nextForm t b in
-    answerOf (lineEnd t c) a b c
+    headOf (lineEnd t c) a b c
 
--- Where the letters are, k, the mirror, and the first place after the line; or that the input starts with no survey line.
+-- Where the letters are, k, the mirror, and the first place after the line; or that the line's forms stand in another order; or that the input starts
+-- with no survey line.
 unfoldable pub readLine : List ℕ → Head
 readLine t = cond (startsWith (bytes "(survey ") t) (lineFrom t 8) NoSurvey

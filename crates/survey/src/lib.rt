@@ -1,10 +1,11 @@
-// Reading the survey line that the counter's input starts with: document 01, "Listing and counter program".
+// Reading the survey line that the counter's input starts with: document 01, "Listing and counter program", and document 02, K5.
 // The line is read from left to right: the opening text, three forms, the closing bracket, the line's end.
 mod values; // the value of a form
 
 ghost use mathlib.Core.Path.{_≡_};
+ghost use Rattle.survey.specs.declared.End.the-variants.{At};
 ghost use Rattle.survey.specs.Needs.{Within};
-ghost use Rattle.survey.specs.Reading.{formFrom, formAt, nextForm, endAfter, lineEnd, took as Took, headOf, lineFrom, readLine};
+ghost use Rattle.survey.specs.Reading.{formFrom, formAt, nextForm, endAfter, lineEnd, position as Position, inOrder, eachOnce, byOrder, headOf, lineFrom, readLine};
 use values::number_of;
 use values::sized;
 use values::starts;
@@ -29,20 +30,14 @@ enum Form {
     NoForm,
 }
 
-// The forms met so far, by name.
-struct Forms {
-    letters: Form,
-    k: Form,
-    mirror: Form,
-}
-
 // The place after the survey line.
 enum End {
     At(usize),
     Nowhere,
 }
 
-// A survey line: where its letters are, k, the mirror, and the place after the line's end.
+// A survey line: where its letters are, k, the mirror, and the place after the line's end; or a line whose forms stand in another order (refusal 19); or
+// no such line (13).
 pub enum Head {
     Survey {
         from: usize,
@@ -51,6 +46,7 @@ pub enum Head {
         mirror: u64,
         next: usize,
     },
+    OtherOrder,
     NoSurvey,
 }
 
@@ -132,58 +128,96 @@ fn line_end(input: &[u8], f: Form) -> End
     }
 }
 
-// The forms met, and one more.
-fn took(p: Forms, f: Form) -> Forms
-    ensures { λ r. ⌜ r ≡ Took p f ⌝ }
+// A form's position among the three, from 0: letters, k, mirror.
+fn position(name: Name) -> usize
+    ensures { λ r. ⌜ r ≡ Position name ⌝ }
 {
-    let letters = p.letters;
-    let k = p.k;
-    let mirror = p.mirror;
-    match f {
-        Form::NoForm => p,
-        Form::Of { name, .. } => match name {
-            Name::Letters => Forms {
-                letters: f,
-                k,
-                mirror,
-            },
-            Name::K => Forms {
-                letters,
-                k: f,
-                mirror,
-            },
-            Name::Mirror => Forms {
-                letters,
-                k,
-                mirror: f,
-            },
-        },
+    match name {
+        Name::Letters => 0,
+        Name::K => 1,
+        Name::Mirror => 2,
     }
 }
 
-// The line's answer, where all three forms were met and the line has an end.
-fn head_of(end: End, letters: Form, k: Form, mirror: Form) -> Head
-    ensures { λ r. ⌜ r ≡ headOf end letters k mirror ⌝ }
+// Whether three forms with these names stand each in its position.
+fn in_order(a: Name, b: Name, c: Name) -> bool
+    ensures { λ r. ⌜ r ≡ inOrder a b c ⌝ }
 {
-    let End::At(next) = end else {
+    if position(a) != 0 {
+        return false;
+    }
+    if position(b) != 1 {
+        return false;
+    }
+    position(c) == 2
+}
+
+// Whether the three names are there each once: no two are the same.
+fn each_once(a: Name, b: Name, c: Name) -> bool
+    ensures { λ r. ⌜ r ≡ eachOnce a b c ⌝ }
+{
+    let first = position(a);
+    let second = position(b);
+    let third = position(c);
+    if first == second {
+        return false;
+    }
+    if second == third {
+        return false;
+    }
+    third != first
+}
+
+// The answer on three forms with these names, which in order are this survey line.
+fn by_order(a: Name, b: Name, c: Name, survey: Head) -> Head
+    ensures { λ r. ⌜ r ≡ byOrder a b c survey ⌝ }
+{
+    if in_order(a, b, c) {
+        return survey;
+    }
+    if each_once(a, b, c) {
+        return Head::OtherOrder;
+    }
+    Head::NoSurvey
+}
+
+// The answer on three forms in a row, where the line ends before the place `next`.
+fn head_of(next: usize, first: Form, second: Form, third: Form) -> Head
+    ensures { λ r. ⌜ r ≡ headOf (At next) first second third ⌝ }
+{
+    let Form::Of {
+        name: a,
+        from,
+        len,
+        ..
+    } = first
+    else {
         return Head::NoSurvey;
     };
-    let Form::Of { from, len, .. } = letters else {
+    let Form::Of {
+        name: b,
+        number: k,
+        ..
+    } = second
+    else {
         return Head::NoSurvey;
     };
-    let Form::Of { number: k, .. } = k else {
+    let Form::Of {
+        name: c,
+        number: mirror,
+        ..
+    } = third
+    else {
         return Head::NoSurvey;
     };
-    let Form::Of { number: mirror, .. } = mirror else {
-        return Head::NoSurvey;
-    };
-    Head::Survey {
+    let survey = Head::Survey {
         from,
         len,
         k: k as usize,
         mirror,
         next,
-    }
+    };
+    by_order(a, b, c, survey)
 }
 
 // Three forms in a row, from the first form's place on.
@@ -193,16 +227,10 @@ fn line_from(input: &[u8], at: usize) -> Head
     let first = form_at(input, at);
     let second = next_form(input, first);
     let third = next_form(input, second);
-    let none = Forms {
-        letters: Form::NoForm,
-        k: Form::NoForm,
-        mirror: Form::NoForm,
-    };
-    let p = took(took(took(none, first), second), third);
-    let letters = p.letters;
-    let k = p.k;
-    let mirror = p.mirror;
-    head_of(line_end(input, third), letters, k, mirror)
+    match line_end(input, third) {
+        End::Nowhere => Head::NoSurvey,
+        End::At(next) => head_of(next, first, second, third),
+    }
 }
 
 // Reads the survey line that an input starts with.

@@ -1,4 +1,4 @@
--- `program::run` meets its contract: each test's text is the definition's (`long-text`, `no-survey-text`, `line-text`).
+-- `program::run` meets its contract: each test's text is the definition's (`long-text`, `no-survey-text`, `other-order-text`, `line-text`).
 use mathlib.Core.Path.{_≡_, sym, _∙_}
 use mathlib.Core.List.{List}
 use Prim.Native.Nat.{ℕ}
@@ -8,7 +8,7 @@ use denote.Ref.{now}
 use Rattle.survey.specs.declared.Head.the-variants.{Survey}
 use Rattle.survey.specs.Reading.{readLine}
 use Rattle.survey.proofs.Theorems.{reads-only}
-use Rattle.program.proofs.Outputs.{long-text, no-survey-text, line-text}
+use Rattle.program.proofs.Outputs.{long-text, no-survey-text, other-order-text, line-text}
 use Rattle.program.proofs.run.Statement.{statement}
 use Rattle.program.proofs.run.Tie as tie
 
@@ -32,6 +32,12 @@ enum-told c = search needs
 
 put-refused-requires-2 : tie.Need-put-refused-requires-2
 put-refused-requires-2 c κs = search needs
+
+enum-told-2 : tie.Need-enum-told-2
+enum-told-2 c = search needs
+
+put-refused-requires-3 : tie.Need-put-refused-requires-3
+put-refused-requires-3 c κs = search needs
 
 enum-known-from : tie.Need-enum-known-from
 enum-known-from c = search needs
@@ -66,6 +72,18 @@ same-length-3 c = search needs
 
 returns-3 : tie.Need-returns-3
 returns-3 c =
+    let line = c .before .before in
+    let told = line .before .before in
+    let read = told .before .before in
+    let test = read .before in
+    let input = now (test .before .before .before .args .input) in
+    rw (other-order-text input (test .if1 .left) (sym (read .read-line .ensures) ∙ told .enum-told2 .given .1)) (line .put-refused3 .ensures)
+
+same-length-4 : tie.Need-same-length-4
+same-length-4 c = search needs
+
+returns-4 : tie.Need-returns-4
+returns-4 c =
     let parts = c .before .before in
     let told = parts .before .before .before in
     rw (line-text (input told) (told .before .before .before .if1 .left) (read told)) (parts .put-parts .ensures)
@@ -80,10 +98,14 @@ run-spec =
     read-line-requires
     enum-told
     put-refused-requires-2
+    enum-told-2
+    put-refused-requires-3
     enum-known-from
     add-to
     put-parts-requires
     same-length-2
     returns-2
     same-length-3
-    returns-3)
+    returns-3
+    same-length-4
+    returns-4)

@@ -4,8 +4,8 @@ use Rattle.survey.specs.Reading.{headOf}
 use Rattle.survey.proofs.head_of.Statement.{statement}
 use Rattle.survey.proofs.head_of.Tie as tie
 
-enum-known-end : tie.Need-enum-known-end
-enum-known-end c = search needs
+enum-known-first : tie.Need-enum-known-first
+enum-known-first c = search needs
 
 enum-told : tie.Need-enum-told
 enum-told c = search needs
@@ -14,18 +14,18 @@ returns : tie.Need-returns
 unfolding headOf
 returns c = rw (c .enum-told .given .1)
 
-enum-known-letters : tie.Need-enum-known-letters
-enum-known-letters c = search needs
+enum-known-second : tie.Need-enum-known-second
+enum-known-second c = search needs
 
 enum-told-2 : tie.Need-enum-told-2
 enum-told-2 c = search needs
 
 returns-2 : tie.Need-returns-2
 unfolding headOf
-returns-2 c = rw (c .before .before .before .end .given .1, c .enum-told2 .given .1)
+returns-2 c = rw (c .before .before .before .first .given .1, c .enum-told2 .given .1)
 
-enum-known-k : tie.Need-enum-known-k
-enum-known-k c = search needs
+enum-known-third : tie.Need-enum-known-third
+enum-known-third c = search needs
 
 enum-told-3 : tie.Need-enum-told-3
 enum-told-3 c = search needs
@@ -33,47 +33,33 @@ enum-told-3 c = search needs
 returns-3 : tie.Need-returns-3
 unfolding headOf
 returns-3 c =
-    let letters-met = c .before .before .before in
-    let end-met = letters-met .before .before .before in
-    rw (end-met .end .given .1, letters-met .letters .given .1, c .enum-told3 .given .1)
+    let second-met = c .before .before .before in
+    let first-met = second-met .before .before .before in
+    rw (first-met .first .given .1, second-met .second .given .1, c .enum-told3 .given .1)
 
-enum-known-mirror : tie.Need-enum-known-mirror
-enum-known-mirror c = search needs
-
-enum-told-4 : tie.Need-enum-told-4
-enum-told-4 c = search needs
+by-order-requires : tie.Need-by-order-requires
+by-order-requires c κs = search needs
 
 returns-4 : tie.Need-returns-4
 unfolding headOf
 returns-4 c =
-    let k-met = c .before .before .before in
-    let letters-met = k-met .before .before .before in
-    let end-met = letters-met .before .before .before in
-    rw (end-met .end .given .1, letters-met .letters .given .1, k-met .k .given .1, c .enum-told4 .given .1)
-
-returns-5 : tie.Need-returns-5
-unfolding headOf
-returns-5 c =
-    let mirror-met = c .before in
-    let k-met = mirror-met .before .before .before in
-    let letters-met = k-met .before .before .before in
-    let end-met = letters-met .before .before .before in
-    rw (end-met .end .given .1, letters-met .letters .given .1, k-met .k .given .1, mirror-met .mirror .given .1)
+    let third-met = c .before .before in
+    let second-met = third-met .before .before .before in
+    let first-met = second-met .before .before .before in
+    rw (first-met .first .given .1, second-met .second .given .1, third-met .third .given .1) (c .by-order .ensures)
 
 pub head-of-spec : {M : Type 1} → statement M
 head-of-spec =
     tie.close
     (tie.spec
-    enum-known-end
+    enum-known-first
     enum-told
     returns
-    enum-known-letters
+    enum-known-second
     enum-told-2
     returns-2
-    enum-known-k
+    enum-known-third
     enum-told-3
     returns-3
-    enum-known-mirror
-    enum-told-4
-    returns-4
-    returns-5)
+    by-order-requires
+    returns-4)
