@@ -67,8 +67,8 @@ enum kmer_kinds {
     KMER_FASTQ = 1
 };
 
-/* The grounds for refusing a call, by number. Other numbers are never returned: 3 is reserved, and 13, 14 and 19 are
- * given by the counter program alone. */
+/* The grounds for refusing a call, by number. Other numbers are never returned (13, 14 and 19 are given by the counter
+ * program alone), nor is 3, which is reserved. */
 enum kmer_grounds {
     KMER_BAD_LETTERS = 1,     /* letters are not 2 to 16 different capitals */
     KMER_BAD_MIRROR = 2,      /* mirror is neither 0 nor 1 */

@@ -19,7 +19,7 @@ struct Compared {
     counted: AtomicUsize,
     file_refused: AtomicUsize,
     settings_refused: AtomicUsize,
-    /// Forms in another order: the command has no survey line.
+    /// Forms in another order: the command takes no survey line, so there is nothing to compare.
     other_order: AtomicUsize,
     /// Not in the command's reach: no survey line, an unknown mirror, letters that no argument can hold, an
     /// input above 65,536 bytes, or a table above the program's 16,384 places.

@@ -1,5 +1,6 @@
 -- Which refusals the program prints. Never 3: "Refusal 3 then never occurs" (document 02, K10). 19 only for lines in another order, and 13 only for inputs that
--- are neither those nor survey lines (K5). From the numbers of an add's refusals, by a test that the line of one refusal passes and no other output does.
+-- are neither those nor survey lines (K5). From the numbers of an add's refusals and what is proved of reading a survey line, by a test that the line of one
+-- refusal passes and no other output does.
 use mathlib.Core.Path.{_≡_, refl, sym, ap, _∙_, subst}
 use mathlib.Core.Bool.{Bool, true, false, _&&_, false≢true}
 use mathlib.Core.Option.{Option, none, some}

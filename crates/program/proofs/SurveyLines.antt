@@ -1,6 +1,7 @@
 -- The survey line from the input to the output (document 02, K5). What is printed for a survey line and a file: `survey-line-text`; where that is a listing,
--- it begins with the line that was read, byte for byte: `listing-repeats-the-line`. Forms in another order are refused 19, whatever the settings and the file
--- (`refuses-another-order`), and what is neither 13 (`refuses-neither`); that these are printed only then is in RefusalNumbers. From what is proved of reading
+-- it begins with the line that was read, byte for byte: `listing-repeats-the-line`. In an input that 14 does not refuse, forms in another order are refused 19,
+-- whatever the settings and the file (`refuses-another-order`), and what is neither 13 (`refuses-neither`); that these are printed only then is in
+-- RefusalNumbers. From what is proved of reading
 -- a survey line, and of the line that we print.
 use mathlib.Core.Path.{_≡_, sym, _∙_}
 use mathlib.Core.Option.{none}
@@ -18,7 +19,8 @@ use Rattle.survey.specs.Line.{surveyLine}
 use Rattle.survey.specs.Grammar.{SurveyInput, OtherOrderInput}
 use Rattle.survey.specs.Claims.{Neither}
 use Rattle.survey.specs.Reading.{readLine}
-use Rattle.survey.proofs.Theorems.{reads-all, other-order-all, refuses-all, the-line-we-print}
+use Rattle.survey.proofs.Theorems.{reads-all, other-order-all, refuses-all}
+use Rattle.survey.proofs.OneLine.{the-line-we-print}
 use Rattle.listing.specs.Listing.{listingOf, listing}
 use Rattle.program.specs.Program.{fileLine, refusedLine, clearedTable, surveyText, programFile, lineText, programText}
 use Rattle.program.proofs.Outputs.{no-survey-text, other-order-text}
@@ -45,7 +47,7 @@ module _ {input letters file : List ℕ} {k m : ℕ} (S : SurveyInput input lett
       let text : programText input ≡ counted ++ fileLine numbers = rw (le-ltb 65536 (length input) short, survey-line-text, taken) in
       begins (surveyLine letters k m) _ _ text (sym (the-line-we-print passed S))
 
--- "it precedes 1": nothing is asked of the letters, k, the mirror or the file.
+-- "it precedes 1": nothing is asked of the letters, k, the mirror or the file, but that the input is not too long (14).
 pub refuses-another-order : {input : List ℕ} → OtherOrderInput input → length input ≤ 65536 → programText input ≡ refusedLine (19, 0)
 refuses-another-order {input} o short = other-order-text input short (other-order-all o)
 

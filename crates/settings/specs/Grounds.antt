@@ -1,4 +1,5 @@
--- Document 01, "Grounds for refusing", and document 02, K1 (15 to 17), K4 (18) and K5 (19): how a call reports a refusal, and the order in which grounds are tried.
+-- Document 01, "Grounds for refusing", and document 02, K1 (15 to 17), K4 (18) and K5 (19): how a call reports a refusal, and the order in which grounds are
+-- tried.
 use Prim.Native.Nat.{ℕ}
 use mathlib.Core.Path.{_≡_}
 use mathlib.Core.Bool.{Bool, true, false, cond}

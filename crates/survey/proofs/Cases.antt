@@ -1,5 +1,6 @@
 -- Computed checks of the reading's definition: lines with their answers, lines in another order, and inputs that start with no survey line, by the rule that
--- they keep or break. A place counts from the first byte: `Survey 17 4 2 1 50` has its letters in the 4 bytes from 17 on, k 2, mirror 1, and the file from 50 on.
+-- they keep or break. A place counts from the first byte: `Survey 17 4 2 1 50` has its letters in the 4 bytes from 17 on, k 2, mirror 1, and the file from
+-- 50 on.
 use mathlib.Core.Path.{_≡_, refl}
 use mathlib.Core.List.{List, _∷_, _++_}
 use Prim.Native.Nat.{ℕ}
@@ -20,8 +21,8 @@ reading input = readLine input
 abbrev Reads : String → Head → Type 0
 Reads line answer = reading (bytes line) ≡ answer
 
-abbrev InAnotherOrder : String → Type 0
-InAnotherOrder line = Reads line OtherOrder
+abbrev ToldAsOther : String → Type 0
+ToldAsOther line = Reads line OtherOrder
 
 abbrev Refused : String → Type 0
 Refused line = Reads line NoSurvey
@@ -60,20 +61,20 @@ high-bytes = refl
 
 -- The five other orders, with each end of a line.
 another-order :
-    InAnotherOrder "(survey (letters ACGT) (mirror complement) (k 2))\n>a"
-    × InAnotherOrder "(survey (k 2) (letters ACGT) (mirror complement))\n>a"
-    × InAnotherOrder "(survey (k 2) (mirror complement) (letters ACGT))\r\n>a"
-    × InAnotherOrder "(survey (mirror complement) (letters ACGT) (k 2))"
-    × InAnotherOrder "(survey (mirror complement) (k 2) (letters ACGT))\n"
+    ToldAsOther "(survey (letters ACGT) (mirror complement) (k 2))\n>a"
+    × ToldAsOther "(survey (k 2) (letters ACGT) (mirror complement))\n>a"
+    × ToldAsOther "(survey (k 2) (mirror complement) (letters ACGT))\r\n>a"
+    × ToldAsOther "(survey (mirror complement) (letters ACGT) (k 2))"
+    × ToldAsOther "(survey (mirror complement) (k 2) (letters ACGT))\n"
 unfolding reading
 another-order = (refl, refl, refl, refl, refl)
 
 -- "well formed" is a matter of shape: k 0, k 999, letters that are no capitals and any mirror's name are.
 shapes :
-    InAnotherOrder "(survey (k 0) (letters AB) (mirror reversal))\n"
-    × InAnotherOrder "(survey (k 999) (letters AB) (mirror reversal))\n"
-    × InAnotherOrder "(survey (mirror foo) (k 2) (letters AB))\n"
-    × InAnotherOrder "(survey (letters a-a) (mirror foo) (k 0))\n"
+    ToldAsOther "(survey (k 0) (letters AB) (mirror reversal))\n"
+    × ToldAsOther "(survey (k 999) (letters AB) (mirror reversal))\n"
+    × ToldAsOther "(survey (mirror foo) (k 2) (letters AB))\n"
+    × ToldAsOther "(survey (letters a-a) (mirror foo) (k 0))\n"
 unfolding reading
 shapes = (refl, refl, refl, refl)
 

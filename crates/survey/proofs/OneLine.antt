@@ -1,5 +1,5 @@
--- Equal settings mean equal lines (document 02, K5): where settings are not refused, a survey line with them is the line that we print (`line-printed`). k is
--- spelt in one way only, its decimal digits, and 0 and 1 are the numbers of one mirror each.
+-- What "equal settings then mean equal lines" (document 02, K5) rests on: where settings are not refused, a survey line with them, and LF, is the line that we
+-- print (`the-line-we-print`). k is spelt in one way only, its decimal digits, and 0 and 1 are the numbers of one mirror each.
 use mathlib.Core.Path.{_≡_, refl, sym, ap, _∙_}
 use mathlib.Core.Logic.{_≢_}
 use mathlib.Core.Option.{none}
@@ -64,9 +64,10 @@ line-is xyz = refl
 same-values : (letters : List ℕ) {k k′ mirror mirror′ : List ℕ} → k ≡ k′ → mirror ≡ mirror′ → valuesLine letters k mirror ≡ valuesLine letters k′ mirror′
 same-values letters {k} {k′} {mirror} e f = ap (λ (x : List ℕ). valuesLine letters x mirror) e ∙ ap (valuesLine letters k′) f
 
-pub line-printed : {input letters file : List ℕ} {k mirror : ℕ} → settingsGround letters k mirror ≡ none → (S : SurveyInput input letters k mirror file)
+-- Whatever its end and the file behind it are.
+pub the-line-we-print : {input letters file : List ℕ} {k mirror : ℕ} → settingsGround letters k mirror ≡ none → (S : SurveyInput input letters k mirror file)
     → S .line ++ bytes "\n" ≡ surveyLine letters k mirror
-line-printed {letters = letters} {k = k} {mirror = mirror} passed S =
+the-line-we-print {letters = letters} {k = k} {mirror = mirror} passed S =
     let known = good-settings letters k mirror passed .low in
     let same = same-values letters (k-spelt (S .kText) (S .k-good)) (mirror-named (S .mirror-good .number) known) in
     ap (λ (line : List ℕ). line ++ bytes "\n") (line-is (S .order) ∙ same) ∙ printed letters k mirror

@@ -18,7 +18,7 @@ use Rattle.survey.specs.Reading.{readLine}
 use Rattle.survey.proofs.LineRead.{line-good}
 use Rattle.survey.proofs.LineThere.{in-order, in-another-order}
 use Rattle.survey.proofs.Written.{good-letters, line-written}
-use Rattle.survey.proofs.OneLine.{line-printed}
+use Rattle.survey.proofs.OneLine.{the-line-we-print}
 
 -- Only survey lines are read: where the answer is a survey line, the letters and the file that it points to lie inside the input, and the
 -- input is a survey line with these letters, this k and this mirror, and then the file.
@@ -78,12 +78,7 @@ reads-back-what-is-printed letters k mirror rest passed =
     let good = good-settings letters k mirror passed in
     reads-back letters k mirror rest (good-letters letters k mirror passed) (omega (arith, good .short-k)) (good .low)
 
--- Where settings are not refused, each survey line with them, with LF after it, is the line that we print.
-pub the-line-we-print : {input letters file : List ℕ} {k mirror : ℕ} → settingsGround letters k mirror ≡ none
-    → (S : SurveyInput input letters k mirror file) → S .line ++ bytes "\n" ≡ surveyLine letters k mirror
-the-line-we-print passed S = line-printed passed S
-
--- "Where the settings are not refused, equal settings then mean equal lines, save for the line's end" (document 02, K5).
+-- "Where the settings are not refused, equal settings then mean equal lines, save for the line's end" (document 02, K5): both are the line that we print.
 pub equal-settings-equal-lines : {input input′ letters file file′ : List ℕ} {k mirror : ℕ} → settingsGround letters k mirror ≡ none
     → (S : SurveyInput input letters k mirror file) (S′ : SurveyInput input′ letters k mirror file′) → S .line ≡ S′ .line
 equal-settings-equal-lines passed S S′ =

@@ -101,5 +101,7 @@ line-written letters k mirror rest good small known = record {
   mirror-good = mirror-written mirror known;
   order = xyz;
   ends = lf;
-  whole = ap (λ (line : List ℕ). line ++ rest) (sym (printed letters k mirror)) ∙ append-assoc (valuesLine letters (decimal k) (mirrorName mirror)) (bytes "\n") rest;
+  whole =
+      ap (λ (line : List ℕ). line ++ rest) (sym (printed letters k mirror))
+      ∙ append-assoc (valuesLine letters (decimal k) (mirrorName mirror)) (bytes "\n") rest;
 }

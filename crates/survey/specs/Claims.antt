@@ -1,5 +1,5 @@
 -- What is claimed of the reader, in proofs/Theorems.antt: what an answer says of the input, and what is answered on a survey line. Where the answer is
--- `OtherOrder`, the input is an `OtherOrderInput`.
+-- `OtherOrder`, the input is an `OtherOrderInput`, and where it is `NoSurvey`, it is `Neither`.
 use mathlib.Core.Path.{_≡_}
 use mathlib.Core.List.{List}
 use Prim.Native.Nat.{ℕ, _+_, _≤_}

@@ -1,5 +1,6 @@
--- The survey line as it is read, from left to right with no way back: `read_line` answers what `readLine` says. That these are the lines of
--- `Grammar` and no others is proved in proofs/Theorems.antt. t is the whole input, and a place counts from its first byte.
+-- The survey line as it is read, from left to right with no way back: `read_line` answers what `readLine` says. That what is read is `SurveyInput` and what is
+-- told to be in another order (document 02, K5) is `OtherOrderInput`, and no others, is proved in proofs/Theorems.antt. t is the whole input, and a place
+-- counts from its first byte.
 use Prim.Native.Nat.{ℕ, suc, _+_}
 use mathlib.Core.Bool.{Bool, true, false, not, _&&_, _||_, cond}
 use mathlib.Core.List.{List, [], _∷_}

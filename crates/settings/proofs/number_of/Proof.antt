@@ -1,5 +1,5 @@
--- `settings::number_of` meets its contract: at each variant `groundOf` computes to the number of its arm, one line a variant. By hand, since the prover's own
--- search computes no definition by cases on an enum of 18 variants.
+-- `settings::number_of` meets its contract. The first 18 needs `search` finds; then, one line a variant, `groundOf` computes to the number of its arm. By hand, since
+-- the prover's own search computes no definition by cases on an enum of 18 variants.
 use borrow.Author.Needs.{needs}
 use Rattle.settings.proofs.number_of.Statement.{statement}
 use Rattle.settings.proofs.number_of.Tie as tie

@@ -1,5 +1,5 @@
--- `settings::place_of` meets its contract: at each variant `groundOf` computes to the P of its arm, one line a variant. By hand, since the prover's own
--- search computes no definition by cases on an enum of 18 variants.
+-- `settings::place_of` meets its contract. The first 18 needs `search` finds; then, one line a variant, `groundOf` computes to the P of its arm. By hand, since
+-- the prover's own search computes no definition by cases on an enum of 18 variants.
 use borrow.Author.Needs.{needs}
 use Rattle.settings.proofs.place_of.Statement.{statement}
 use Rattle.settings.proofs.place_of.Tie as tie
