@@ -207,7 +207,8 @@ uint64_t kmer_withdraw(const uint8_t *letters, size_t letters_len, size_t k, uin
                        uint64_t *answer, size_t answer_len);
 
 /*
- * Lists a table: the survey line, a line for each class with a count above 0 by rising code, the total.
+ * Lists a table: the survey line with the number of classes as its last form, a line for each class with a
+ * count above 0 by rising code, the total.
  *   table, table_len  a table that was cleared, and perhaps added to and withdrawn from, with the same settings.
  *                     Only read.
  *   text, text_len    the buffer for the listing and its length in bytes. Its first bytes receive the

@@ -16,8 +16,8 @@ impl Settings<'_> {
     /// let settings = wontirje::Settings::dna(2);
     /// let mut text = Vec::new();
     /// let total = settings.write_listing(&[0, 1, 0, 0, 0, 0, 0, 0, 0, 0], &mut text)?;
-    /// let listing = b"(survey (letters ACGT) (k 2) (mirror complement))\n(count CG 1)\n(total 1)\n";
-    /// assert_eq!((total, &text[..]), (1, &listing[..]));
+    /// let survey = "(survey (letters ACGT) (k 2) (mirror complement) (classes 10))\n";
+    /// assert_eq!((total, text), (1, [survey, "(count CG 1)\n(total 1)\n"].concat().into_bytes()));
     /// # Ok::<(), std::io::Error>(())
     /// ```
     pub fn write_listing(&self, table: &[u32], to: &mut impl Write) -> io::Result<u64> {
@@ -26,7 +26,8 @@ impl Settings<'_> {
         let counts = table.get(..places).ok_or(io::Error::other(short))?;
         to.write_all(b"(survey (letters ")?;
         to.write_all(self.letters)?;
-        writeln!(to, ") (k {}) (mirror {}))", self.k, self.mirror.name())?;
+        // A table has one place for each class, and the survey line ends in their number (document 02, K6).
+        writeln!(to, ") (k {}) (mirror {}) (classes {places}))", self.k, self.mirror.name())?;
         // The line of a class: `(count `, its word, and a space, after which the number is written.
         let mut line = [&b"(count "[..], &vec![b' '; self.k + 1]].concat();
         let mut total = 0;

@@ -168,8 +168,8 @@ impl Settings<'_> {
     /// let settings = wontirje::Settings::dna(2);
     /// let mut text = [0; 100];
     /// let length = settings.listing(&[0, 1, 0, 0, 0, 0, 0, 0, 0, 0], &mut text)?;
-    /// let listing = b"(survey (letters ACGT) (k 2) (mirror complement))\n(count CG 1)\n(total 1)\n";
-    /// assert_eq!(&text[..length], listing);
+    /// let survey = "(survey (letters ACGT) (k 2) (mirror complement) (classes 10))\n";
+    /// assert_eq!(&text[..length], [survey, "(count CG 1)\n(total 1)\n"].concat().as_bytes());
     /// # Ok::<(), wontirje::Refusal>(())
     /// ```
     pub fn listing(&self, table: &[u32], text: &mut [u8]) -> Result<usize, Refusal> {

@@ -31,7 +31,8 @@ fn count(options: &[&str], files: &[&Path]) -> Run {
 #[test]
 fn settings_by_default_are_those_of_dna_and_k_11() {
     let run = run_with(&["count", "-"], b">a\nGATTACAGATT\n");
-    let listing = "(survey (letters ACGT) (k 11) (mirror complement))\n(count AATCTGTAATC 1)\n(total 1)\n";
+    let listing = "(survey (letters ACGT) (k 11) (mirror complement) (classes 2097152))\n\
+        (count AATCTGTAATC 1)\n(total 1)\n";
     assert_eq!((run.status, run.text()), (0, listing));
     assert_eq!(run.complaints(), ["standard input: records 1, letters 11, foreign 0, edge 10, windows 1"]);
 }
@@ -50,13 +51,13 @@ fn rna_is_counted_as_its_copy_with_t() {
     assert_eq!((run.status, run.text()), (0, &LISTING.replace("ACGT", "ACGU")[..]));
     assert_eq!(run.complaints(), told(&rna, NUMBERS));
     let run = count(&["--letters", "ACGU"], &[&dna]);
-    let fewer = "(survey (letters ACGU) (k 2) (mirror complement))\n\
+    let fewer = "(survey (letters ACGU) (k 2) (mirror complement) (classes 10))\n\
         (count CG 1)\n(count GC 1)\n(count AG 1)\n(count AC 1)\n(total 4)\n";
     assert_eq!((run.status, run.text()), (0, fewer));
     assert_eq!(run.complaints(), told(&dna, "records 2, letters 9, foreign 3, edge 2, windows 4"));
     let reads = folder.file("rna.fq", b"@a\nACGUN\n+\nIIIII\n@b\nagcu\n+\nUUUU\n");
     let run = count(&[], &[&rna, &dna, &reads]);
-    let thrice = "(survey (letters ACGT) (k 2) (mirror complement))\n\
+    let thrice = "(survey (letters ACGT) (k 2) (mirror complement) (classes 10))\n\
         (count CG 3)\n(count GC 3)\n(count AG 6)\n(count AC 6)\n(total 18)\n";
     assert_eq!((run.status, run.text()), (0, thrice));
 }

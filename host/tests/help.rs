@@ -66,6 +66,17 @@ fn the_help_of_count_says_how_to_withdraw() {
     }
 }
 
+/// What is said of the number of classes in a listing.
+#[test]
+fn the_help_says_that_a_listing_has_the_number_of_classes() {
+    let told = |arguments: &[&str]| run(arguments).text().split_whitespace().collect::<Vec<_>>().join(" ");
+    let rule = "prints the listing: the survey line with the number of classes, a line for each class";
+    assert!(told(&["help", "count"]).contains(rule), "{}", told(&["help", "count"]));
+    let rule = "A listing from before the number of classes was printed lacks (classes N) at the end of its \
+        first line: it is read too, and standard error says so.";
+    assert!(told(&["help", "histogram"]).contains(rule), "{}", told(&["help", "histogram"]));
+}
+
 /// What is said of RNA.
 #[test]
 fn the_help_says_what_u_is_read_as() {

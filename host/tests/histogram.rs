@@ -1,13 +1,21 @@
-//! `wontirje histogram`: bars by hand for small listings, groups of counts for wide ones, the chart, and
-//! listings that are none.
+//! `wontirje histogram`: bars by hand for small listings, groups of counts for wide ones, the chart, listings
+//! without the number of classes, and listings that are none.
 
 mod run;
 
-use run::{run, run_with, Folder};
+use run::{run, run_as, run_with, Folder, Run, WONTIRJE};
 use std::fs;
+use std::process::Command;
 
-const SURVEY: &str = "(survey (letters ACGT) (k 2) (mirror complement))\n";
+const SURVEY: &str = "(survey (letters ACGT) (k 2) (mirror complement) (classes 10))\n";
 const EXAMPLE: &str = "(count CG 1)\n(count GC 1)\n(count AG 2)\n(count AC 4)\n(total 8)\n";
+const CLASSES: &str = " (classes 10)";
+
+/// What is said of a listing without the number of classes.
+const LACKING: &str = "line 1: no (classes 10): \
+    the listing is from before the number of classes was printed; it is read all the same";
+const DAMAGED: &str = "line 1: the survey line is damaged; \
+    a whole one is as in (survey (letters ACGT) (k 2) (mirror complement) (classes 10))";
 
 /// A listing of classes of one word each with these counts; the words do not matter to a histogram.
 fn listing(counts: &[u64]) -> String {
@@ -44,12 +52,76 @@ fn bars_by_hand() {
 /// A listing with an odd number of letters under complement (document 02, K10).
 #[test]
 fn bars_of_an_odd_alphabet() {
-    let listing = "(survey (letters ABC) (k 1) (mirror complement))\n(count B 1)\n(count A 2)\n(total 3)\n";
+    let listing = "(survey (letters ABC) (k 1) (mirror complement) (classes 2))\n\
+        (count B 1)\n(count A 2)\n(total 3)\n";
     let right = "ABC, k 1, complement: 2 of 2 classes have a count, total 3\ncount  classes\n    \
         1        1  ██████████████████████████████████████████████████\n    \
         2        1  ██████████████████████████████████████████████████\n";
     let run = run_with(&["histogram", "-"], listing.as_bytes());
     assert_eq!((run.status, run.text(), &run.err[..]), (0, right, ""));
+}
+
+/// Document 02, K6: what `wontirje count` prints is read without a word on standard error. The numbers of
+/// classes are by hand.
+#[test]
+fn listings_that_count_prints() {
+    let cases = [
+        ("ACGT", "1", "complement", 2),
+        ("ACGT", "2", "complement", 10),
+        ("ACGT", "2", "reversal", 10),
+        ("ACGT", "3", "complement", 32),
+        ("ACGT", "3", "reversal", 40),
+        ("ACGT", "12", "complement", 8_390_656),
+        ("ABC", "3", "complement", 15),
+        ("ABC", "2", "reversal", 6),
+        ("AT", "25", "complement", 16_777_216),
+        ("ACDEFGHIKLMNPQRT", "6", "reversal", 8_390_656),
+    ];
+    let file = b">a\nACGTTATTAAATTTATATATTATAATAATTA\n";
+    for (letters, k, mirror, classes) in cases {
+        let settings = ["--letters", letters, "--k", k, "--mirror", mirror];
+        let counted = run_with(&[&["count"], &settings[..], &["-"]].concat(), file);
+        let survey = format!("(survey (letters {letters}) (k {k}) (mirror {mirror}) (classes {classes}))");
+        assert_eq!((counted.status, counted.text().lines().next()), (0, Some(&survey[..])));
+        let run = run_with(&["histogram", "-"], &counted.out);
+        assert_eq!((run.status, &run.err[..]), (0, ""), "{survey}");
+        assert!(run.text().contains(&format!(" of {classes} classes have a count, ")), "{}", run.text());
+    }
+    // No table has as many classes as these settings, but a histogram needs none.
+    let survey = "(survey (letters ACGT) (k 31) (mirror complement) (classes 2305843009213693952))\n";
+    let run = run_with(&["histogram", "-"], format!("{survey}(total 0)\n").as_bytes());
+    assert_eq!((run.status, &run.err[..]), (0, ""));
+    let right = "ACGT, k 31, complement: 0 of 2305843009213693952 classes have a count, total 0\n";
+    assert!(run.text().starts_with(right), "{}", run.text());
+}
+
+/// A run for this listing, which has the name counts.txt, with a chart; and the chart where there is one.
+fn drawn(listing: &str) -> (Run, Option<String>) {
+    let folder = Folder::new();
+    folder.file("counts.txt", listing.as_bytes());
+    let mut command = Command::new(WONTIRJE);
+    command.current_dir(&folder).args(["histogram", "--svg", "counts.svg", "counts.txt"]);
+    (run_as(&mut command, b""), fs::read_to_string(folder.path("counts.svg")).ok())
+}
+
+/// A listing from before document 02, K6: bars and chart are those of the listing with the number of classes,
+/// and one line on standard error says what it lacks.
+#[test]
+fn a_listing_without_the_number_of_classes() {
+    let whole = format!("{SURVEY}{EXAMPLE}");
+    let (with, chart) = drawn(&whole);
+    assert_eq!((with.status, &with.err[..], chart.is_some()), (0, "", true));
+    let (without, same_chart) = drawn(&whole.replace(CLASSES, ""));
+    assert_eq!((without.status, without.text()), (0, with.text()));
+    assert_eq!(without.complaints(), [format!("counts.txt: {LACKING}")]);
+    assert!(chart == same_chart, "the charts differ");
+    // What the counter program printed, with the file's numbers, and with the line ends of another system.
+    let printed = format!("{whole}(file (records 2) (letters 9) (foreign 1) (edge 2) (windows 6))\n");
+    for text in [printed.replace(CLASSES, ""), printed.replace(CLASSES, "").replace('\n', "\r\n")] {
+        let run = run_with(&["histogram", "-"], text.as_bytes());
+        assert_eq!((run.status, run.text()), (0, with.text()));
+        assert_eq!(run.complaints(), [format!("standard input: {LACKING}")]);
+    }
 }
 
 /// A bar of few classes beside a long one is still seen; one of none is not.
@@ -166,7 +238,78 @@ fn the_scale_of_the_chart() {
     }
 }
 
-/// Listings that are cut off, changed or none: refused with the line.
+/// A listing is refused for this reason: nothing is printed or drawn, and nothing else is said.
+fn check_refused(listing: &str, reason: &str) {
+    let (run, chart) = drawn(listing);
+    run.check_failed(&format!("counts.txt: {reason}"));
+    assert_eq!(chart, None, "{reason}");
+}
+
+/// Document 02, K6: the number of classes stands once, in digits without leading zeros, and nothing after it.
+#[test]
+fn a_damaged_number_of_classes() {
+    for form in [
+        " ",
+        "(classes 10)",
+        "  (classes 10)",
+        " (classes)",
+        " (classes )",
+        " (classes x)",
+        " (classes 1O)",
+        " (classes 010)",
+        " (classes 00)",
+        " (classes +10)",
+        " (classes -10)",
+        " (classes 10 )",
+        " (classes  10)",
+        " (classes 1 0)",
+        " (classes 10",
+        " (classes 10))",
+        " (classes 10) ",
+        " (classes 10) (classes 10)",
+        " (classes 10) (total 8)",
+        " (Classes 10)",
+        " (class 10)",
+        " classes 10",
+    ] {
+        check_refused(&format!("{SURVEY}{EXAMPLE}").replace(CLASSES, form), DAMAGED);
+    }
+}
+
+/// Document 02, K6: the number of classes stands last, after the other forms and inside of the survey's own.
+#[test]
+fn the_number_of_classes_in_another_place() {
+    for line in [
+        "(survey (classes 10) (letters ACGT) (k 2) (mirror complement))",
+        "(survey (letters ACGT) (classes 10) (k 2) (mirror complement))",
+        "(survey (letters ACGT) (k 2) (classes 10) (mirror complement))",
+        "(survey (letters ACGT) (k 2) (classes 10))",
+        "(survey (letters ACGT) (k 2) (mirror complement)) (classes 10)",
+        "(survey (letters ACGT) (k 2) (mirror complement))(classes 10)",
+        "(survey (letters ACGT) (k 2) (mirror complement (classes 10)))",
+    ] {
+        check_refused(&format!("{line}\n{EXAMPLE}"), DAMAGED);
+    }
+}
+
+/// Document 02, K6: the number of classes is that of the settings. It is told before a fault of a later line.
+#[test]
+fn another_number_of_classes() {
+    let whole = format!("{SURVEY}{EXAMPLE}");
+    // The last two are 10 in 32 and in 64 bits.
+    for told in ["0", "1", "4", "9", "11", "100", "4294967306", "18446744073709551626"] {
+        let reason = format!("line 1: (classes {told}), but these settings have 10 classes");
+        let listing = whole.replace(CLASSES, &format!(" (classes {told})"));
+        check_refused(&listing, &reason);
+        check_refused(&listing.replace("AG 2", "AG 0"), &reason);
+    }
+    let longer = "line 1: (classes 10), but these settings have 32 classes";
+    check_refused(&whole.replace("(k 2)", "(k 3)"), longer);
+    let refused = "line 1: refused 4: k is 0, or there are more than 2^62 words of k letters";
+    check_refused(&whole.replace("(k 2)", "(k 32)"), refused);
+}
+
+/// Listings that are cut off, changed or none: refused with the line, with and without the number of classes.
 #[test]
 fn what_is_no_listing() {
     let whole = format!("{SURVEY}{EXAMPLE}");
@@ -175,8 +318,9 @@ fn what_is_no_listing() {
     let cases = [
         (String::new(), none.to_string()),
         (String::from(">a\nACGT\n"), none.to_string()),
-        (whole.replace("(k 2)", "(k 02)"), none.to_string()),
-        (whole.replace("complement", "both"), none.to_string()),
+        (whole.replace("(survey", "(surveys"), none.to_string()),
+        (whole.replace("(k 2)", "(k 02)"), DAMAGED.to_string()),
+        (whole.replace("complement", "both"), DAMAGED.to_string()),
         (SURVEY.to_string(), String::from("line 2: no total line: the listing is cut off")),
         (whole.replace("(total 8)\n", ""), String::from("line 6: no total line: the listing is cut off")),
         (whole.replace("(total 8)\n", "(total 8"), format!("line 6: {neither}")),
@@ -198,11 +342,16 @@ fn what_is_no_listing() {
         ),
     ];
     for (text, right) in cases {
-        run_with(&["histogram", "-"], text.as_bytes()).check_failed(&format!("standard input: {right}"));
+        for text in [text.replace(CLASSES, ""), text] {
+            run_with(&["histogram", "-"], text.as_bytes()).check_failed(&format!("standard input: {right}"));
+        }
     }
     // Every cut is found out but the one that loses only the last LF.
-    for length in 0..whole.len() - 1 {
-        assert_eq!(run_with(&["histogram", "-"], &whole.as_bytes()[..length]).status, 2, "cut to {length}");
+    for whole in [whole.replace(CLASSES, ""), whole] {
+        for length in 0..whole.len() - 1 {
+            let cut = run_with(&["histogram", "-"], &whole.as_bytes()[..length]);
+            assert_eq!((cut.status, cut.complaints().len()), (2, 1), "cut to {length}: {}", cut.err);
+        }
     }
     run(&["histogram", "/"]).check_failed("/: not read: Is a directory");
     run(&["histogram", "/nowhere"]).check_failed("/nowhere: not read: No such file or directory");

@@ -42,6 +42,21 @@ fn drawn_tables_of_every_size() {
     assert!(tables > 500 && bytes > 20_000_000, "{tables} tables, {bytes} bytes");
 }
 
+/// Document 02, K6: the survey line has the number of classes last.
+#[test]
+fn survey_lines_of_every_size() {
+    for (s, mirror, k) in sizes_up_to(40_000) {
+        let settings = Settings::new(&first_capitals(s), k, mirror);
+        let (classes, name) = (class_count(&settings), lent(&settings).mirror.name());
+        let table = vec![0; classes as usize];
+        check(&lent(&settings), &table);
+        let letters = str::from_utf8(&settings.letters).expect("capitals");
+        let survey = format!("(survey (letters {letters}) (k {k}) (mirror {name}) (classes {classes}))\n");
+        let whole = whole_listing(&lent(&settings), &table);
+        assert_eq!(str::from_utf8(&whole), Ok(&format!("{survey}(total 0)\n")[..]));
+    }
+}
+
 #[test]
 fn tables_that_files_were_added_to() {
     for kind in [Kind::Fasta, Kind::Fastq] {

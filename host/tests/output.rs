@@ -151,7 +151,7 @@ fn refused_files_and_the_new_file() {
     assert_eq!(run(&[&arguments("--strict")[..], &[path, bad]].concat()).status, 1);
     assert_eq!(folder.names(), ["bad.fa"]);
     assert_eq!(run(&[&arguments("--k=3")[..], &[path, bad]].concat()).status, 1);
-    let listing = "(survey (letters ACGT) (k 3) (mirror complement))\n(total 0)\n";
+    let listing = "(survey (letters ACGT) (k 3) (mirror complement) (classes 32))\n(total 0)\n";
     assert_eq!(fs::read_to_string(path).expect("the listing"), listing);
     let both = [&["count", "--no-listing", "--output"].map(AsRef::as_ref)[..], &[path, bad]].concat();
     run(&both).check_failed("--output and --no-listing exclude each other");
@@ -246,7 +246,8 @@ fn standard_output_is_closed_early() {
     check_left_early(&words, 0, 0);
     let wide: String = (1..=100_000).map(|count| format!("(count AAA {count})\n")).collect();
     let sum: u64 = (1..=100_000).sum();
-    let listing = format!("(survey (letters ACGT) (k 3) (mirror complement))\n{wide}(total {sum})\n");
+    let survey = "(survey (letters ACGT) (k 3) (mirror complement) (classes 32))\n";
+    let listing = format!("{survey}{wide}(total {sum})\n");
     let listing = folder.file("listing.txt", listing.as_bytes());
     check_left_early(&["histogram", "--each", listing.to_str().expect("a name")], 0, 0);
 }

@@ -144,7 +144,8 @@ fn a_refused_withdrawal() {
         String::from("part.fa: withdrawn: records 1, letters 4, foreign 0, edge 1, windows 3"),
     ];
     place.check(&arguments[..3], 1, LISTING, &said[..2]);
-    let rest = "(survey (letters ACGT) (k 2) (mirror complement))\n(count CG 1)\n(count AC 2)\n(total 3)\n";
+    let rest = "(survey (letters ACGT) (k 2) (mirror complement) (classes 10))\n\
+        (count CG 1)\n(count AC 2)\n(total 3)\n";
     place.check(&arguments, 1, rest, &said);
     place.check(&[&arguments[..], &["--no-listing"]].concat(), 1, "", &said);
     let strict = [&["--strict", "--output", "counts.txt"], &arguments[..]].concat();
@@ -185,7 +186,7 @@ fn files_that_were_never_counted() {
     place.0.file("other.fa", b">x\nGT\n>y\nCGN\n");
     let other = "records 2, letters 5, foreign 1, edge 2, windows 2";
     let said = [format!("lake.fa: {NUMBERS}"), format!("other.fa: withdrawn: {other}")];
-    let less = "(survey (letters ACGT) (k 2) (mirror complement))\n\
+    let less = "(survey (letters ACGT) (k 2) (mirror complement) (classes 10))\n\
         (count GC 1)\n(count AG 2)\n(count AC 1)\n(total 4)\n";
     place.check(&["lake.fa", "--withdraw", "other.fa"], 0, less, &said);
     let said = [said[0].clone(), format!("other.fa: {other}"), said[1].clone()];

@@ -1,7 +1,7 @@
 //! Runs the counter program: bytes through a pipe into its standard input, what it prints back, also beside the
 //! second counter. Every run must end in time with status 0 and with nothing on standard error.
 
-use crate::second_counter::{answer, answer_kind, first_line, MOST_INPUT};
+use crate::second_counter::{answer, answer_kind, first_line, taken_apart, MOST_INPUT};
 use crate::settings::shown_file;
 use std::collections::BTreeMap;
 use std::env;
@@ -120,14 +120,15 @@ pub fn check_each<T: Sync>(items: &[T], check: impl Fn(&T) + Sync) {
 }
 
 /// The program prints for each input what the second counter prints, and a listing begins with the line that was
-/// read: "equal settings then mean equal lines, save for the line's end" (document 02, K5). Gives how many answers of
-/// each kind there are.
+/// read, in which the number of classes is put before the last bracket: "equal settings then mean equal lines, save
+/// for the line's end" (document 02, K5), and the line that we print "gains a last inner form" (K6). Gives how many
+/// answers of each kind there are.
 pub fn check_beside_second(inputs: &[Vec<u8>]) -> BTreeMap<String, usize> {
     let pairs: Vec<(&Vec<u8>, Vec<u8>)> = inputs.iter().map(|input| (input, answer(input))).collect();
     check_each(&pairs, |(input, right)| check_prints(input, right));
     let mut kinds = BTreeMap::new();
     for (input, right) in &pairs {
-        let same = first_line(input).0 == first_line(right).0;
+        let same = taken_apart(first_line(right).0).is_some_and(|(line, _)| line == first_line(input).0);
         assert!(same || right.starts_with(b"(refused "), "another survey line: input {}", shown_file(input));
         *kinds.entry(answer_kind(right)).or_default() += 1;
     }

@@ -1,7 +1,7 @@
 //! Reads the stored runs of the counter program, vectors/program.txt, vectors/k10_program.txt,
 //! vectors/k01_program.txt, vectors/k02_program.txt, vectors/k03_program.txt, vectors/k04_program.txt,
-//! vectors/k05_program.txt, program/cases.txt and program/fastq.txt, and the lines of program/malformed.txt; the heads
-//! of these files say how they are written.
+//! vectors/k05_program.txt, vectors/k06_program.txt, program/cases.txt and program/fastq.txt, and the lines of
+//! program/malformed.txt; the heads of these files say how they are written.
 
 use crate::program::check_prints;
 use crate::second_counter::answer;
@@ -10,6 +10,10 @@ use crate::vectors::bytes;
 
 /// The survey line of document 01's example, without its end.
 pub const LINE: &[u8] = b"(survey (letters ACGT) (k 2) (mirror complement))";
+
+/// The first line of that example's listing, without its LF: "a last inner form, `(classes 10)` in the document 01
+/// case" (document 02, K6).
+pub const PRINTED: &[u8] = b"(survey (letters ACGT) (k 2) (mirror complement) (classes 10))";
 
 /// A stored run.
 pub struct Case {
@@ -64,9 +68,9 @@ fn cases(text: &'static str, count: usize) -> Vec<Case> {
 }
 
 /// The stored answers of independent reference implementations: so many to document 01 alone, to document 01
-/// with document 02, K10, to these with K1, to these with K2, to these with K3, to these with K4, and to these with
-/// K5.
-pub fn vectors(counts: [usize; 7]) -> Vec<Case> {
+/// with document 02, K10, to these with K1, to these with K2, to these with K3, to these with K4, to these with K5, and
+/// to these with K6. The listings of those before K6 have its number of classes too: the heads of the files tell how.
+pub fn vectors(counts: [usize; 8]) -> Vec<Case> {
     let files = [
         include_str!("../vectors/program.txt"),
         include_str!("../vectors/k10_program.txt"),
@@ -75,6 +79,7 @@ pub fn vectors(counts: [usize; 7]) -> Vec<Case> {
         include_str!("../vectors/k03_program.txt"),
         include_str!("../vectors/k04_program.txt"),
         include_str!("../vectors/k05_program.txt"),
+        include_str!("../vectors/k06_program.txt"),
     ];
     files.into_iter().zip(counts).flat_map(|(text, count)| cases(text, count)).collect()
 }

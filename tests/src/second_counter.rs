@@ -1,7 +1,7 @@
-//! A second counter program, written from document 01 ("Listing and counter program") and document 02, K1, K2 and
-//! K5, and not from the library: from the bytes of standard input to the bytes that are printed. Of the other
-//! references it uses the second coder, the rank of a byte, the grounds for table calls and the records of FASTQ
-//! files; the survey line, the FASTA file, the tallies and the printed lines are its own.
+//! A second counter program, written from document 01 ("Listing and counter program") and document 02, K1, K2, K5
+//! and K6, and not from the library: from the bytes of standard input to the bytes that are printed. Of the other
+//! references it uses the second coder with its number of classes, the rank of a byte, the grounds for table calls
+//! and the records of FASTQ files; the survey line, the FASTA file, the tallies and the printed lines are its own.
 
 use crate::book::{table_ground, Numbers};
 use crate::expected::{coder, Refusal};
@@ -82,8 +82,9 @@ pub fn survey(line: &[u8]) -> Option<Settings> {
 }
 
 /// The three forms of a line, each there once and well formed: their names as they stand, and the settings, good or
-/// bad, that they give in any order. None where the line is something else. No value holds a space, so cutting at
-/// every space gives the name and the value of the three forms, and nothing else.
+/// bad, that they give in any order. None where the line is something else, also where a form is there that only our
+/// own line has: "The line that the program reads has no such form" (document 02, K6). No value holds a space, so
+/// cutting at every space gives the name and the value of the three forms, and nothing else.
 fn forms(line: &[u8]) -> Option<([&[u8]; 3], Settings)> {
     let inner = line.strip_prefix(b"(survey ")?.strip_suffix(b")")?;
     let parts: Vec<&[u8]> = inner.split(|&byte| byte == b' ').collect();
@@ -179,11 +180,29 @@ pub fn file_line([records, letters, foreign, edge, windows]: Numbers) -> String 
     format!("(file {read} (edge {edge}) (windows {windows}))\n")
 }
 
-/// The listing of classes given as canonical word and count, by rising code.
-pub fn listing(settings: &Settings, classes: impl Iterator<Item = (Vec<u8>, u64)>) -> Vec<u8> {
+/// The survey line that we print, without its LF: it "gains a last inner form" (document 02, K6), the number of all
+/// classes, counted or not.
+fn printed_line(settings: &Settings) -> String {
     let letters = String::from_utf8(settings.letters.clone()).expect("capitals");
     let mirror = if settings.mirror == COMPLEMENT { "complement" } else { "reversal" };
-    let mut text = format!("(survey (letters {letters}) (k {}) (mirror {mirror}))\n", settings.k);
+    let classes = coder(settings).classes();
+    format!("(survey (letters {letters}) (k {}) (mirror {mirror}) (classes {classes}))", settings.k)
+}
+
+/// A line that we print, taken apart: the line of its settings, which is closed by the bracket that follows the last
+/// form, and the number in that form. None where the last form is not the number of classes in plain decimal.
+pub fn taken_apart(printed: &[u8]) -> Option<(Vec<u8>, u128)> {
+    let inner = printed.strip_suffix(b"))")?;
+    let name = b" (classes ";
+    let at = inner.windows(name.len()).rposition(|part| part == name)?;
+    let digits = std::str::from_utf8(&inner[at + name.len()..]).ok()?;
+    let number = digits.parse::<u128>().ok().filter(|number| number.to_string() == digits)?;
+    Some(([&inner[..at], b")"].concat(), number))
+}
+
+/// The listing of classes given as canonical word and count, by rising code.
+pub fn listing(settings: &Settings, classes: impl Iterator<Item = (Vec<u8>, u64)>) -> Vec<u8> {
+    let mut text = format!("{}\n", printed_line(settings));
     let mut total = 0;
     for (word, count) in classes.filter(|(_, count)| *count > 0) {
         let spelling: String = word.iter().map(|&rank| settings.letters[rank as usize] as char).collect();

@@ -8,7 +8,7 @@ use crate::draw::{first_capitals, spelled, Random};
 use crate::draw_files::{drawn_letters, foreign_letters};
 use crate::expected::{coder, Refusal};
 use crate::files::{as_fasta, Kind};
-use crate::lent::{check_places, Lent};
+use crate::lent::{check_places, filled, Lent};
 use crate::settings::{good_sizes, shown_file, Settings, COMPLEMENT, REVERSAL};
 
 /// The library works in batches of this many letters, so that lengths about its multiples are tried.
@@ -82,14 +82,19 @@ pub fn answered(
 
 /// Lists a table into a filled buffer of `room` bytes: the answer of kmer_listing and the buffer after it.
 pub fn listed(settings: &Settings, table: &[u32], room: usize) -> (u64, Vec<u8>) {
+    listed_into(settings, table, &filled(room))
+}
+
+/// Lists a table into a buffer that holds these bytes before the call, likewise. The table is only read.
+pub fn listed_into(settings: &Settings, table: &[u32], before: &[u8]) -> (u64, Vec<u8>) {
     let mut letters = Lent::new(&settings.letters);
     let mut lent = Lent::new(table);
-    let mut text = Lent::<u8>::filled(room);
+    let mut text = Lent::new(before);
     // SAFETY: each pointer is NULL with length 0 or points to as many places as the length says; the text is
     // an allocation of its own.
     let answer = unsafe {
         let (k, mirror, from, to) = (settings.k, settings.mirror, lent.pointer(), text.pointer());
-        kmer_listing(letters.pointer(), letters.len(), k, mirror, from, table.len(), to, room)
+        kmer_listing(letters.pointer(), letters.len(), k, mirror, from, table.len(), to, before.len())
     };
     letters.check_unchanged(settings, "letters", &settings.letters);
     lent.check_guards(settings, "table");

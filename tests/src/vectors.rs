@@ -1,7 +1,7 @@
 //! Reads the stored answers of independent reference implementations: vectors/words.txt, those to document 01
-//! alone, vectors/k10_calls.txt, those to document 01 with document 02, K10, and vectors/k02_calls.txt and
-//! vectors/k03_calls.txt, those with K2 and with K3 too; the heads of these files say what their columns are. Holds
-//! the second coder and its grounds against them.
+//! alone, vectors/k10_calls.txt, those to document 01 with document 02, K10, and vectors/k02_calls.txt,
+//! vectors/k03_calls.txt and vectors/k06_listings.txt, those with K2, with K3 and with K6 too; the heads of these files
+//! say what their columns are. Holds the second coder and its grounds against them.
 
 use crate::expected::Refusal;
 use crate::settings::Settings;
@@ -15,11 +15,12 @@ const CODE_BEFORE: u64 = 9;
 /// The name of a file of stored calls, and its text.
 pub type StoredFile = (&'static str, &'static str);
 
-const CALLS: [StoredFile; 4] = [
+const CALLS: [StoredFile; 5] = [
     ("words.txt", include_str!("../vectors/words.txt")),
     ("k10_calls.txt", include_str!("../vectors/k10_calls.txt")),
     ("k02_calls.txt", include_str!("../vectors/k02_calls.txt")),
     ("k03_calls.txt", include_str!("../vectors/k03_calls.txt")),
+    ("k06_listings.txt", include_str!("../vectors/k06_listings.txt")),
 ];
 
 pub struct Vector {
@@ -63,8 +64,9 @@ pub fn rows((name, text): StoredFile, call: &str, count: usize) -> Vec<(String, 
     found
 }
 
-/// The stored calls of one kind: so many of words.txt, then of k10_calls.txt, of k02_calls.txt and of k03_calls.txt.
-pub fn vectors(call: &str, counts: [usize; 4]) -> Vec<Vector> {
+/// The stored calls of one kind: so many of words.txt, then of k10_calls.txt, of k02_calls.txt, of k03_calls.txt and of
+/// k06_listings.txt.
+pub fn vectors(call: &str, counts: [usize; 5]) -> Vec<Vector> {
     CALLS.into_iter().zip(counts).flat_map(|(file, count)| rows(file, call, count)).map(parsed).collect()
 }
 
@@ -100,6 +102,11 @@ impl Vector {
     /// The stored bytes of a reading, a mirroring or a listing, or its refusal.
     pub fn stored_bytes(&self) -> Result<Vec<u8>, Refusal> {
         self.stored_code().map(|length| bytes(self.after)[..length as usize].to_vec())
+    }
+
+    /// The lent byte buffer of a reading, a mirroring or a listing, before the call and after it.
+    pub fn buffers(&self) -> (Vec<u8>, Vec<u8>) {
+        (vec![BYTE_BEFORE; self.room], bytes(self.after))
     }
 
     /// The stored codes along a sequence, or the refusal.

@@ -1,8 +1,10 @@
 //! The listing that kmer_listing writes, beside the second counter's: given and drawn tables, tables that
-//! files were added to, every length of the buffer, the largest tables, and the grounds with their order.
-//! Bytes after the listing, the table, and all of a refused call's buffer must stay as they were.
+//! files were added to, the number of classes in the first line (document 02, K6) for every size, every length of the
+//! buffer, the largest tables, and the grounds with their order. Bytes after the listing, the table, and all of a
+//! refused call's buffer must stay as they were.
 
-use kmer_tests::book::{class_count, table_ground};
+use kmer_tests::book::{class_count, table_ground, MOST_CLASSES};
+use kmer_tests::calls::{self, REFUSED};
 use kmer_tests::draw::*;
 use kmer_tests::draw_inputs::Inputs;
 use kmer_tests::expected::{coder, Refusal};
@@ -11,8 +13,9 @@ use kmer_tests::lent::{check_places, filled, Lent};
 use kmer_tests::second_counter::{answer, first_line, listing};
 use kmer_tests::sequences::two_bit_settings;
 use kmer_tests::settings::*;
-use kmer_tests::tables::{add, cleared, drawn_table, listed, sizes_up_to};
+use kmer_tests::tables::{add, clear, cleared, drawn_table, listed, listed_into, sizes_up_to, Table};
 use kmer_tests::vectors::{places, vectors};
+use std::collections::BTreeSet;
 
 /// Grounds 1, 2, 4, 6 and 7 of the table, then 7 of the text; else the listing.
 fn expected(settings: &Settings, table: &[u32], room: usize) -> Result<Vec<u8>, Refusal> {
@@ -53,13 +56,13 @@ fn check_rooms(settings: &Settings, table: &[u32]) -> usize {
     length
 }
 
-/// The listing of document 01's example, as it is printed there. The place after the last class is not
-/// listed.
+/// The listing of document 01's example, as it is printed there, with document 02, K6: "a last inner form,
+/// `(classes 10)` in the document 01 case". The place after the last class is not listed.
 #[test]
 fn the_example_of_document_01() {
     // AT CG GC TA AG AC AA CC CA GA
     let table = [0, 1, 1, 0, 2, 2, 0, 0, 0, 0, 7];
-    let text = b"(survey (letters ACGT) (k 2) (mirror complement))\n\
+    let text = b"(survey (letters ACGT) (k 2) (mirror complement) (classes 10))\n\
         (count CG 1)\n(count GC 1)\n(count AG 2)\n(count AC 2)\n(total 6)\n";
     for room in [text.len(), text.len() + 1, 4096] {
         check_right(&two_bit_settings(2), &table, room, &Ok(text.to_vec()));
@@ -74,9 +77,9 @@ fn the_example_of_document_01() {
 #[test]
 fn counts_of_all_lengths() {
     let table = [4_294_967_295, 10, 999_999_999, 1, 4_294_967_295, 1_000_000_000];
-    let text = b"(survey (letters ABC) (k 2) (mirror reversal))\n(count AA 4294967295)\n(count BB 10)\n\
-        (count CC 999999999)\n(count AB 1)\n(count AC 4294967295)\n(count BC 1000000000)\n\
-        (total 10589934600)\n";
+    let text = b"(survey (letters ABC) (k 2) (mirror reversal) (classes 6))\n(count AA 4294967295)\n\
+        (count BB 10)\n(count CC 999999999)\n(count AB 1)\n(count AC 4294967295)\n\
+        (count BC 1000000000)\n(total 10589934600)\n";
     let settings = Settings::new(b"ABC", 2, REVERSAL);
     check_right(&settings, &table, 300, &Ok(text.to_vec()));
     check_rooms(&settings, &table);
@@ -86,26 +89,93 @@ fn counts_of_all_lengths() {
     }
 }
 
-/// The stored answers of an independent reference, held against the call and the second counter's listing.
+/// The stored answers of independent references, held against the call, in a buffer that holds what theirs held
+/// before, and against the second counter's listing: the answer and every byte that is left.
 #[test]
 fn stored_listings() {
-    for vector in vectors("listing", [0, 17, 0, 0]) {
+    let mut refused = 0;
+    for vector in vectors("listing", [0, 28, 0, 0, 240]) {
         let table: Vec<u32> = places(vector.given);
-        check_right(&vector.settings, &table, vector.room, &vector.stored_bytes());
+        let stored = vector.stored_bytes();
+        let due = stored.as_ref().map_or_else(Refusal::packed, |text| text.len() as u64);
+        let (before, after) = vector.buffers();
+        let (answer, left) = listed_into(&vector.settings, &table, &before);
+        assert!(answer == due, "{}: kmer_listing is {answer:#x}, stored {due:#x}", vector.line);
+        check_places(&vector.line, &left, &after);
         vector.check_second_bytes(expected(&vector.settings, &table, vector.room));
+        refused += stored.is_err() as usize;
+    }
+    // 20 of those to K10 and 105 of those to K6; the others are written.
+    assert_eq!(refused, 20 + 105);
+}
+
+/// The listing of a table in which no class has a count, written out; the number of classes is as given.
+fn empty_listing(settings: &Settings, classes: u64) -> Vec<u8> {
+    let (letters, k) = (settings.letters.escape_ascii(), settings.k);
+    let mirror = if settings.mirror == COMPLEMENT { "complement" } else { "reversal" };
+    let line = format!("(survey (letters {letters}) (k {k}) (mirror {mirror}) (classes {classes}))");
+    format!("{line}\n(total 0)\n").into_bytes()
+}
+
+/// The number of classes with no formula: the length of a table that kmer_clear asks for; the lowest code that
+/// kmer_word refuses 8; and where there are few words, the number of canonical ones, counted one by one.
+fn check_number_of_classes(settings: &Settings, classes: u64) {
+    let needed = clear(settings, &mut Table::new(&[]));
+    assert_eq!(needed, Refusal { number: 7, p: classes }.packed(), "{settings}: kmer_clear");
+    let k = settings.k;
+    assert_eq!(calls::word(settings, classes - 1, k).0, k as u64, "{settings}: the last code");
+    assert_eq!(calls::word(settings, classes, k).0, REFUSED + 8, "{settings}: the code after the last");
+    if settings.letters.len().pow(k as u32) <= 20_000 {
+        assert_eq!(coder(settings).words_in_order().len() as u64, classes, "{settings}: canonical words");
     }
 }
 
+/// Every size that a table may have. The number in the first line is the number of classes, which has 1 to 8 digits
+/// here, also where none of them is counted.
 #[test]
 fn cleared_tables_of_every_size() {
-    for (s, mirror, k) in sizes_up_to(100_000) {
+    let mut digits = BTreeSet::new();
+    for (s, mirror, k) in sizes_up_to(MOST_CLASSES) {
         let settings = Settings::new(&first_capitals(s), k, mirror);
-        let name = if mirror == COMPLEMENT { "complement" } else { "reversal" };
-        let letters = String::from_utf8(settings.letters.clone()).expect("capitals");
-        let text = format!("(survey (letters {letters}) (k {k}) (mirror {name}))\n(total 0)\n");
-        let mut table = vec![0; class_count(&settings) as usize + 2];
-        table[class_count(&settings) as usize..].fill(5);
-        check_right(&settings, &table, text.len() + 3, &Ok(text.into_bytes()));
+        let classes = class_count(&settings) as usize;
+        let text = empty_listing(&settings, classes as u64);
+        let mut table = vec![0; classes + 2];
+        table[classes..].fill(5);
+        check_right(&settings, &table, text.len() + 3, &Ok(text));
+        check_number_of_classes(&settings, classes as u64);
+        digits.insert(classes.to_string().len());
+    }
+    assert_eq!(digits, (1..=8).collect());
+}
+
+/// Letters, k, mirror, the number of classes, and the length of an empty listing without its form and with it.
+type Measured<'a> = (&'a [u8], usize, u64, u64, [usize; 2]);
+
+/// The number of classes with 1 to 8 digits; all by hand.
+const LENGTHS: [Measured; 8] = [
+    (b"ACGT", 1, COMPLEMENT, 2, [60, 72]),
+    (b"ACGT", 2, COMPLEMENT, 10, [60, 73]),
+    (b"ACGT", 4, COMPLEMENT, 136, [60, 74]),
+    (b"ACGT", 6, REVERSAL, 2080, [58, 73]),
+    (b"AB", 15, COMPLEMENT, 16_384, [59, 75]),
+    (b"ACGT", 10, COMPLEMENT, 524_800, [61, 78]),
+    (b"ACGT", 11, COMPLEMENT, 2_097_152, [61, 79]),
+    (b"AB", 25, COMPLEMENT, 16_777_216, [59, 78]),
+];
+
+/// "A lent buffer too short; P is the length needed": a buffer with the length that was enough before document 02, K6,
+/// is too short, and so is one that lacks a byte of the new length. With just the new length the listing is written.
+#[test]
+fn rooms_about_the_old_and_the_new_length() {
+    for (letters, k, mirror, classes, [old, new]) in LENGTHS {
+        let settings = Settings::new(letters, k, mirror);
+        let table = vec![0; classes as usize];
+        let text = Ok(empty_listing(&settings, classes));
+        for room in [0, old - 1, old, old + 1, new - 1] {
+            check_right(&settings, &table, room, &Err(Refusal { number: 7, p: new as u64 }));
+        }
+        check_right(&settings, &table, new, &text);
+        check_right(&settings, &table, new + 1, &text);
     }
 }
 
@@ -191,7 +261,7 @@ fn a_long_listing() {
 type Faulty<'a> = (&'a [u8], usize, u64, usize, usize, (u64, u64));
 
 /// Where several grounds apply the lowest number wins, and the table comes before the text: written out, with
-/// no reference. An empty listing of ACGT, k 2 has 50 bytes for the survey line and 10 for the total.
+/// no reference. An empty listing of ACGT, k 2 has 63 bytes for the survey line and 10 for the total.
 #[test]
 fn grounds_go_in_number_order() {
     let cases: [Faulty; 16] = [
@@ -209,8 +279,8 @@ fn grounds_go_in_number_order() {
         (b"ACG", 3, 1, 14, 0, (7, 15)),
         (b"ACGT", 2, 1, 9, 0, (7, 10)),
         (b"ACGT", 2, 1, 0, 90, (7, 10)),
-        (b"ACGT", 2, 1, 10, 59, (7, 60)),
-        (b"ACGT", 2, 1, 12, 0, (7, 60)),
+        (b"ACGT", 2, 1, 10, 72, (7, 73)),
+        (b"ACGT", 2, 1, 12, 0, (7, 73)),
     ];
     for (letters, k, mirror, places, room, (number, p)) in cases {
         let settings = Settings::new(letters, k, mirror);
@@ -224,7 +294,7 @@ fn combinations_of_faults_answer_as_the_reference() {
     for settings in good_and_bad_settings() {
         for places in [0, 1, 2, 3, 6, 9, 10, 40, 1000] {
             let table: Vec<u32> = (0..places as u32).map(|place| place % 3 * 50).collect();
-            for room in [0, 1, 59, 60, 80, 100, 1000, 20_000] {
+            for room in [0, 1, 60, 72, 73, 80, 100, 1000, 20_000] {
                 check_right(&settings, &table, room, &expected(&settings, &table, room));
             }
         }

@@ -93,7 +93,7 @@ fn long_buffers_and_long_words() {
 /// The stored answers of the independent references, held against the call and the second coder.
 #[test]
 fn stored_mirrors() {
-    for vector in vectors("mirror", [54, 29, 1, 0]) {
+    for vector in vectors("mirror", [54, 29, 1, 0, 0]) {
         let word = bytes(vector.given);
         check_mirror(&vector.settings, &word, vector.room, &vector.stored_bytes());
         vector.check_second_bytes(mirroring(&vector.settings, &word, vector.room));

@@ -8,7 +8,7 @@ use kmer_tests::vectors::{bytes, vectors};
 
 #[test]
 fn stored_codes() {
-    for vector in vectors("code", [115, 54, 6, 0]) {
+    for vector in vectors("code", [115, 54, 6, 0, 0]) {
         let word = bytes(vector.given);
         check_code(&vector.settings, &word, vector.stored_code());
         vector.check_second_code(coding(&vector.settings, &word));
@@ -17,7 +17,7 @@ fn stored_codes() {
 
 #[test]
 fn stored_words() {
-    for vector in vectors("word", [88, 59, 0, 0]) {
+    for vector in vectors("word", [88, 59, 0, 0, 0]) {
         let code = vector.given.parse().expect("code");
         check_word(&vector.settings, code, vector.room, &vector.stored_bytes());
         vector.check_second_bytes(reading(&vector.settings, code, vector.room));
@@ -26,7 +26,7 @@ fn stored_words() {
 
 #[test]
 fn stored_codes_along_sequences() {
-    for vector in vectors("codes", [0, 19, 197, 240]) {
+    for vector in vectors("codes", [0, 19, 197, 240, 0]) {
         let sequence = bytes(vector.given);
         check_codes(&vector.settings, &sequence, vector.room, &vector.stored_codes());
         vector.check_second_codes(along(&vector.settings, &sequence, vector.room));

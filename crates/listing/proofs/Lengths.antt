@@ -1,4 +1,4 @@
--- How long a listing is: as long as its lines, at most 82 bytes for each class and 92 more. So the length that ground 7 asks for stands beside
+-- How long a listing is: as long as its lines, and no longer than `longest` has it. So the length that ground 7 asks for stands beside
 -- the number of a ground in 64 bits. From the definitions of the lines, the lengths of words and decimals, and the limits of the settings.
 use mathlib.Core.Path.{_≡_, refl}
 use Prim.Native.Nat.{ℕ, zero, suc, _+_, _*_, _<_, _≤_}
@@ -18,7 +18,7 @@ use Rattle.texts.specs.Needs.{Puts}
 use Rattle.texts.proofs.Writing.{measured}
 use Rattle.survey.specs.Line.{mirrorName, surveyLine}
 use Rattle.listing.specs.Listing.{countLine, classLine, countLines, totalLine, listingOf}
-use Rattle.listing.specs.Needs.{AllCounts, lineLength, linesLength}
+use Rattle.listing.specs.Needs.{AllCounts, lineLength, linesLength, longest}
 use Rattle.listing.proofs.Lines.{counts-add-up}
 
 -- Each of some numbers fits 32 bits.
@@ -58,9 +58,11 @@ mirror-length : (m : ℕ) → length (mirrorName m) ≤ 10
 mirror-length zero = omega arith
 mirror-length (suc m) = omega arith
 
-survey-length : (letters : List ℕ) (k m : ℕ) → length letters ≤ 16 → k ≤ 62 → length (surveyLine letters k m) ≤ 64
+survey-length : (letters : List ℕ) (k m : ℕ) → length letters ≤ 16 → k ≤ 62 → classCount letters k m ≤ 16777216 → length (surveyLine letters k m) ≤ 83
 unfolding surveyLine
-survey-length letters k m h g = simp length-append (omega (arith, decimal-length 1 k (omega arith), mirror-length m))
+survey-length letters k m h g few =
+    simp length-append
+    (omega (arith, decimal-length 1 k (omega arith), mirror-length m, decimal-length 7 (classCount letters k m) (omega (arith, few))))
 
 total-length : (n : ℕ) → n < 10000000000000000000 → length (totalLine n) ≤ 28
 unfolding totalLine
@@ -77,8 +79,10 @@ module _ (letters : List ℕ) (k m : ℕ) (counts : List ℕ) (A : AllCounts let
       (omega (arith, A .one-a-class)) in
       simp length-append (omega (arith, lines))
 
-  survey-short : length (surveyLine letters k m) ≤ 64
-  survey-short = let g = good-settings letters k m (A .good) in survey-length letters k m (g .few) (g .short-k)
+  survey-short : length (surveyLine letters k m) ≤ 83
+  survey-short =
+      let g = good-settings letters k m (A .good) in
+      survey-length letters k m (g .few) (g .short-k) (omega (arith, A .one-a-class, A .few))
 
   module _ (small : SmallCounts counts) where
     total-short : length (totalLine (sum counts)) ≤ 28
@@ -89,14 +93,14 @@ module _ (letters : List ℕ) (k m : ℕ) (counts : List ℕ) (A : AllCounts let
         let short = good-settings letters k m (A .good) .short-k in
         sum-le (lines-add-up k) 82 counts (λ i. line-short k (getD counts i 0) short (small i))
 
-    pub listing-length : length (listingOf letters k m counts) ≤ 92 + 82 * length counts
+    pub listing-length : length (listingOf letters k m counts) ≤ longest (length counts)
     listing-length = omega (arith, listing-is, survey-short, all-lines-short, total-short)
 
     -- The places after the survey line and after the total, each written from the start, and the length of the lines between: their sum is the
     -- length of the listing, and no sum on the way is too large.
     pub parts-are : {o o′ s s′ : List ℕ} {survey lines total : ℕ} → Puts o o′ 0 survey (surveyLine letters k m) → lines ≡ linesLength k counts
         → Puts s s′ 0 total (totalLine (sum counts))
-        → (survey + lines + total ≡ length (listingOf letters k m counts)) × (survey + lines + total ≤ 1375731804)
+        → (survey + lines + total ≡ length (listingOf letters k m counts)) × (survey + lines + total ≤ longest 16777216)
     parts-are P lines Q =
         let a = measured P (omega (arith, survey-short)) in
         let b = measured Q (omega (arith, total-short)) in

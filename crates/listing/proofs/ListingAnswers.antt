@@ -17,7 +17,7 @@ use Rattle.tally.proofs.Clearing.{settings-good, classes-bounded, places-enough
 use Rattle.texts.specs.Needs.{Puts}
 use Rattle.texts.proofs.Writing.{from-start}
 use Rattle.listing.specs.Listing.{listingOf, listing, listingGround, Lists}
-use Rattle.listing.specs.Needs.{AllCounts, ListsCounts}
+use Rattle.listing.specs.Needs.{AllCounts, ListsCounts, longest}
 use Rattle.listing.proofs.Lengths.{SmallCounts, listing-length}
 
 -- ---- a text that is written whole or not at all
@@ -93,9 +93,9 @@ small-take (suc n) [] h i = omega arith
 small-take (suc n) (x ∷ xs) h zero = h 0
 small-take (suc n) (x ∷ xs) h (suc i) = small-take n xs (λ j. h (suc j)) i
 
--- Where the grounds before the text's do not apply, a listing has at most 92 + 82 * 16,777,216 bytes.
+-- Where the grounds before the text's do not apply, a listing is no longer than one of 16,777,216 classes may be.
 pub listing-fits : (letters : List ℕ) (k m : ℕ) (table : List ℕ) → clearGround letters k m (length table) ≡ none → SmallCounts table
-    → length (listing letters k m table) ≤ 1375731804
+    → length (listing letters k m table) ≤ longest 16777216
 listing-fits letters k m table passed small =
     let n = classCount letters k m in
     let good = settings-good letters k m _ passed in

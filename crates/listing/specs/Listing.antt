@@ -1,5 +1,5 @@
 -- Document 01, "Listing and counter program": "The listing has the survey line, one line for each class with a count above 0 (rising code,
--- canonical word, count), and the sum of the counts. Every line ends in LF."
+-- canonical word, count), and the sum of the counts. Every line ends in LF." The survey line has the number of classes (document 02, K6).
 use Prim.Native.Nat.{ℕ, zero, suc}
 use mathlib.Core.Option.{Option}
 use mathlib.Core.List.{List, [], _∷_, _++_}

@@ -1,4 +1,5 @@
--- Computed checks of the program's definition: the worked example of document 01 and cases of document 02, K10, K1 and K5, from input to output, and refusals.
+-- Computed checks of the program's definition: the worked example of document 01 and cases of document 02, K10, K1, K5 and K6, from input to output, and
+-- refusals.
 use mathlib.Core.Path.{_≡_, refl}
 use mathlib.Core.List.{List, _++_}
 use Prim.Native.Nat.{ℕ}
@@ -59,6 +60,16 @@ order-of-forms :
 unfolding outputOf
 order-of-forms = (refl, refl, refl)
 
+-- Document 02, K6: "The line that the program reads has no such form." So the line that we print is no survey line, whatever the number, and 13 stands before
+-- 19 and before the grounds of the settings.
+number-of-classes :
+    Gives "(survey (letters ACGT) (k 2) (mirror complement) (classes 10))\n>a\nAC\n" "(refused 13 0)\n"
+    × Gives "(survey (letters ACGT) (k 2) (mirror complement) (classes 11))\n" "(refused 13 0)\n"
+    × Gives "(survey (k 2) (letters ACGT) (mirror complement) (classes 10))\n" "(refused 13 0)\n"
+    × Gives "(survey (letters ACCT) (k 0) (classes 10) (mirror inverse))\n" "(refused 13 0)\n"
+unfolding outputOf
+number-of-classes = (refl, refl, refl, refl)
+
 -- Too many classes for any table; too many for the program's; a stray byte and an early letter, with their offsets in the file.
 more-refusals :
     Gives "(survey (letters ACGT) (k 13) (mirror complement))\n" "(refused 6 0)\n"
@@ -71,7 +82,7 @@ more-refusals = (refl, refl, refl, refl)
 -- Document 01's worked example, from input to output.
 worked-example :
     outputOf "(survey (letters ACGT) (k 2) (mirror complement))\n>a\nACGTN\n>b\nAG\nCT\n"
-    ≡ bytes "(survey (letters ACGT) (k 2) (mirror complement))\n(count CG 1)\n(count GC 1)\n(count AG 2)\n(count AC 2)\n(total 6)\n"
+    ≡ bytes "(survey (letters ACGT) (k 2) (mirror complement) (classes 10))\n(count CG 1)\n(count GC 1)\n(count AG 2)\n(count AC 2)\n(total 6)\n"
     ++ bytes "(file (records 2) (letters 9) (foreign 1) (edge 2) (windows 6))\n"
 unfolding outputOf
 worked-example = refl
@@ -79,7 +90,7 @@ worked-example = refl
 -- Document 02, K10: three letters under complement. B, its own mirror, has the code 0, A and C have the code 1.
 odd-alphabet :
     outputOf "(survey (letters ABC) (k 1) (mirror complement))\n>a\nABCB\n"
-    ≡ bytes "(survey (letters ABC) (k 1) (mirror complement))\n(count B 2)\n(count A 2)\n(total 4)\n"
+    ≡ bytes "(survey (letters ABC) (k 1) (mirror complement) (classes 2))\n(count B 2)\n(count A 2)\n(total 4)\n"
     ++ bytes "(file (records 1) (letters 4) (foreign 0) (edge 0) (windows 4))\n"
 unfolding outputOf
 odd-alphabet = refl

@@ -1,6 +1,6 @@
 -- The program's output for settings and a file: from what the add to the cleared table answers and leaves. Every output fits 2 MiB.
 use mathlib.Core.Path.{_≡_, sym, ap, _∙_}
-use Prim.Native.Nat.{ℕ, _+_, _-_, _*_, _<_, _≤_}
+use Prim.Native.Nat.{ℕ, _+_, _-_, _<_, _≤_}
 use native.Mathlib.Omega.{arith}
 use mathlib.Core.List.{List, _++_}
 use borrow.Author.Tests.{lt-ltb, le-ltb}
@@ -21,7 +21,7 @@ use Rattle.texts.proofs.Writing.{measured, then}
 use Rattle.survey.specs.declared.Head.the-variants.{Survey, OtherOrder, NoSurvey}
 use Rattle.survey.specs.Reading.{readLine}
 use Rattle.listing.specs.Listing.{listingOf}
-use Rattle.listing.specs.Needs.{AllCounts}
+use Rattle.listing.specs.Needs.{AllCounts, longest}
 use Rattle.listing.proofs.ListingAnswers.{all-counts}
 use Rattle.program.specs.Program.{fileLine, refusedLine, clearedTable, answerText, surveyText, programFile, lineText, programText, Prints}
 
@@ -104,7 +104,7 @@ module _ (letters : List ℕ) (k m : ℕ) (file : File) where
 
     -- The listing of its counts and then the file line are the output.
     pub taken-prints : {out out′ out″ : List ℕ} {a r : ℕ} → SmallNumbers n
-        → length (listingOf letters k m (take q t′)) ≤ 92 + 82 * length (take q t′)
+        → length (listingOf letters k m (take q t′)) ≤ longest (length (take q t′))
         → Puts out out′ 0 a (listingOf letters k m (take q t′))
         → Puts out′ out″ a r (fileLine n)
         → Prints (surveyText letters k m file) out r out″

@@ -1,33 +1,37 @@
--- The survey line from the input to the output (document 02, K5). What is printed for a survey line and a file: `survey-line-text`; where that is a listing,
--- it begins with the line that was read, byte for byte: `listing-repeats-the-line`. In an input that 14 does not refuse, forms in another order are refused 19,
--- whatever the settings and the file (`refuses-another-order`), and what is neither 13 (`refuses-neither`); that these are printed only then is in
--- RefusalNumbers. From what is proved of reading
--- a survey line, and of the line that we print.
-use mathlib.Core.Path.{_≡_, sym, _∙_}
+-- The survey line from the input to the output (document 02, K5 and K6). What is printed for a survey line and a file: `survey-line-text`; where that is a
+-- listing, it begins with the line that was read, byte for byte, but for the number of classes before the last bracket: `listing-repeats-the-line`. In an input
+-- that 14 does not refuse, forms in another order are refused 19, whatever the settings and the file (`refuses-another-order`), and what is neither 13
+-- (`refuses-neither`), so also what begins with the line that we print (`refuses-the-printed-line`); that these are printed only then is in RefusalNumbers.
+-- From what is proved of reading a survey line, and of the line that we print.
+use mathlib.Core.Path.{_≡_, _∙_}
 use mathlib.Core.Option.{none}
 use mathlib.Core.List.{List, _++_, append-assoc}
 use Prim.Native.Nat.{ℕ, _≤_}
 use borrow.Author.Tests.{le-ltb}
 use lib.ListN.{length}
 use Rattle.laws.specs.Text.{bytes}
-use Rattle.settings.specs.Settings.{rankIn}
+use Rattle.settings.specs.Settings.{rankIn, settingsGround}
 use Rattle.settings.proofs.Outcomes.{first-none}
 use Rattle.files.specs.File.{fileNumbers}
-use Rattle.tally.specs.Table.{readyGround, callGround, add, tableGround, tableAfter}
+use Rattle.tally.specs.Table.{classCount, readyGround, callGround, add, tableGround, tableAfter}
 use Rattle.tally.proofs.Ready.{ready-settings}
-use Rattle.survey.specs.Line.{surveyLine}
+use Rattle.texts.specs.Decimals.{decimal}
+use Rattle.survey.specs.Line.{settingsPart, surveyLine}
 use Rattle.survey.specs.Grammar.{SurveyInput, OtherOrderInput}
 use Rattle.survey.specs.Claims.{Neither}
 use Rattle.survey.specs.Reading.{readLine}
-use Rattle.survey.proofs.Theorems.{reads-all, other-order-all, refuses-all}
-use Rattle.survey.proofs.OneLine.{the-line-we-print}
+use Rattle.survey.proofs.Theorems.{reads-all, other-order-all, refuses-all, reads-no-printed-line}
+use Rattle.survey.proofs.OneLine.{the-settings-line}
 use Rattle.listing.specs.Listing.{listingOf, listing}
 use Rattle.program.specs.Program.{fileLine, refusedLine, clearedTable, surveyText, programFile, lineText, programText}
 use Rattle.program.proofs.Outputs.{no-survey-text, other-order-text}
 
--- A text that begins with a part begins with what the part is.
-begins : {text line : List ℕ} (first second third : List ℕ) → text ≡ (first ++ second) ++ third → first ≡ line → (rest : List ℕ) × (text ≡ line ++ rest)
-begins first second third e h = (second ++ third, rw (← h) (e ∙ append-assoc first second third))
+-- A text that begins with the line that we print begins with the settings' part of it and then has the number of classes.
+begins : (letters : List ℕ) (k m : ℕ) (second third : List ℕ)
+    → (surveyLine letters k m ++ second) ++ third
+    ≡ settingsPart letters k m ++ (bytes " (classes " ++ (decimal (classCount letters k m) ++ (bytes "))\n" ++ (second ++ third))))
+unfolding surveyLine
+begins letters k m second third = simp append-assoc
 
 module _ {input letters file : List ℕ} {k m : ℕ} (S : SurveyInput input letters k m file) where
   -- What is printed for a survey line and a file.
@@ -35,9 +39,10 @@ module _ {input letters file : List ℕ} {k m : ℕ} (S : SurveyInput input lett
   unfolding lineText
   survey-line-text = let A = reads-all S in rw (A .is, A .letters-there, A .file-there)
 
-  -- Where no ground applies, it begins with that line and LF.
+  -- Where no ground applies, it begins with that line, in which the number of classes stands before the bracket that closes it, and LF.
   pub listing-repeats-the-line : length input ≤ 65536 → tableGround letters k m clearedTable (add (programFile file)) ≡ none
-      → (rest : List ℕ) × (programText input ≡ (S .line ++ bytes "\n") ++ rest)
+      → (part : List ℕ) × ((rest : List ℕ) × ((S .line ≡ part ++ bytes ")")
+      × (programText input ≡ part ++ (bytes " (classes " ++ (decimal (classCount letters k m) ++ (bytes "))\n" ++ rest))))))
   unfolding programText surveyText listingOf callGround
   listing-repeats-the-line short taken =
       let room = length clearedTable in
@@ -45,7 +50,7 @@ module _ {input letters file : List ℕ} {k m : ℕ} (S : SurveyInput input lett
       let counted = listing letters k m (tableAfter letters k m clearedTable (add (programFile file))) in
       let numbers = fileNumbers (rankIn letters) k (programFile file) in
       let text : programText input ≡ counted ++ fileLine numbers = rw (le-ltb 65536 (length input) short, survey-line-text, taken) in
-      begins (surveyLine letters k m) _ _ text (sym (the-line-we-print passed S))
+      (settingsPart letters k m, (_, (the-settings-line passed S, text ∙ begins letters k m _ _)))
 
 -- "it precedes 1": nothing is asked of the letters, k, the mirror or the file, but that the input is not too long (14).
 pub refuses-another-order : {input : List ℕ} → OtherOrderInput input → length input ≤ 65536 → programText input ≡ refusedLine (19, 0)
@@ -54,3 +59,9 @@ refuses-another-order {input} o short = other-order-text input short (other-orde
 -- What starts neither with a survey line nor with one in another order is refused 13.
 pub refuses-neither : {input : List ℕ} → Neither input → length input ≤ 65536 → programText input ≡ refusedLine (13, 0)
 refuses-neither {input} n short = no-survey-text input short (refuses-all input n)
+
+-- So is the line that we print, whatever follows it: a listing is no input.
+pub refuses-the-printed-line : (letters : List ℕ) (k m : ℕ) (rest : List ℕ) → settingsGround letters k m ≡ none
+    → length (surveyLine letters k m ++ rest) ≤ 65536 → programText (surveyLine letters k m ++ rest) ≡ refusedLine (13, 0)
+refuses-the-printed-line letters k m rest passed short =
+    no-survey-text (surveyLine letters k m ++ rest) short (reads-no-printed-line letters k m rest passed)

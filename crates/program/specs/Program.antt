@@ -1,4 +1,4 @@
--- Document 01, "Listing and counter program", and document 02, K1 and K5: what the program prints for every input.
+-- Document 01, "Listing and counter program", and document 02, K1, K5 and K6: what the program prints for every input.
 use mathlib.Core.Path.{_≡_}
 use Prim.Native.Nat.{ℕ, _≤_}
 use mathlib.Core.Bool.{cond}

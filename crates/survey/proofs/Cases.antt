@@ -1,6 +1,6 @@
--- Computed checks of the reading's definition: lines with their answers, lines in another order, and inputs that start with no survey line, by the rule that
--- they keep or break. A place counts from the first byte: `Survey 17 4 2 1 50` has its letters in the 4 bytes from 17 on, k 2, mirror 1, and the file from
--- 50 on.
+-- Computed checks of the line that we print, and of the reading's definition: lines with their answers, lines in another order, and inputs that start with no
+-- survey line, by the rule that they keep or break. A place counts from the first byte: `Survey 17 4 2 1 50` has its letters in the 4 bytes from 17 on, k 2,
+-- mirror 1, and the file from 50 on.
 use mathlib.Core.Path.{_≡_, refl}
 use mathlib.Core.List.{List, _∷_, _++_}
 use Prim.Native.Nat.{ℕ}
@@ -8,9 +8,25 @@ use Prim.Native.String.{String}
 use Rattle.laws.specs.Text.{bytes}
 use Rattle.survey.specs.declared.Head.{Head}
 use Rattle.survey.specs.declared.Head.the-variants.{Survey, OtherOrder, NoSurvey}
-use Rattle.settings.specs.Settings.{isIn}
+use Rattle.settings.specs.Settings.{isIn, isOdd, halfUp, classes}
+use Rattle.texts.specs.Decimals.{decimalFrom, decimal}
+use Rattle.survey.specs.Line.{surveyLine}
 use Rattle.survey.specs.Grammar.{spelt}
 use Rattle.survey.specs.Reading.{startsWith, stretch, valueByte, sized, mirrorNumber, numberOf, formOf, formFrom, formAt, nextForm, endAfter, lineEnd, inOrder, eachOnce, byOrder, headOf, lineFrom, readLine}
+
+-- ---- lines that we print
+
+-- The worked example's, "`(classes 10)` in the document 01 case" (document 02, K6); an odd alphabet under complement; a number of several digits; as
+-- many classes as words.
+printed :
+    (surveyLine (bytes "ACGT") 2 1 ≡ bytes "(survey (letters ACGT) (k 2) (mirror complement) (classes 10))\n")
+    × (surveyLine (bytes "ABC") 1 1 ≡ bytes "(survey (letters ABC) (k 1) (mirror complement) (classes 2))\n")
+    × (surveyLine (bytes "ACGT") 8 1 ≡ bytes "(survey (letters ACGT) (k 8) (mirror complement) (classes 32896))\n")
+    × (surveyLine (bytes "AB") 1 0 ≡ bytes "(survey (letters AB) (k 1) (mirror reversal) (classes 2))\n")
+unfolding surveyLine decimal decimalFrom classes isOdd halfUp
+printed = (refl, refl, refl, refl)
+
+-- ---- lines that are read
 
 -- What an input is read as. A case that unfolds it computes with all that its `unfolding` line names.
 unfoldable reading : List ℕ → Head
@@ -125,6 +141,16 @@ each-once :
     × Refused "(survey (letters AB) (k 7) (mirror reversal) (k 7))\n"
 unfolding reading
 each-once = (refl, refl, refl, refl, refl, refl)
+
+-- "The line that the program reads has no such form" (document 02, K6): none for the number of classes, right or wrong, in no place, in no order.
+no-classes :
+    Refused "(survey (letters ACGT) (k 2) (mirror complement) (classes 10))\n"
+    × Refused "(survey (letters ACGT) (k 2) (mirror complement) (classes 11))"
+    × Refused "(survey (classes 10) (letters ACGT) (k 2) (mirror complement))\n"
+    × Refused "(survey (letters ACGT) (k 2) (classes 10))\n"
+    × Refused "(survey (k 2) (letters ACGT) (mirror complement) (classes 10))\r\n"
+unfolding reading
+no-classes = (refl, refl, refl, refl, refl)
 
 -- "k is 1 to 3 digits with no leading zero except 0 itself"
 k-digits :

@@ -1,7 +1,7 @@
 -- A form at a place: what the reader takes for one is a form of the grammar (`form-good`), and a form of the grammar is read (`form-there`).
 use mathlib.Core.Path.{_≡_, refl, sym, ap, _∙_}
 use mathlib.Core.Bool.{true, false}
-use mathlib.Core.List.{List, _∷_, _++_, append-assoc}
+use mathlib.Core.List.{List, [], _∷_, _++_, append-assoc, append-nil}
 use Prim.Native.Nat.{ℕ, _+_, _≤_}
 use native.Mathlib.Omega.{arith}
 use lib.ListN.{length, take, drop, length-drop, take-append-drop}
@@ -14,6 +14,7 @@ use Rattle.survey.specs.declared.Form.{Form}
 use Rattle.survey.specs.declared.Form.the-variants.{Of, NoForm}
 use Rattle.survey.specs.declared.End.{End}
 use Rattle.survey.specs.Needs.{Within}
+use Rattle.survey.specs.Forms.{unclosed}
 use Rattle.survey.specs.Grammar.{lineOf}
 use Rattle.survey.specs.Reading.{startsWith, stretch, valueByte, sized, numberOf, formOf, formFrom, formAt, nextForm, lineEnd, headOf, lineFrom}
 use Rattle.survey.proofs.TextLaws.{starts-at}
@@ -32,15 +33,19 @@ written name value = opening name ++ (value ++ bytes ")")
 
 -- A line of three forms as they are written, its end and the file.
 abbrev pub row : (x y z end file : List ℕ) → List ℕ
-row x y z end file = lineOf x y z ++ (end ++ file)
+row x y z end file = lineOf (x ∷ y ∷ z ∷ []) ++ (end ++ file)
 
--- The same with no brackets around the parts.
-abbrev pub flat : (a x b y c z end file : List ℕ) → List ℕ
-flat a x b y c z end file = bytes "(survey " ++ (a ++ (x ++ (bytes ") " ++ (b ++ (y ++ (bytes ") " ++ (c ++ (z ++ (bytes "))" ++ (end ++ file))))))))))
+-- Three forms and what follows them, with no brackets around the parts.
+abbrev pub flat : (a x b y c z after : List ℕ) → List ℕ
+flat a x b y c z after = bytes "(survey " ++ (a ++ (x ++ (bytes ") " ++ (b ++ (y ++ (bytes ") " ++ (c ++ (z ++ (bytes ")" ++ after)))))))))
 
-pub flat-row : (a x b y c z end file : List ℕ)
-    → flat a x b y c z end file ≡ row (a ++ (x ++ bytes ")")) (b ++ (y ++ bytes ")")) (c ++ (z ++ bytes ")")) end file
-flat-row a x b y c z end file = simp append-assoc
+pub flat-forms : (a x b y c z after : List ℕ)
+    → flat a x b y c z after ≡ unclosed ((a ++ (x ++ bytes ")")) ∷ (b ++ (y ++ bytes ")")) ∷ (c ++ (z ++ bytes ")")) ∷ []) ++ after
+flat-forms a x b y c z after = simp (append-assoc, append-nil)
+
+-- What follows the three forms of a line is its closing bracket, its end and the file.
+pub row-is : (x y z end file : List ℕ) → row x y z end file ≡ unclosed (x ∷ y ∷ z ∷ []) ++ (bytes ")" ++ (end ++ file))
+row-is x y z end file = append-assoc (unclosed (x ∷ y ∷ z ∷ [])) (bytes ")") (end ++ file)
 
 -- A value of an admitted length has a byte, so it lies inside the input.
 pub value-inside : (t : List ℕ) (name : Name) (from n : ℕ) → n ≡ stretch (valueByte name) (drop from t) → sized name (drop from t) n ≡ true

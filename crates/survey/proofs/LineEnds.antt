@@ -1,5 +1,5 @@
 -- The end of a survey line. `end-lf` and the others: what `end_after` finds, test by test. `end-good`: an end that the reader finds is one of the
--- grammar's; `end-there`: an end of the grammar is found.
+-- grammar's; `end-there`: an end of the grammar is found; `end-open`: where a further form follows, there is none.
 use mathlib.Core.Path.{_≡_, ap}
 use mathlib.Core.Bool.{true, false, _&&_, and-eq-true-iff}
 use mathlib.Core.List.{List, [], _++_}
@@ -86,3 +86,8 @@ end-there t at {file = file} crlf e = record { next = at + 4; is = rw e; rest = 
 end-there t at with-the-input e =
     let all : at + 2 ≡ length t = omega (arith, ap length e, length-drop at t) in
     record { next = at + 2; is = rw (e, eq-eqb (at + 2) (length t) all); rest = drop-more t at (bytes "))") [] e }
+
+-- No line ends where a space follows a form's bracket.
+pub end-open : (t : List ℕ) (at : ℕ) {rest : List ℕ} → drop at t ≡ bytes ") " ++ rest → endAfter t at ≡ Nowhere
+unfolding endAfter startsWith
+end-open t at e = rw e

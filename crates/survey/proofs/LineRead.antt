@@ -1,8 +1,8 @@
 -- From the reader to the grammar, `line-good`: where the reader finds a survey line, the input is one, with these letters, k, mirror and file; where it
 -- finds a line in another order, the input is one. From the laws of one form (FormLaws) and of the line's end (LineEnds).
-use mathlib.Core.Path.{_≡_}
+use mathlib.Core.Path.{_≡_, sym, _∙_}
 use mathlib.Core.Bool.{true}
-use mathlib.Core.List.{List, _++_}
+use mathlib.Core.List.{List, [], _∷_, _++_}
 use Prim.Native.Nat.{ℕ, _+_, _≤_}
 use lib.ListN.{length, take, drop}
 use Rattle.laws.specs.Text.{bytes}
@@ -15,19 +15,22 @@ use Rattle.survey.specs.declared.End.{End}
 use Rattle.survey.specs.declared.End.the-variants.{At, Nowhere}
 use Rattle.survey.specs.declared.Head.{Head}
 use Rattle.survey.specs.declared.Head.the-variants.{Survey, OtherOrder, NoSurvey}
-use Rattle.survey.specs.Grammar.{lineOf, xyz, InAnotherOrder, xzy, yxz, yzx, zxy, zyx, LineEnd, LettersText, KText, MirrorText, LineInput, OtherOrderInput}
+use Rattle.survey.specs.Forms.{settingsForms}
+use Rattle.survey.specs.Grammar.{lineOf, as-listed, InAnotherOrder, xzy, yxz, yzx, zxy, zyx, LineEnd, LettersText, KText, MirrorText, LineInput, OtherOrderInput}
 use Rattle.survey.specs.Claims.{Says}
 use Rattle.survey.specs.Reading.{startsWith, formAt, nextForm, endAfter, lineEnd, inOrder, eachOnce, byOrder, headOf, lineFrom, readLine}
 use Rattle.survey.proofs.TextLaws.{starts-at}
 use Rattle.survey.proofs.ValueLaws.{ValueText}
-use Rattle.survey.proofs.FormLaws.{opening, written, row, flat-row, FormRead, FormGood, form-good}
+use Rattle.survey.proofs.FormLaws.{opening, written, row, flat-forms, row-is, FormRead, FormGood, form-good}
 use Rattle.survey.proofs.LineEnds.{EndRead, EndGood, end-good}
 
 -- An input that is made of these parts, one after the other.
 joined : (a x b y c z end file : List ℕ) {t d e d′ e′ d″ e″ : List ℕ} → t ≡ bytes "(survey " ++ d → d ≡ a ++ (x ++ e)
     → e ≡ bytes ") " ++ d′ → d′ ≡ b ++ (y ++ e′) → e′ ≡ bytes ") " ++ d″ → d″ ≡ c ++ (z ++ e″) → e″ ≡ bytes "))" ++ (end ++ file)
     → t ≡ row (a ++ (x ++ bytes ")")) (b ++ (y ++ bytes ")")) (c ++ (z ++ bytes ")")) end file
-joined a x b y c z end file p q r s u v w = rw (p, q, r, s, u, v, w) (flat-row a x b y c z end file)
+joined a x b y c z end file p q r s u v w =
+    rw (p, q, r, s, u, v, w)
+    (flat-forms a x b y c z (bytes ")" ++ (end ++ file)) ∙ sym (row-is (a ++ (x ++ bytes ")")) (b ++ (y ++ bytes ")")) (c ++ (z ++ bytes ")")) end file))
 
 -- What an answer says of the input; that there is no survey line says nothing.
 abbrev pub Fine : List ℕ → Head → Type 0
@@ -48,10 +51,10 @@ record RowRead (t : List ℕ) (a : Name) (f l v : ℕ) (b : Name) (g m w : ℕ) 
   whole : t ≡ row (written a (take l (drop f t))) (written b (take m (drop g t))) (written c (take n (drop h t))) end (drop next t)
 
 -- Such a row is a line of each order that its three forms, as they stand, have; any of them may be the letters'.
-line-in : {Order : (x y z line : List ℕ) → Type 0} {t : List ℕ} {a b c : Name} {f l v g m w h n x next : ℕ} {letters kText mirrorText : List ℕ} {k mirror : ℕ}
+line-in : {Order : (forms : List (List ℕ)) (line : List ℕ) → Type 0} {t : List ℕ} {a b c : Name} {f l v g m w h n x next : ℕ} {letters kText mirrorText : List ℕ} {k mirror : ℕ}
     → RowRead t a f l v b g m w c h n x next → LettersText letters → KText kText k → MirrorText mirrorText mirror
-    → Order (written Letters letters) (written K kText) (written Mirror mirrorText)
-    (lineOf (written a (take l (drop f t))) (written b (take m (drop g t))) (written c (take n (drop h t))))
+    → Order (settingsForms letters kText mirrorText)
+    (lineOf (written a (take l (drop f t)) ∷ written b (take m (drop g t)) ∷ written c (take n (drop h t)) ∷ []))
     → LineInput Order t letters k mirror (drop next t)
 line-in r letters k mirror order = record {
   kText = _;
@@ -80,7 +83,7 @@ module _ (t : List ℕ) (next f l v g m w h n x : ℕ) where
   by-order Letters K Letters r = tt
   by-order Letters K K r = tt
   by-order Letters K Mirror r =
-      record { letters-inside = r .first-in; file-inside = r .next-in; survey = line-in r (r .first .0) (r .second) (r .third) xyz }
+      record { letters-inside = r .first-in; file-inside = r .next-in; survey = line-in r (r .first .0) (r .second) (r .third) as-listed }
   by-order Letters Mirror Letters r = tt
   by-order Letters Mirror K r = other (line-in r (r .first .0) (r .third) (r .second) xzy)
   by-order Letters Mirror Mirror r = tt

@@ -1,5 +1,5 @@
--- What "equal settings then mean equal lines" (document 02, K5) rests on: where settings are not refused, a survey line with them, and LF, is the line that we
--- print (`the-line-we-print`). k is spelt in one way only, its decimal digits, and 0 and 1 are the numbers of one mirror each.
+-- What "equal settings then mean equal lines" (document 02, K5) rests on: where settings are not refused, a survey line with them is the settings' part of the
+-- line that we print, closed (`the-settings-line`). k is spelt in one way only, its decimal digits, and 0 and 1 are the numbers of one mirror each.
 use mathlib.Core.Path.{_≡_, refl, sym, ap, _∙_}
 use mathlib.Core.Logic.{_≢_}
 use mathlib.Core.Option.{none}
@@ -13,9 +13,9 @@ use Rattle.settings.specs.Settings.{settingsGround}
 use Rattle.settings.proofs.SettingsGrounds.{good-settings}
 use Rattle.texts.specs.Decimals.{decimal}
 use Rattle.texts.proofs.Decimals.{one-digit, more-digits}
-use Rattle.survey.specs.Line.{mirrorName, surveyLine}
-use Rattle.survey.specs.Grammar.{Digit, KText, spelt, MirrorNumber, reversal, complement, another, lineOf, InOrder, xyz, SurveyInput}
-use Rattle.survey.proofs.Written.{valuesLine, printed}
+use Rattle.survey.specs.Forms.{settingsForms}
+use Rattle.survey.specs.Line.{mirrorName, settingsPart}
+use Rattle.survey.specs.Grammar.{Digit, KText, spelt, MirrorNumber, reversal, complement, another, lineOf, InOrder, as-listed, SurveyInput}
 
 -- ---- digits that have no leading zero are the decimal digits of the number that they spell
 
@@ -58,16 +58,17 @@ mirror-named reversal h = refl
 mirror-named complement h = refl
 mirror-named (another p q) h = absurd (omega arith)
 
-line-is : {x y z line : List ℕ} → InOrder x y z line → line ≡ lineOf x y z
-line-is xyz = refl
+line-is : {forms : List (List ℕ)} {line : List ℕ} → InOrder forms line → line ≡ lineOf forms
+line-is as-listed = refl
 
-same-values : (letters : List ℕ) {k k′ mirror mirror′ : List ℕ} → k ≡ k′ → mirror ≡ mirror′ → valuesLine letters k mirror ≡ valuesLine letters k′ mirror′
-same-values letters {k} {k′} {mirror} e f = ap (λ (x : List ℕ). valuesLine letters x mirror) e ∙ ap (valuesLine letters k′) f
+same-values : (letters : List ℕ) {k k′ mirror mirror′ : List ℕ} → k ≡ k′ → mirror ≡ mirror′
+    → lineOf (settingsForms letters k mirror) ≡ lineOf (settingsForms letters k′ mirror′)
+same-values letters {k} {k′} {mirror} e f =
+    ap (λ (x : List ℕ). lineOf (settingsForms letters x mirror)) e ∙ ap (λ (x : List ℕ). lineOf (settingsForms letters k′ x)) f
 
 -- Whatever its end and the file behind it are.
-pub the-line-we-print : {input letters file : List ℕ} {k mirror : ℕ} → settingsGround letters k mirror ≡ none → (S : SurveyInput input letters k mirror file)
-    → S .line ++ bytes "\n" ≡ surveyLine letters k mirror
-the-line-we-print {letters = letters} {k = k} {mirror = mirror} passed S =
+pub the-settings-line : {input letters file : List ℕ} {k mirror : ℕ} → settingsGround letters k mirror ≡ none → (S : SurveyInput input letters k mirror file)
+    → S .line ≡ settingsPart letters k mirror ++ bytes ")"
+the-settings-line {letters = letters} {k = k} {mirror = mirror} passed S =
     let known = good-settings letters k mirror passed .low in
-    let same = same-values letters (k-spelt (S .kText) (S .k-good)) (mirror-named (S .mirror-good .number) known) in
-    ap (λ (line : List ℕ). line ++ bytes "\n") (line-is (S .order) ∙ same) ∙ printed letters k mirror
+    line-is (S .order) ∙ same-values letters (k-spelt (S .kText) (S .k-good)) (mirror-named (S .mirror-good .number) known)

@@ -1,9 +1,10 @@
 -- What is proved of reading a survey line: `readLine`, which `read_line` answers, takes exactly the inputs of the grammar, each with the letters,
--- k, mirror and file that it has, and tells exactly those whose forms stand in another order. From the two directions (LineRead, LineThere), the line that we
--- print (Written), and that it is the only one for its settings (OneLine).
+-- k, mirror and file that it has, and tells exactly those whose forms stand in another order. The line that we print has the number of classes besides
+-- (document 02, K6): its settings' part, closed, is read back, and itself it is none of these. From the two directions (LineRead, LineThere), the line that we
+-- print (Written), and that settings have no other (OneLine).
 use mathlib.Core.Path.{_≡_, refl, sym, _∙_}
 use mathlib.Core.Option.{none}
-use mathlib.Core.List.{List, _++_, append-nil, append-cancel-right}
+use mathlib.Core.List.{List, _++_, append-nil, append-assoc}
 use Prim.Native.Nat.{ℕ, _≤_}
 use native.Mathlib.Omega.{arith}
 use Rattle.laws.specs.Text.{bytes}
@@ -11,14 +12,15 @@ use Rattle.settings.specs.Settings.{settingsGround}
 use Rattle.settings.proofs.SettingsGrounds.{good-settings}
 use Rattle.survey.specs.declared.Head.{Head}
 use Rattle.survey.specs.declared.Head.the-variants.{Survey, OtherOrder, NoSurvey}
-use Rattle.survey.specs.Line.{surveyLine}
-use Rattle.survey.specs.Grammar.{LettersText, LineEnd, with-the-input, SurveyInput, OtherOrderInput}
+use Rattle.survey.specs.Forms.{settingsForms, unclosed}
+use Rattle.survey.specs.Line.{settingsPart, surveyLine}
+use Rattle.survey.specs.Grammar.{LettersText, KText, MirrorText, LineEnd, with-the-input, SurveyInput, OtherOrderInput}
 use Rattle.survey.specs.Claims.{Says, Answers, Neither}
 use Rattle.survey.specs.Reading.{readLine}
 use Rattle.survey.proofs.LineRead.{line-good}
-use Rattle.survey.proofs.LineThere.{in-order, in-another-order}
-use Rattle.survey.proofs.Written.{good-letters, line-written}
-use Rattle.survey.proofs.OneLine.{the-line-we-print}
+use Rattle.survey.proofs.LineThere.{in-order, in-another-order, further-form, one-row}
+use Rattle.survey.proofs.Written.{good-letters, values-good, line-written}
+use Rattle.survey.proofs.OneLine.{the-settings-line}
 
 -- Only survey lines are read: where the answer is a survey line, the letters and the file that it points to lie inside the input, and the
 -- input is a survey line with these letters, this k and this mirror, and then the file.
@@ -64,25 +66,38 @@ refuses-all t n = go (readLine t) refl
     go OtherOrder e = absurd (n .no-other-order (other-order-only t e))
     go NoSurvey e = e
 
--- A written line is read back: the survey line that is written for letters, a k up to 999 and a mirror 0 or 1 is read as these, whatever
--- follows it, and what follows it is the file.
-pub reads-back : (letters : List ℕ) (k mirror : ℕ) (rest : List ℕ) → LettersText letters → k ≤ 999 → mirror ≤ 1
-    → Answers (surveyLine letters k mirror ++ rest) letters k mirror rest
-reads-back letters k mirror rest good small known = reads-all (line-written letters k mirror rest good small known)
+-- The settings' part of a printed line, closed, is read back: for letters, a k up to 999 and a mirror 0 or 1 it is read as these, with each end of a line, and
+-- what follows the end is the file.
+pub reads-back : (letters : List ℕ) (k mirror : ℕ) {end file : List ℕ} → LettersText letters → k ≤ 999 → mirror ≤ 1 → LineEnd end file
+    → Answers ((settingsPart letters k mirror ++ bytes ")") ++ (end ++ file)) letters k mirror file
+reads-back letters k mirror good small known ends = reads-all (line-written letters k mirror good small known ends)
 
--- What we print is read back: only settings that pass the check are printed, and the line that is printed for them is read as the same letters,
--- the same k and the same mirror, whatever follows it.
-pub reads-back-what-is-printed : (letters : List ℕ) (k mirror : ℕ) (rest : List ℕ) → settingsGround letters k mirror ≡ none
-    → Answers (surveyLine letters k mirror ++ rest) letters k mirror rest
-reads-back-what-is-printed letters k mirror rest passed =
+-- So it is for what we print: only settings that pass the check are printed, and the settings' part of the line that is printed for them, closed, is read as
+-- the same letters, the same k and the same mirror.
+pub reads-back-what-is-printed : (letters : List ℕ) (k mirror : ℕ) {end file : List ℕ} → settingsGround letters k mirror ≡ none → LineEnd end file
+    → Answers ((settingsPart letters k mirror ++ bytes ")") ++ (end ++ file)) letters k mirror file
+reads-back-what-is-printed letters k mirror passed =
     let good = good-settings letters k mirror passed in
-    reads-back letters k mirror rest (good-letters letters k mirror passed) (omega (arith, good .short-k)) (good .low)
+    reads-back letters k mirror (good-letters letters k mirror passed) (omega (arith, good .short-k)) (good .low)
 
--- "Where the settings are not refused, equal settings then mean equal lines, save for the line's end" (document 02, K5): both are the line that we print.
+-- "The line that the program reads has no such form" (document 02, K6): with any further form after the three, an input starts with none of these lines.
+pub reads-no-further-form : {letters kText mirrorText : List ℕ} {k mirror : ℕ} (rest : List ℕ) → LettersText letters → KText kText k
+    → MirrorText mirrorText mirror → readLine (unclosed (settingsForms letters kText mirrorText) ++ (bytes " " ++ rest)) ≡ NoSurvey
+reads-no-further-form rest letters k mirror = further-form rest letters k mirror refl
+
+-- The line that we print is such a line, whatever follows it.
+pub reads-no-printed-line : (letters : List ℕ) (k mirror : ℕ) (rest : List ℕ) → settingsGround letters k mirror ≡ none
+    → readLine (surveyLine letters k mirror ++ rest) ≡ NoSurvey
+unfolding surveyLine
+reads-no-printed-line letters k mirror rest passed =
+    let v = values-good letters k mirror passed in
+    further-form _ (v .letters-good) (v .k-good) (v .mirror-good) (append-assoc (settingsPart letters k mirror) _ rest)
+
+-- "Where the settings are not refused, equal settings then mean equal lines, save for the line's end" (document 02, K5): both are the settings' part of the
+-- line that we print, closed.
 pub equal-settings-equal-lines : {input input′ letters file file′ : List ℕ} {k mirror : ℕ} → settingsGround letters k mirror ≡ none
     → (S : SurveyInput input letters k mirror file) (S′ : SurveyInput input′ letters k mirror file′) → S .line ≡ S′ .line
-equal-settings-equal-lines passed S S′ =
-    append-cancel-right (S .line) (S′ .line) (bytes "\n") (the-line-we-print passed S ∙ sym (the-line-we-print passed S′))
+equal-settings-equal-lines passed S S′ = the-settings-line passed S ∙ sym (the-settings-line passed S′)
 
 -- With another end, and another file behind it, a survey line has the same settings.
 pub another-end : {input input′ letters file file′ end : List ℕ} {k mirror : ℕ} (S : SurveyInput input letters k mirror file) → LineEnd end file′
@@ -108,3 +123,13 @@ equal-lines-equal-settings S S′ e =
     let same = another-end S with-the-input (sym e ∙ sym (append-nil (S .line))) in
     let one = one-reading same alone in
     (one .0, one .1, one .2)
+
+-- So do equal lines of those that we print: the settings of two listings are compared by their first lines.
+pub equal-printed-lines-equal-settings : {letters letters′ : List ℕ} {k k′ mirror mirror′ : ℕ} → settingsGround letters k mirror ≡ none
+    → settingsGround letters′ k′ mirror′ ≡ none → surveyLine letters k mirror ≡ surveyLine letters′ k′ mirror′
+    → (letters ≡ letters′) × (k ≡ k′) × (mirror ≡ mirror′)
+unfolding surveyLine
+equal-printed-lines-equal-settings {letters} {letters′} {k} {k′} {mirror} {mirror′} passed passed′ e =
+    let v = values-good letters k mirror passed in
+    let v′ = values-good letters′ k′ mirror′ passed′ in
+    one-row _ _ (v .letters-good) (v .k-good) (v .mirror-good) refl (v′ .letters-good) (v′ .k-good) (v′ .mirror-good) e

@@ -1,9 +1,9 @@
--- The survey line that we print is one of the grammar's: k up to 999 in decimal is a k, the two mirrors' names are mirrors, and the letters of
--- settings that pass the check are letters. From the laws of decimal digits of the texts and what is known of such settings.
-use mathlib.Core.Path.{_≡_, refl, sym, ap, _∙_}
+-- The settings' part of the survey line that we print, closed, is a line of the grammar: k up to 999 in decimal is a k, the two mirrors' names are mirrors, and
+-- the letters of settings that pass the check are letters. From the laws of decimal digits of the texts and what is known of such settings.
+use mathlib.Core.Path.{_≡_, refl, sym, _∙_}
 use mathlib.Core.Bool.{Bool, true, false, not, _&&_, and-eq-true-iff}
 use mathlib.Core.Option.{none}
-use mathlib.Core.List.{List, [], _∷_, _++_, append-assoc}
+use mathlib.Core.List.{List, [], _∷_, _++_}
 use Prim.Native.Nat.{ℕ, zero, suc, _+_, _/_, _%_, _≤_}
 use native.Mathlib.Omega.{arith}
 use lib.Dec.{leb, ltb}
@@ -15,8 +15,8 @@ use Rattle.settings.proofs.Letters.{some-letters}
 use Rattle.settings.proofs.SettingsGrounds.{good-settings}
 use Rattle.texts.specs.Decimals.{decimal}
 use Rattle.texts.proofs.Decimals.{one-digit, more-digits}
-use Rattle.survey.specs.Line.{mirrorName, surveyLine}
-use Rattle.survey.specs.Grammar.{LetterByte, LettersText, Digit, KText, MirrorText, reversal, complement, spelt, form, lineOf, xyz, lf, SurveyInput}
+use Rattle.survey.specs.Line.{mirrorName, settingsPart}
+use Rattle.survey.specs.Grammar.{LetterByte, LettersText, Digit, KText, MirrorText, reversal, complement, spelt, as-listed, LineEnd, SurveyInput}
 use Rattle.survey.proofs.ByteLaws.{letter-above}
 use Rattle.survey.proofs.MirrorNames.{reversal-small, complement-small}
 
@@ -80,28 +80,33 @@ mirror-written (suc (suc m)) h = absurd (omega arith)
 
 -- ---- the line
 
--- A line in order with these values.
-abbrev pub valuesLine : (letters k mirror : List ℕ) → List ℕ
-valuesLine letters k mirror = lineOf (form (bytes "letters") letters) (form (bytes "k") k) (form (bytes "mirror") mirror)
+-- The three values as we print them for settings that pass the check.
+pub record Printed (letters : List ℕ) (k mirror : ℕ) : Type 0 where
+  pub letters-good : LettersText letters
+  pub k-good : KText (decimal k) k
+  pub mirror-good : MirrorText (mirrorName mirror) mirror
 
--- What we print is such a line, and LF.
-pub printed : (letters : List ℕ) (k mirror : ℕ) → valuesLine letters (decimal k) (mirrorName mirror) ++ bytes "\n" ≡ surveyLine letters k mirror
-unfolding surveyLine
-printed letters k mirror = simp append-assoc
+pub values-good : (letters : List ℕ) (k mirror : ℕ) → settingsGround letters k mirror ≡ none → Printed letters k mirror
+values-good letters k mirror passed =
+    let good = good-settings letters k mirror passed in
+    record {
+      letters-good = good-letters letters k mirror passed;
+      k-good = k-written k (omega (arith, good .short-k));
+      mirror-good = mirror-written mirror (good .low);
+    }
 
-pub line-written : (letters : List ℕ) (k mirror : ℕ) (rest : List ℕ) → LettersText letters → k ≤ 999 → mirror ≤ 1
-    → SurveyInput (surveyLine letters k mirror ++ rest) letters k mirror rest
-line-written letters k mirror rest good small known = record {
+-- Whatever the line's end is and the file behind it.
+pub line-written : (letters : List ℕ) (k mirror : ℕ) {end file : List ℕ} → LettersText letters → k ≤ 999 → mirror ≤ 1 → LineEnd end file
+    → SurveyInput ((settingsPart letters k mirror ++ bytes ")") ++ (end ++ file)) letters k mirror file
+line-written letters k mirror good small known ends = record {
   kText = decimal k;
   mirrorText = mirrorName mirror;
-  line = valuesLine letters (decimal k) (mirrorName mirror);
-  end = bytes "\n";
+  line = settingsPart letters k mirror ++ bytes ")";
+  end = _;
   letters-good = good;
   k-good = k-written k small;
   mirror-good = mirror-written mirror known;
-  order = xyz;
-  ends = lf;
-  whole =
-      ap (λ (line : List ℕ). line ++ rest) (sym (printed letters k mirror))
-      ∙ append-assoc (valuesLine letters (decimal k) (mirrorName mirror)) (bytes "\n") rest;
+  order = as-listed;
+  ends = ends;
+  whole = refl;
 }

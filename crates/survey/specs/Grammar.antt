@@ -1,5 +1,5 @@
--- Document 01, "Listing and counter program", and document 02, K5: what a survey line is, sentence by sentence, and what a line with its forms in another
--- order is. `SurveyInput` and `OtherOrderInput` are the wholes; they say what the input is made of and nothing of how it is read.
+-- Document 01, "Listing and counter program", and document 02, K5 and K6: what a survey line that is read is, sentence by sentence, and what a line with its
+-- forms in another order is. `SurveyInput` and `OtherOrderInput` are the wholes; they say what the input is made of and nothing of how it is read.
 use mathlib.Core.Path.{_≡_}
 use mathlib.Core.Logic.{_≢_}
 use mathlib.Core.List.{List, [], _∷_, _++_}
@@ -7,6 +7,7 @@ use Prim.Native.Nat.{ℕ, _+_, _-_, _*_, _≤_}
 use lib.ListN.{length, getD}
 use Rattle.laws.specs.Text.{bytes}
 use Rattle.laws.specs.Each.{Each}
+use Rattle.survey.specs.Forms.{settingsForms, unclosed}
 
 -- "letters are one or more bytes other than brackets, spaces, CR and LF"
 abbrev pub LetterByte : ℕ → Type 0
@@ -46,25 +47,22 @@ pub record MirrorText (text : List ℕ) (mirror : ℕ) : Type 0 where
   pub each : Each SmallLetter text
   pub number : MirrorNumber text mirror
 
--- (letters ACGT), (k 2), (mirror complement): a form's name and its value.
-abbrev pub form : (name value : List ℕ) → List ℕ
-form name value = bytes "(" ++ (name ++ (bytes " " ++ (value ++ bytes ")")))
+-- A line that is read, without its end: these inner forms and no more. "The line that the program reads has no such form" (document 02, K6): none for the
+-- number of classes.
+abbrev pub lineOf : (forms : List (List ℕ)) → List ℕ
+lineOf forms = unclosed forms ++ bytes ")"
 
--- A line of three inner forms, without its end. "Forms are parted by one space."
-abbrev pub lineOf : (x y z : List ℕ) → List ℕ
-lineOf x y z = bytes "(survey " ++ (x ++ (bytes " " ++ (y ++ (bytes " " ++ (z ++ bytes ")")))))
-
--- "They now stand as letters, k, mirror" (document 02, K5): x, y and z in this order.
-pub data InOrder (x y z : List ℕ) : (line : List ℕ) → Type 0 where
-  xyz : InOrder x y z (lineOf x y z)
+-- "They now stand as letters, k, mirror" (document 02, K5): the forms as they are listed.
+pub data InOrder (forms : List (List ℕ)) : (line : List ℕ) → Type 0 where
+  as-listed : InOrder forms (lineOf forms)
 
 -- "just these three forms are there, each once .. in another order" (K5): the five others.
-pub data InAnotherOrder (x y z : List ℕ) : (line : List ℕ) → Type 0 where
-  xzy : InAnotherOrder x y z (lineOf x z y)
-  yxz : InAnotherOrder x y z (lineOf y x z)
-  yzx : InAnotherOrder x y z (lineOf y z x)
-  zxy : InAnotherOrder x y z (lineOf z x y)
-  zyx : InAnotherOrder x y z (lineOf z y x)
+pub data InAnotherOrder : (forms : List (List ℕ)) (line : List ℕ) → Type 0 where
+  xzy : {x y z : List ℕ} → InAnotherOrder (x ∷ y ∷ z ∷ []) (lineOf (x ∷ z ∷ y ∷ []))
+  yxz : {x y z : List ℕ} → InAnotherOrder (x ∷ y ∷ z ∷ []) (lineOf (y ∷ x ∷ z ∷ []))
+  yzx : {x y z : List ℕ} → InAnotherOrder (x ∷ y ∷ z ∷ []) (lineOf (y ∷ z ∷ x ∷ []))
+  zxy : {x y z : List ℕ} → InAnotherOrder (x ∷ y ∷ z ∷ []) (lineOf (z ∷ x ∷ y ∷ []))
+  zyx : {x y z : List ℕ} → InAnotherOrder (x ∷ y ∷ z ∷ []) (lineOf (z ∷ y ∷ x ∷ []))
 
 -- "The survey line read ends in LF, CR LF or with the input": the line's end and the file after it.
 pub data LineEnd : (end file : List ℕ) → Type 0 where
@@ -72,9 +70,9 @@ pub data LineEnd : (end file : List ℕ) → Type 0 where
   crlf : {file : List ℕ} → LineEnd (bytes "\r\n") file
   with-the-input : LineEnd [] []
 
--- The input is a line with the three forms, well formed, as `Order` has them, its end, and then a file. Well formed is a matter of shape: k may be 0 and
+-- The input is a line with the settings' forms, well formed, as `Order` has them, its end, and then a file. Well formed is a matter of shape: k may be 0 and
 -- the mirror any name.
-pub record LineInput (Order : (x y z line : List ℕ) → Type 0) (input letters : List ℕ) (k mirror : ℕ) (file : List ℕ) : Type 0 where
+pub record LineInput (Order : (forms : List (List ℕ)) (line : List ℕ) → Type 0) (input letters : List ℕ) (k mirror : ℕ) (file : List ℕ) : Type 0 where
   pub kText : List ℕ
   pub mirrorText : List ℕ
   pub line : List ℕ
@@ -82,7 +80,7 @@ pub record LineInput (Order : (x y z line : List ℕ) → Type 0) (input letters
   pub letters-good : LettersText letters
   pub k-good : KText kText k
   pub mirror-good : MirrorText mirrorText mirror
-  pub order : Order (form (bytes "letters") letters) (form (bytes "k") kText) (form (bytes "mirror") mirrorText) line
+  pub order : Order (settingsForms letters kText mirrorText) line
   pub ends : LineEnd end file
   pub whole : input ≡ line ++ (end ++ file)
 

@@ -31,12 +31,12 @@ wontirje count [--letters ACGT] [--k 11] [--mirror complement] [--kind KIND] [--
                [--no-listing] FILE... [--withdraw FILE]...
 
 Clears a table, adds each file in order, withdraws those of --withdraw, and prints the listing: the survey
-line, a line for each class with its count, and the total. - is standard input. A file whose first byte is @
-is taken for FASTQ, any other for FASTA; both may be given together. Of FASTQ, four lines a record, only the
-sequence line counts. On standard error is a line for each file: its records, letters, foreign letters (not in
---letters; U is read as T where they have T and no U), edge letters (too near a run's end to begin a word) and
-windows (words counted or withdrawn); or why it was refused, where, and what to do. A refused file changes no
-count and does not stop the others.
+line with the number of classes, a line for each class with its count, and the total. - is standard input. A
+file whose first byte is @ is taken for FASTQ, any other for FASTA; both may be given together. Of FASTQ, four
+lines a record, only the sequence line counts. On standard error is a line for each file: its records,
+letters, foreign letters (not in --letters; U is read as T where they have T and no U), edge letters (too near
+a run's end to begin a word) and windows (words counted or withdrawn); or why it was refused, where, and what
+to do. A refused file changes no count and does not stop the others.
 
   --kind KIND     fasta or fastq: take all files for this kind, whatever their first byte is
   --withdraw FILE when all files are counted, take this one out again: 1 from its class for each window. One
@@ -94,7 +94,8 @@ wontirje histogram [--bars 40] [--each] [--svg FILE] LISTING
 
 Prints how many classes of a listing have each count, with bars; - is standard input. Classes without a
 count are in no bar. Where the highest count is above --bars, a bar may stand for several counts, and the
-last one for all above.
+last one for all above. A listing from before the number of classes was printed lacks (classes N) at the
+end of its first line: it is read too, and standard error says so.
 
   --bars N     at most N bars, 2 to 200
   --each       print a line for each count that some class has, however many

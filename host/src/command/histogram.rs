@@ -5,12 +5,13 @@ use crate::bars::{self, Bar};
 use crate::failure::{reason, Failure, Outcome};
 use crate::listing::{self, Listing};
 use crate::output::{new_file, print, to_new_file};
-use crate::report::name;
+use crate::report::{self, name};
 use crate::svg;
 use std::ffi::OsStr;
 use std::fs::File;
 use std::io::{self, BufReader, Write};
 use std::path::Path;
+use wontirje::Settings;
 
 pub const OPTIONS: Options = &[("bars", Takes::Value), ("each", Takes::Nothing), ("svg", Takes::Value)];
 
@@ -26,16 +27,24 @@ fn read(operand: &OsStr) -> Result<Listing, String> {
 }
 
 /// What the listing is of, in one line.
-fn headline(listing: &Listing) -> Result<String, String> {
-    let settings = listing.settings();
-    let classes = settings.classes().map_err(|refusal| format!("line 1: {refusal}"))?;
-    let letters = String::from_utf8_lossy(settings.letters).into_owned();
-    let (k, mirror) = (settings.k, settings.mirror.name());
-    let listed = listing.listed();
-    Ok(format!(
-        "{letters}, k {k}, {mirror}: {listed} of {classes} classes have a count, total {}",
-        listing.total
-    ))
+fn headline(listing: &Listing) -> String {
+    let Settings { letters, k, mirror } = listing.settings();
+    let (letters, mirror) = (String::from_utf8_lossy(letters), mirror.name());
+    let (listed, classes, total) = (listing.listed(), listing.classes, listing.total);
+    format!("{letters}, k {k}, {mirror}: {listed} of {classes} classes have a count, total {total}")
+}
+
+/// A listing from before document 02, K6 is no damaged one: it is drawn, and this says what its survey line
+/// lacks.
+fn note(operand: &OsStr, listing: &Listing) {
+    if !listing.has_classes {
+        report::line(format_args!(
+            "{}: line 1: no (classes {}): the listing is from before the number of classes was printed; \
+             it is read all the same",
+            name(operand),
+            listing.classes
+        ));
+    }
 }
 
 fn most_bars(arguments: &Arguments) -> Result<usize, Failure> {
@@ -55,7 +64,8 @@ pub fn run(arguments: &Arguments) -> Outcome {
     let svg = new_file(arguments, "svg", "give the chart a name, as in --svg counts.svg")?;
     let named = |reason: String| Failure::said(format!("{}: {reason}", name(operand)));
     let listing = read(operand).map_err(named)?;
-    let headline = headline(&listing).map_err(named)?;
+    note(operand, &listing);
+    let headline = headline(&listing);
     let grouped = bars::grouped(&listing.spectrum, most);
     if let Some(path) = svg {
         let chart = svg::chart(&name(operand), &headline, &grouped);

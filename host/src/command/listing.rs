@@ -1,5 +1,6 @@
 //! Reads a listing, or what the counter program prints: how many classes have each count. The counts must add
-//! up to the total, so that a listing that was cut off is found out.
+//! up to the total, so that a listing that was cut off is found out. The number of classes in the survey line
+//! must be that of the settings; a listing from before document 02, K6 has none and is read too.
 
 use crate::failure::reason;
 use crate::input::bare;
@@ -10,30 +11,67 @@ use wontirje::{Mirror, Settings};
 /// No line of a listing has more bytes.
 const LONGEST: u64 = 256;
 
+/// What is said of a survey line that no listing has.
+const DAMAGED: &str = "the survey line is damaged; \
+    a whole one is as in (survey (letters ACGT) (k 2) (mirror complement) (classes 10))";
+
 /// What a listing tells.
 pub struct Listing {
     letters: Vec<u8>,
     k: usize,
     mirror: Mirror,
+    /// The number of classes of these settings.
+    pub classes: u64,
+    /// Whether the survey line has it.
+    pub has_classes: bool,
     /// How many classes have each count, for the counts that occur.
     pub spectrum: BTreeMap<u32, u64>,
     /// The sum of the counts.
     pub total: u64,
 }
 
-/// A decimal number without sign and leading zeros, as the listing has them.
-fn number<T: std::str::FromStr>(text: &str) -> Option<T> {
-    let plain = text.bytes().all(|byte| byte.is_ascii_digit()) && (text == "0" || !text.starts_with('0'));
-    text.parse().ok().filter(|_| plain)
+/// Whether a text is a decimal number without sign and leading zeros, as the listing has them; of any length.
+fn is_number(text: &str) -> bool {
+    let digits = !text.is_empty() && text.bytes().all(|byte| byte.is_ascii_digit());
+    digits && (text == "0" || !text.starts_with('0'))
 }
 
-/// The survey line: letters, k and mirror.
-fn survey(line: &str) -> Option<Listing> {
-    let inner = line.strip_prefix("(survey (letters ")?.strip_suffix("))")?;
-    let (letters, rest) = inner.split_once(") (k ")?;
-    let (k, mirror) = rest.split_once(") (mirror ")?;
-    let (letters, mirror) = (letters.as_bytes().to_vec(), Mirror::from_name(mirror)?);
-    Some(Listing { letters, k: number(k)?, mirror, spectrum: BTreeMap::new(), total: 0 })
+fn number<T: std::str::FromStr>(text: &str) -> Option<T> {
+    text.parse().ok().filter(|_| is_number(text))
+}
+
+/// What stands in a form from this start on, and what follows the form.
+fn form<'a>(text: &'a str, start: &str) -> Option<(&'a str, &'a str)> {
+    text.strip_prefix(start)?.split_once(')')
+}
+
+/// The survey line: letters, k, mirror and, last, the number of classes, none where it has no such form.
+fn survey(line: &str) -> Option<(Settings<'_>, Option<&str>)> {
+    let (letters, rest) = form(line, "(survey (letters ")?;
+    let (k, rest) = form(rest, " (k ")?;
+    let (mirror, rest) = form(rest, " (mirror ")?;
+    let (letters, k, mirror) = (letters.as_bytes(), number(k)?, Mirror::from_name(mirror)?);
+    let settings = Settings { letters, k, mirror };
+    match form(rest, " (classes ") {
+        Some((classes, ")")) if is_number(classes) => Some((settings, Some(classes))),
+        None if rest == ")" => Some((settings, None)),
+        _ => None,
+    }
+}
+
+/// A listing of which only the first line is read, or what is wrong with that.
+fn begun(line: &str) -> Result<Listing, String> {
+    let (settings, told) = survey(line).ok_or(match line.starts_with("(survey ") {
+        true => DAMAGED,
+        false => "no survey line, so this is no listing",
+    })?;
+    let classes = settings.classes().map_err(|refusal| refusal.to_string())?;
+    if let Some(told) = told.filter(|told| *told != classes.to_string()) {
+        return Err(format!("(classes {told}), but these settings have {classes} classes"));
+    }
+    let Settings { letters, k, mirror } = settings;
+    let (letters, has_classes) = (letters.to_vec(), told.is_some());
+    Ok(Listing { letters, k, mirror, classes, has_classes, spectrum: BTreeMap::new(), total: 0 })
 }
 
 impl Listing {
@@ -91,8 +129,8 @@ impl<R: BufRead> Lines<R> {
 /// Reads a listing to its end.
 pub fn read(from: impl BufRead) -> Result<Listing, String> {
     let mut lines = Lines { from, line: Vec::new(), number: 0 };
-    let first = survey(lines.next()?.unwrap_or_default());
-    let mut listing = first.ok_or_else(|| lines.fault("no survey line, so this is no listing"))?;
+    let first = begun(lines.next()?.unwrap_or_default());
+    let mut listing = first.map_err(|what| lines.fault(&what))?;
     let total = loop {
         let Some(line) = lines.next()? else {
             return Err(lines.fault("no total line: the listing is cut off"));

@@ -22,14 +22,14 @@ pub const WONTIRJE: &str = env!("CARGO_BIN_EXE_wontirje");
 /// A FASTA file; the numbers that are told of it, and the listing of its words of 2 letters.
 pub const EXAMPLE: &[u8] = b">a\nACGTN\n>b\nAG\nCT\n";
 pub const NUMBERS: &str = "records 2, letters 9, foreign 1, edge 2, windows 6";
-pub const LISTING: &str = "(survey (letters ACGT) (k 2) (mirror complement))\n\
+pub const LISTING: &str = "(survey (letters ACGT) (k 2) (mirror complement) (classes 10))\n\
     (count CG 1)\n(count GC 1)\n(count AG 2)\n(count AC 2)\n(total 6)\n";
 
 /// Its records as FASTQ; the bytes that begin lines also stand among the qualities.
 pub const READS: &[u8] = b"@a\nACGTN\n+\n@+>!~\n@b\nAGCT\n+b\n+III\n";
 
 /// The listing of words of 2 letters where nothing is counted.
-pub const EMPTY: &str = "(survey (letters ACGT) (k 2) (mirror complement))\n(total 0)\n";
+pub const EMPTY: &str = "(survey (letters ACGT) (k 2) (mirror complement) (classes 10))\n(total 0)\n";
 
 /// What a run of the command left.
 pub struct Run {

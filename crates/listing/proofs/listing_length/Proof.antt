@@ -7,6 +7,7 @@ use denote.Ref.{now}
 use lib.ListN.{length}
 use Rattle.settings.proofs.SettingsGrounds.{good-settings}
 use Rattle.listing.specs.Listing.{listingOf}
+use Rattle.listing.specs.Needs.{longest}
 use Rattle.listing.proofs.Lengths.{parts-are}
 use Rattle.listing.proofs.listing_length.Statement.{statement}
 use Rattle.listing.proofs.listing_length.Tie as tie
@@ -15,7 +16,7 @@ slice-aggregate-put-survey : tie.Need-slice-aggregate-put-survey
 slice-aggregate-put-survey c = search needs
 
 put-survey-requires : tie.Need-put-survey-requires
-put-survey-requires c κs = search needs
+put-survey-requires c κs = c .before .before .before .pre .one-a-class
 
 slice-aggregate-put-total : tie.Need-slice-aggregate-put-total
 slice-aggregate-put-total c = search needs
@@ -42,7 +43,7 @@ sum c = survey c .put-survey .result + c .lines-length .result + c .before .befo
 abbrev whole : tie.Start → ℕ
 whole c = let a = c .args in length (listingOf (now (a .letters)) (a .k) (a .mirror) (now (a .counts)))
 
-parts : (c : tie.After-lines-length) → (sum c ≡ whole (start c)) × (sum c ≤ 1375731804)
+parts : (c : tie.After-lines-length) → (sum c ≡ whole (start c)) × (sum c ≤ longest 16777216)
 parts c =
     let known = survey c .before .before in
     parts-are _ _ _ _ (start c .pre) (λ i. omega (arith, known .shared-slice-known2 .given i)) (survey c .put-survey .ensures)

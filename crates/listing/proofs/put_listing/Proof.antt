@@ -1,4 +1,5 @@
 -- `listing::put_listing` meets its contract: the three parts stand one after the other (`then`), by the callees' contracts, and are short (`listing-length`).
+-- The number of classes is that of the counts.
 use borrow.Author.Needs.{needs}
 use native.Mathlib.Omega.{arith}
 use Rattle.texts.proofs.Writing.{then}
@@ -8,7 +9,7 @@ use Rattle.listing.proofs.put_listing.Statement.{statement}
 use Rattle.listing.proofs.put_listing.Tie as tie
 
 put-survey-requires : tie.Need-put-survey-requires
-put-survey-requires c κs = search needs
+put-survey-requires c κs = c .before .before .before .before .pre .one-a-class
 
 put-counts-requires : tie.Need-put-counts-requires
 put-counts-requires c κs = search needs
