@@ -1,5 +1,5 @@
 //! `wontirje histogram`: bars by hand for small listings, groups of counts for wide ones, the chart, listings
-//! without the number of classes, and listings that are none.
+//! without the number of classes, damaged ones, and what is none.
 
 mod run;
 
@@ -87,7 +87,7 @@ fn listings_that_count_prints() {
         assert_eq!((run.status, &run.err[..]), (0, ""), "{survey}");
         assert!(run.text().contains(&format!(" of {classes} classes have a count, ")), "{}", run.text());
     }
-    // No table has as many classes as these settings, but a histogram needs none.
+    // No table has as many classes as these settings, but a histogram needs no table.
     let survey = "(survey (letters ACGT) (k 31) (mirror complement) (classes 2305843009213693952))\n";
     let run = run_with(&["histogram", "-"], format!("{survey}(total 0)\n").as_bytes());
     assert_eq!((run.status, &run.err[..]), (0, ""));
@@ -245,7 +245,8 @@ fn check_refused(listing: &str, reason: &str) {
     assert_eq!(chart, None, "{reason}");
 }
 
-/// Document 02, K6: the number of classes stands once, in digits without leading zeros, and nothing after it.
+/// "a last inner form" (document 02, K6): once, after one space, in digits without leading zeros as we print it,
+/// and nothing after it.
 #[test]
 fn a_damaged_number_of_classes() {
     for form in [
@@ -274,9 +275,14 @@ fn a_damaged_number_of_classes() {
     ] {
         check_refused(&format!("{SURVEY}{EXAMPLE}").replace(CLASSES, form), DAMAGED);
     }
+    // A line longer than any of a listing, and a byte that is no text.
+    let long = format!(" (classes {})", "1".repeat(300));
+    check_refused(&format!("{SURVEY}{EXAMPLE}").replace(CLASSES, &long), DAMAGED);
+    let damaged = b"(survey (letters ACGT) (k 2) (mirror complement) (classes 1\xb0))\n(total 0)\n";
+    run_with(&["histogram", "-"], damaged).check_failed(&format!("standard input: {DAMAGED}"));
 }
 
-/// Document 02, K6: the number of classes stands last, after the other forms and inside of the survey's own.
+/// "a last inner form" (document 02, K6): after the other forms and inside of the survey's own.
 #[test]
 fn the_number_of_classes_in_another_place() {
     for line in [
@@ -346,13 +352,23 @@ fn what_is_no_listing() {
             run_with(&["histogram", "-"], text.as_bytes()).check_failed(&format!("standard input: {right}"));
         }
     }
-    // Every cut is found out but the one that loses only the last LF.
+    run(&["histogram", "/"]).check_failed("/: not read: Is a directory");
+    run(&["histogram", "/nowhere"]).check_failed("/nowhere: not read: No such file or directory");
+}
+
+/// Every cut is found out but the one that loses only the last LF. One in the first line leaves a damaged survey
+/// line, never that of an older listing.
+#[test]
+fn listings_that_are_cut() {
+    let whole = format!("{SURVEY}{EXAMPLE}");
     for whole in [whole.replace(CLASSES, ""), whole] {
+        let line = whole.find('\n').expect("a line");
         for length in 0..whole.len() - 1 {
             let cut = run_with(&["histogram", "-"], &whole.as_bytes()[..length]);
             assert_eq!((cut.status, cut.complaints().len()), (2, 1), "cut to {length}: {}", cut.err);
+            if ("(survey ".len()..line).contains(&length) {
+                cut.check_failed(&format!("standard input: {DAMAGED}"));
+            }
         }
     }
-    run(&["histogram", "/"]).check_failed("/: not read: Is a directory");
-    run(&["histogram", "/nowhere"]).check_failed("/nowhere: not read: No such file or directory");
 }

@@ -42,7 +42,7 @@ fn drawn_tables_of_every_size() {
     assert!(tables > 500 && bytes > 20_000_000, "{tables} tables, {bytes} bytes");
 }
 
-/// Document 02, K6: the survey line has the number of classes last.
+/// The survey line "gains a last inner form" (document 02, K6), the number of classes.
 #[test]
 fn survey_lines_of_every_size() {
     for (s, mirror, k) in sizes_up_to(40_000) {

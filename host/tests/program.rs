@@ -109,8 +109,8 @@ fn stored_runs() {
     check_each(&cases, |case| check(&case.input, &case.output, &compared));
     let [counted, file_refused, settings_refused, other_order, out_of_reach] = compared.numbers();
     assert_eq!(counted + file_refused + settings_refused + other_order + out_of_reach, 1335);
-    assert!(counted > 300 && file_refused > 200 && settings_refused > 60, "{:?}", compared.numbers());
-    assert!(out_of_reach < 200, "{:?}", compared.numbers());
+    assert!(counted > 600 && file_refused > 240 && settings_refused > 80, "{:?}", compared.numbers());
+    assert!(out_of_reach < 175, "{:?}", compared.numbers());
 }
 
 #[test]

@@ -230,13 +230,14 @@ fn the_number_of_classes_of_every_size() {
 fn a_printed_line_given_back() {
     for (seed, kind) in [(54, Kind::Fasta), (55, Kind::Fastq)] {
         let mut drawn = Inputs::new(seed, kind);
-        let inputs: Vec<Vec<u8>> = (0..50).map(|_| drawn.good(100).1).collect();
-        check_each(&inputs, |input| {
+        let inputs: Vec<(Settings, Vec<u8>)> = (0..50).map(|_| drawn.good(100)).collect();
+        check_each(&inputs, |(settings, input)| {
             let (read, file) = first_line(input);
             let output = run_in_pieces(input, input.len());
             let printed = first_line(&output).0;
             let (line, number) = taken_apart(printed).expect("a number of classes");
-            assert_eq!(shown_file(&line), shown_file(read), "the line read, {number} classes");
+            assert_eq!(number, class_count(settings), "{settings}");
+            assert_eq!(shown_file(&line), shown_file(read), "the line read");
             let cleared = run_in_pieces(&[read, b"\n"].concat(), read.len() + 1);
             assert_eq!(shown_file(first_line(&cleared).0), shown_file(printed), "with an empty file");
             check_prints(&line, &cleared);

@@ -12,7 +12,7 @@ use Rattle.listing.proofs.Lengths.{SmallCounts}
 use Rattle.listing.proofs.ListingAnswers.{listing-fits}
 use Rattle.kmer.proofs.Refusals.{clear-small}
 
--- The P of a refused listing is at most 1,375,731,823, the longest that a listing may be, where each count is a 32-bit number.
+-- The P of a refused listing is at most 1,375,731,823 (`longest`), where each count is a 32-bit number.
 pub listing-small : (letters : List ℕ) (k m : ℕ) (table : List ℕ) (room : ℕ) → SmallCounts table → Small (longest 16777216) (listingGround letters k m table room)
 unfolding listingGround
 listing-small letters k m table room small =

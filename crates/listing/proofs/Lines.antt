@@ -1,5 +1,5 @@
 -- The lines of a listing one by one: the survey line part by part and the mirror's name in it, the line of a class and its word, the lines by rising code,
--- the sum of the counts. From the definitions in specs/Listing.antt and in survey's specs/Line.antt, and what `word_of` promises.
+-- the sum of the counts. From the definitions in specs/Listing.antt, survey's law of the line that we print, and what `word_of` promises.
 use mathlib.Core.Path.{_≡_, refl, _∙_}
 use Prim.Native.Nat.{ℕ, suc, _+_, _<_, _≤_}
 use native.Mathlib.Nat.{add-zero, add-suc, suc-add, zero-add}
@@ -23,6 +23,7 @@ use Rattle.tally.specs.Table.{classCount}
 use Rattle.tally.specs.Demand.{sum}
 use Rattle.texts.specs.Decimals.{decimal}
 use Rattle.survey.specs.Line.{mirrorName, surveyLine}
+use Rattle.survey.proofs.Written.{printed-line}
 use Rattle.listing.specs.Listing.{countLine, classLine, countLines}
 
 -- ---- one line
@@ -35,8 +36,7 @@ pub survey-parts : (letters : List ℕ) (k m : ℕ) {n : ℕ} → n ≡ classCou
     → bytes "(survey (letters " ++ (letters ++ (bytes ") (k " ++ (decimal k ++ ((bytes ") (mirror " ++ mirrorName m)
     ++ (bytes ") (classes " ++ (decimal n ++ bytes "))\n"))))))
     ≡ surveyLine letters k m
-unfolding surveyLine
-survey-parts letters k m e = rw e (simp (append-assoc, append-nil))
+survey-parts letters k m e = rw (e, printed-line letters k m) (simp (append-assoc, append-nil))
 
 pub counted-line : (word : List ℕ) (n : ℕ) → (n ≡ 0 → ⊥) → classLine word n ≡ countLine word n
 counted-line word = past-zero (λ (n : ℕ). classLine word n ≡ countLine word n) (λ n. refl)

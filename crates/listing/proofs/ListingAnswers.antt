@@ -93,7 +93,7 @@ small-take (suc n) [] h i = omega arith
 small-take (suc n) (x ∷ xs) h zero = h 0
 small-take (suc n) (x ∷ xs) h (suc i) = small-take n xs (λ j. h (suc j)) i
 
--- Where the grounds before the text's do not apply, a listing is no longer than one of 16,777,216 classes may be.
+-- Where the grounds before the text's do not apply, a listing has no more bytes than `longest` gives for 16,777,216 classes.
 pub listing-fits : (letters : List ℕ) (k m : ℕ) (table : List ℕ) → clearGround letters k m (length table) ≡ none → SmallCounts table
     → length (listing letters k m table) ≤ longest 16777216
 listing-fits letters k m table passed small =

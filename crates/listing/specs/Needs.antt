@@ -1,4 +1,5 @@
--- What functions ask of each other. No claim and no call of document 01 rests on it; `put_listing`, which the program uses, does.
+-- What functions ask of each other. No claim and no call of document 01 rests on it; `put_listing`, which the program uses, and the bound of a listing's length
+-- do.
 use mathlib.Core.Path.{_≡_}
 use Prim.Native.Nat.{ℕ, zero, suc, _+_, _*_, _≤_}
 use mathlib.Core.Option.{none}
@@ -29,6 +30,6 @@ unfoldable pub linesLength : (k : ℕ) (counts : List ℕ) → ℕ
 linesLength k [] = 0
 linesLength k (n ∷ counts) = lineLength k n + linesLength k counts
 
--- No listing of n classes has more bytes: 83 for the survey line, 82 for each class and 28 for the total.
+-- A listing of n classes, up to 16,777,216, has no more bytes: at most 83 for the survey line, 82 for each class and 28 for the total.
 abbrev pub longest : (n : ℕ) → ℕ
 longest n = 111 + 82 * n

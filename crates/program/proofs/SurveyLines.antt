@@ -16,11 +16,13 @@ use Rattle.files.specs.File.{fileNumbers}
 use Rattle.tally.specs.Table.{classCount, readyGround, callGround, add, tableGround, tableAfter}
 use Rattle.tally.proofs.Ready.{ready-settings}
 use Rattle.texts.specs.Decimals.{decimal}
-use Rattle.survey.specs.Line.{settingsPart, surveyLine}
+use Rattle.survey.specs.Forms.{unclosed}
+use Rattle.survey.specs.Line.{printedForms, surveyLine}
 use Rattle.survey.specs.Grammar.{SurveyInput, OtherOrderInput}
 use Rattle.survey.specs.Claims.{Neither}
 use Rattle.survey.specs.Reading.{readLine}
 use Rattle.survey.proofs.Theorems.{reads-all, other-order-all, refuses-all, reads-no-printed-line}
+use Rattle.survey.proofs.Written.{printed-line}
 use Rattle.survey.proofs.OneLine.{the-settings-line}
 use Rattle.listing.specs.Listing.{listingOf, listing}
 use Rattle.program.specs.Program.{fileLine, refusedLine, clearedTable, surveyText, programFile, lineText, programText}
@@ -29,9 +31,8 @@ use Rattle.program.proofs.Outputs.{no-survey-text, other-order-text}
 -- A text that begins with the line that we print begins with the settings' part of it and then has the number of classes.
 begins : (letters : List ℕ) (k m : ℕ) (second third : List ℕ)
     → (surveyLine letters k m ++ second) ++ third
-    ≡ settingsPart letters k m ++ (bytes " (classes " ++ (decimal (classCount letters k m) ++ (bytes "))\n" ++ (second ++ third))))
-unfolding surveyLine
-begins letters k m second third = simp append-assoc
+    ≡ unclosed (printedForms letters k m) ++ (bytes " (classes " ++ (decimal (classCount letters k m) ++ (bytes "))\n" ++ (second ++ third))))
+begins letters k m second third = rw (printed-line letters k m) (simp append-assoc)
 
 module _ {input letters file : List ℕ} {k m : ℕ} (S : SurveyInput input letters k m file) where
   -- What is printed for a survey line and a file.
@@ -50,7 +51,7 @@ module _ {input letters file : List ℕ} {k m : ℕ} (S : SurveyInput input lett
       let counted = listing letters k m (tableAfter letters k m clearedTable (add (programFile file))) in
       let numbers = fileNumbers (rankIn letters) k (programFile file) in
       let text : programText input ≡ counted ++ fileLine numbers = rw (le-ltb 65536 (length input) short, survey-line-text, taken) in
-      (settingsPart letters k m, (_, (the-settings-line passed S, text ∙ begins letters k m _ _)))
+      (unclosed (printedForms letters k m), (_, (the-settings-line passed S, text ∙ begins letters k m _ _)))
 
 -- "it precedes 1": nothing is asked of the letters, k, the mirror or the file, but that the input is not too long (14).
 pub refuses-another-order : {input : List ℕ} → OtherOrderInput input → length input ≤ 65536 → programText input ≡ refusedLine (19, 0)

@@ -142,7 +142,8 @@ each-once :
 unfolding reading
 each-once = (refl, refl, refl, refl, refl, refl)
 
--- "The line that the program reads has no such form" (document 02, K6): none for the number of classes, right or wrong, in no place, in no order.
+-- "The line that the program reads has no such form" (document 02, K6): with the right number or a wrong one, last or at another place, after the other forms
+-- in order or not.
 no-classes :
     Refused "(survey (letters ACGT) (k 2) (mirror complement) (classes 10))\n"
     × Refused "(survey (letters ACGT) (k 2) (mirror complement) (classes 11))"

@@ -14,8 +14,7 @@ use Rattle.survey.specs.declared.Form.{Form}
 use Rattle.survey.specs.declared.Form.the-variants.{Of, NoForm}
 use Rattle.survey.specs.declared.End.{End}
 use Rattle.survey.specs.Needs.{Within}
-use Rattle.survey.specs.Forms.{unclosed}
-use Rattle.survey.specs.Grammar.{lineOf}
+use Rattle.survey.specs.Forms.{unclosed, lineOf}
 use Rattle.survey.specs.Reading.{startsWith, stretch, valueByte, sized, numberOf, formOf, formFrom, formAt, nextForm, lineEnd, headOf, lineFrom}
 use Rattle.survey.proofs.TextLaws.{starts-at}
 use Rattle.survey.proofs.ByteLaws.{stretch-le}

@@ -15,8 +15,8 @@ use Rattle.survey.specs.declared.End.{End}
 use Rattle.survey.specs.declared.End.the-variants.{At, Nowhere}
 use Rattle.survey.specs.declared.Head.{Head}
 use Rattle.survey.specs.declared.Head.the-variants.{Survey, OtherOrder, NoSurvey}
-use Rattle.survey.specs.Forms.{settingsForms}
-use Rattle.survey.specs.Grammar.{lineOf, as-listed, InAnotherOrder, xzy, yxz, yzx, zxy, zyx, LineEnd, LettersText, KText, MirrorText, LineInput, OtherOrderInput}
+use Rattle.survey.specs.Forms.{settingsForms, lineOf}
+use Rattle.survey.specs.Grammar.{as-listed, InAnotherOrder, xzy, yxz, yzx, zxy, zyx, LineEnd, LettersText, KText, MirrorText, LineInput, OtherOrderInput}
 use Rattle.survey.specs.Claims.{Says}
 use Rattle.survey.specs.Reading.{startsWith, formAt, nextForm, endAfter, lineEnd, inOrder, eachOnce, byOrder, headOf, lineFrom, readLine}
 use Rattle.survey.proofs.TextLaws.{starts-at}
@@ -51,8 +51,8 @@ record RowRead (t : List ℕ) (a : Name) (f l v : ℕ) (b : Name) (g m w : ℕ) 
   whole : t ≡ row (written a (take l (drop f t))) (written b (take m (drop g t))) (written c (take n (drop h t))) end (drop next t)
 
 -- Such a row is a line of each order that its three forms, as they stand, have; any of them may be the letters'.
-line-in : {Order : (forms : List (List ℕ)) (line : List ℕ) → Type 0} {t : List ℕ} {a b c : Name} {f l v g m w h n x next : ℕ} {letters kText mirrorText : List ℕ} {k mirror : ℕ}
-    → RowRead t a f l v b g m w c h n x next → LettersText letters → KText kText k → MirrorText mirrorText mirror
+line-in : {Order : (forms : List (List ℕ)) (line : List ℕ) → Type 0} {t : List ℕ} {a b c : Name} {f l v g m w h n x next : ℕ}
+    {letters kText mirrorText : List ℕ} {k mirror : ℕ} → RowRead t a f l v b g m w c h n x next → LettersText letters → KText kText k → MirrorText mirrorText mirror
     → Order (settingsForms letters kText mirrorText)
     (lineOf (written a (take l (drop f t)) ∷ written b (take m (drop g t)) ∷ written c (take n (drop h t)) ∷ []))
     → LineInput Order t letters k mirror (drop next t)

@@ -1,9 +1,9 @@
 -- From the grammar to the reader: a survey line of the grammar is read (`in-order`), a line with its forms in another order is told (`in-another-order`), and
--- a line with a further form is neither (`further-form`), though its first three forms have one reading (`one-row`). From the laws of one form (FormLaws) and
--- of the line's end (LineEnds).
+-- with a further form both are neither (`further-form`, `further-form-in-another-order`), though the first three forms have one reading (`one-row`). From the
+-- laws of one form (FormLaws) and of the line's end (LineEnds).
 use mathlib.Core.Path.{_≡_, refl, sym, ap, _∙_}
 use mathlib.Core.Bool.{true}
-use mathlib.Core.List.{List, [], _∷_, _++_}
+use mathlib.Core.List.{List, [], _∷_, _++_, append-cancel-right}
 use Prim.Native.Nat.{ℕ, _+_}
 use lib.ListN.{length, take, drop}
 use lib.Seq.{take-append-seam}
@@ -14,7 +14,7 @@ use Rattle.survey.specs.declared.Form.{Form}
 use Rattle.survey.specs.declared.Form.the-variants.{Of}
 use Rattle.survey.specs.declared.End.the-variants.{At}
 use Rattle.survey.specs.declared.Head.the-variants.{OtherOrder, NoSurvey}
-use Rattle.survey.specs.Forms.{settingsForms, unclosed}
+use Rattle.survey.specs.Forms.{settingsForms, unclosed, lineOf}
 use Rattle.survey.specs.Grammar.{InOrder, as-listed, InAnotherOrder, xzy, yxz, yzx, zxy, zyx, LineEnd, LettersText, KText, MirrorText}
 use Rattle.survey.specs.Claims.{Answers}
 use Rattle.survey.specs.Reading.{startsWith, formAt, nextForm, endAfter, lineEnd, inOrder, eachOnce, byOrder, headOf, lineFrom, readLine}
@@ -135,13 +135,29 @@ in-another-order {t} letters k mirror end yzx e = line-there t K Mirror Letters 
 in-another-order {t} letters k mirror end zxy e = line-there t Mirror Letters K mirror (letters, refl) k end e .is
 in-another-order {t} letters k mirror end zyx e = line-there t Mirror K Letters mirror k (letters, refl) end e .is
 
--- A space after the third form's bracket, whatever follows it: no line of the grammar.
-pub further-form : {t letters kText mirrorText : List ℕ} {k mirror : ℕ} (rest : List ℕ) → LettersText letters → KText kText k → MirrorText mirrorText mirror
-    → t ≡ unclosed (settingsForms letters kText mirrorText) ++ (bytes " " ++ rest) → readLine t ≡ NoSurvey
+-- Three forms, and in place of the closing bracket a space and more: neither.
+open-row : (a b c : Name) (x y z : List ℕ) (v w u : ℕ) (part rest : List ℕ) → ValueText a x v → ValueText b y w → ValueText c z u
+    → lineOf (written a x ∷ written b y ∷ written c z ∷ []) ≡ part ++ bytes ")" → readLine (part ++ (bytes " " ++ rest)) ≡ NoSurvey
 unfolding headOf
-further-form {t} {mirrorText = mirrorText} rest letters k mirror e =
-    let r = row-there t Letters K Mirror (letters, refl) k mirror e in
-    rw (end-open t (r .third + length mirrorText) (r .follows)) at (r .is)
+open-row a b c x y z v w u part rest A B C e =
+    let t = part ++ (bytes " " ++ rest) in
+    let same = append-cancel-right (unclosed (written a x ∷ written b y ∷ written c z ∷ [])) part (bytes ")") e in
+    let r = row-there t a b c A B C (ap (λ (p : List ℕ). p ++ (bytes " " ++ rest)) (sym same)) in
+    rw (end-open t (r .third + length z) (r .follows)) at (r .is)
+
+pub further-form : {letters kText mirrorText line : List ℕ} {k mirror : ℕ} (part rest : List ℕ) → LettersText letters → KText kText k
+    → MirrorText mirrorText mirror → InOrder (settingsForms letters kText mirrorText) line → line ≡ part ++ bytes ")"
+    → readLine (part ++ (bytes " " ++ rest)) ≡ NoSurvey
+further-form part rest letters k mirror as-listed e = open-row Letters K Mirror _ _ _ _ _ _ part rest (letters, refl) k mirror e
+
+pub further-form-in-another-order : {letters kText mirrorText line : List ℕ} {k mirror : ℕ} (part rest : List ℕ) → LettersText letters → KText kText k
+    → MirrorText mirrorText mirror → InAnotherOrder (settingsForms letters kText mirrorText) line → line ≡ part ++ bytes ")"
+    → readLine (part ++ (bytes " " ++ rest)) ≡ NoSurvey
+further-form-in-another-order part rest letters k mirror xzy e = open-row Letters Mirror K _ _ _ _ _ _ part rest (letters, refl) mirror k e
+further-form-in-another-order part rest letters k mirror yxz e = open-row K Letters Mirror _ _ _ _ _ _ part rest k (letters, refl) mirror e
+further-form-in-another-order part rest letters k mirror yzx e = open-row K Mirror Letters _ _ _ _ _ _ part rest k mirror (letters, refl) e
+further-form-in-another-order part rest letters k mirror zxy e = open-row Mirror Letters K _ _ _ _ _ _ part rest mirror (letters, refl) k e
+further-form-in-another-order part rest letters k mirror zyx e = open-row Mirror K Letters _ _ _ _ _ _ part rest mirror k (letters, refl) e
 
 -- Whatever follows them, the settings' forms at the start of a text are those of one settings.
 pub one-row : {t letters letters′ kText kText′ mirrorText mirrorText′ : List ℕ} {k k′ mirror mirror′ : ℕ} (after after′ : List ℕ) → LettersText letters

@@ -1,5 +1,5 @@
--- What "equal settings then mean equal lines" (document 02, K5) rests on: where settings are not refused, a survey line with them is the settings' part of the
--- line that we print, closed (`the-settings-line`). k is spelt in one way only, its decimal digits, and 0 and 1 are the numbers of one mirror each.
+-- What "equal settings then mean equal lines" (document 02, K5) rests on: where settings are not refused, a survey line with them is the one of the settings'
+-- forms as we print them (`the-settings-line`). k is spelt in one way only, its decimal digits, and 0 and 1 are the numbers of one mirror each.
 use mathlib.Core.Path.{_≡_, refl, sym, ap, _∙_}
 use mathlib.Core.Logic.{_≢_}
 use mathlib.Core.Option.{none}
@@ -7,15 +7,14 @@ use mathlib.Core.List.{List, [], _∷_, _++_, append-assoc, append-nil}
 use Prim.Native.Nat.{ℕ, _+_, _-_, _*_, _/_, _%_, _≤_}
 use native.Mathlib.Omega.{arith}
 use lib.ListN.{length}
-use Rattle.laws.specs.Text.{bytes}
 use Rattle.laws.specs.Each.{Each}
 use Rattle.settings.specs.Settings.{settingsGround}
 use Rattle.settings.proofs.SettingsGrounds.{good-settings}
 use Rattle.texts.specs.Decimals.{decimal}
 use Rattle.texts.proofs.Decimals.{one-digit, more-digits}
-use Rattle.survey.specs.Forms.{settingsForms}
-use Rattle.survey.specs.Line.{mirrorName, settingsPart}
-use Rattle.survey.specs.Grammar.{Digit, KText, spelt, MirrorNumber, reversal, complement, another, lineOf, InOrder, as-listed, SurveyInput}
+use Rattle.survey.specs.Forms.{settingsForms, lineOf}
+use Rattle.survey.specs.Line.{mirrorName, printedForms}
+use Rattle.survey.specs.Grammar.{Digit, KText, spelt, MirrorNumber, reversal, complement, another, InOrder, as-listed, SurveyInput}
 
 -- ---- digits that have no leading zero are the decimal digits of the number that they spell
 
@@ -68,7 +67,7 @@ same-values letters {k} {k′} {mirror} e f =
 
 -- Whatever its end and the file behind it are.
 pub the-settings-line : {input letters file : List ℕ} {k mirror : ℕ} → settingsGround letters k mirror ≡ none → (S : SurveyInput input letters k mirror file)
-    → S .line ≡ settingsPart letters k mirror ++ bytes ")"
+    → S .line ≡ lineOf (printedForms letters k mirror)
 the-settings-line {letters = letters} {k = k} {mirror = mirror} passed S =
     let known = good-settings letters k mirror passed .low in
     line-is (S .order) ∙ same-values letters (k-spelt (S .kText) (S .k-good)) (mirror-named (S .mirror-good .number) known)

@@ -1,7 +1,7 @@
 -- What is proved of reading a survey line: `readLine`, which `read_line` answers, takes exactly the inputs of the grammar, each with the letters,
 -- k, mirror and file that it has, and tells exactly those whose forms stand in another order. The line that we print has the number of classes besides
--- (document 02, K6): its settings' part, closed, is read back, and itself it is none of these. From the two directions (LineRead, LineThere), the line that we
--- print (Written), and that settings have no other (OneLine).
+-- (document 02, K6): its settings' part, closed, is read back, and itself it is none of these. From the two directions (LineRead, LineThere), what the line
+-- that we print is (Written), and that settings which are not refused have one survey line (OneLine).
 use mathlib.Core.Path.{_≡_, refl, sym, _∙_}
 use mathlib.Core.Option.{none}
 use mathlib.Core.List.{List, _++_, append-nil, append-assoc}
@@ -12,14 +12,14 @@ use Rattle.settings.specs.Settings.{settingsGround}
 use Rattle.settings.proofs.SettingsGrounds.{good-settings}
 use Rattle.survey.specs.declared.Head.{Head}
 use Rattle.survey.specs.declared.Head.the-variants.{Survey, OtherOrder, NoSurvey}
-use Rattle.survey.specs.Forms.{settingsForms, unclosed}
-use Rattle.survey.specs.Line.{settingsPart, surveyLine}
-use Rattle.survey.specs.Grammar.{LettersText, KText, MirrorText, LineEnd, with-the-input, SurveyInput, OtherOrderInput}
+use Rattle.survey.specs.Forms.{unclosed, lineOf}
+use Rattle.survey.specs.Line.{printedForms, surveyLine}
+use Rattle.survey.specs.Grammar.{LettersText, as-listed, LineEnd, with-the-input, SurveyInput, OtherOrderInput}
 use Rattle.survey.specs.Claims.{Says, Answers, Neither}
 use Rattle.survey.specs.Reading.{readLine}
 use Rattle.survey.proofs.LineRead.{line-good}
-use Rattle.survey.proofs.LineThere.{in-order, in-another-order, further-form, one-row}
-use Rattle.survey.proofs.Written.{good-letters, values-good, line-written}
+use Rattle.survey.proofs.LineThere.{in-order, in-another-order, further-form, further-form-in-another-order, one-row}
+use Rattle.survey.proofs.Written.{good-letters, values-good, printed-line, line-written}
 use Rattle.survey.proofs.OneLine.{the-settings-line}
 
 -- Only survey lines are read: where the answer is a survey line, the letters and the file that it points to lie inside the input, and the
@@ -66,35 +66,44 @@ refuses-all t n = go (readLine t) refl
     go OtherOrder e = absurd (n .no-other-order (other-order-only t e))
     go NoSurvey e = e
 
--- The settings' part of a printed line, closed, is read back: for letters, a k up to 999 and a mirror 0 or 1 it is read as these, with each end of a line, and
--- what follows the end is the file.
+-- The settings' forms as we print them are read back: for letters, a k up to 999 and a mirror 0 or 1 their line is read as these, with each end, and what
+-- follows the end is the file.
 pub reads-back : (letters : List ℕ) (k mirror : ℕ) {end file : List ℕ} → LettersText letters → k ≤ 999 → mirror ≤ 1 → LineEnd end file
-    → Answers ((settingsPart letters k mirror ++ bytes ")") ++ (end ++ file)) letters k mirror file
+    → Answers (lineOf (printedForms letters k mirror) ++ (end ++ file)) letters k mirror file
 reads-back letters k mirror good small known ends = reads-all (line-written letters k mirror good small known ends)
 
--- So it is for what we print: only settings that pass the check are printed, and the settings' part of the line that is printed for them, closed, is read as
--- the same letters, the same k and the same mirror.
-pub reads-back-what-is-printed : (letters : List ℕ) (k mirror : ℕ) {end file : List ℕ} → settingsGround letters k mirror ≡ none → LineEnd end file
-    → Answers ((settingsPart letters k mirror ++ bytes ")") ++ (end ++ file)) letters k mirror file
-reads-back-what-is-printed letters k mirror passed =
+-- So it is for what we print: only settings that pass the check are printed, and the settings' part of the line that is printed for them (`printed-line`),
+-- closed, is read as the same letters, the same k and the same mirror.
+pub reads-back-the-settings-part : (letters : List ℕ) (k mirror : ℕ) {end file : List ℕ} → settingsGround letters k mirror ≡ none → LineEnd end file
+    → Answers (lineOf (printedForms letters k mirror) ++ (end ++ file)) letters k mirror file
+reads-back-the-settings-part letters k mirror passed =
     let good = good-settings letters k mirror passed in
     reads-back letters k mirror (good-letters letters k mirror passed) (omega (arith, good .short-k)) (good .low)
 
--- "The line that the program reads has no such form" (document 02, K6): with any further form after the three, an input starts with none of these lines.
-pub reads-no-further-form : {letters kText mirrorText : List ℕ} {k mirror : ℕ} (rest : List ℕ) → LettersText letters → KText kText k
-    → MirrorText mirrorText mirror → readLine (unclosed (settingsForms letters kText mirrorText) ++ (bytes " " ++ rest)) ≡ NoSurvey
-reads-no-further-form rest letters k mirror = further-form rest letters k mirror refl
+-- "The line that the program reads has no such form" (document 02, K6): a survey line that has a further form in place of its closing bracket, whatever that
+-- is, is none, nor one in another order;
+pub reads-no-further-form : {input letters file : List ℕ} {k mirror : ℕ} (part rest : List ℕ) (S : SurveyInput input letters k mirror file)
+    → S .line ≡ part ++ bytes ")" → readLine (part ++ (bytes " " ++ rest)) ≡ NoSurvey
+reads-no-further-form part rest S e = further-form part rest (S .letters-good) (S .k-good) (S .mirror-good) (S .order) e
+
+-- and so it is of a line in another order.
+pub reads-no-further-form-in-another-order : {input : List ℕ} (part rest : List ℕ) (o : OtherOrderInput input) → o .is .line ≡ part ++ bytes ")"
+    → readLine (part ++ (bytes " " ++ rest)) ≡ NoSurvey
+reads-no-further-form-in-another-order part rest o e =
+    let s = o .is in
+    further-form-in-another-order part rest (s .letters-good) (s .k-good) (s .mirror-good) (s .order) e
 
 -- The line that we print is such a line, whatever follows it.
 pub reads-no-printed-line : (letters : List ℕ) (k mirror : ℕ) (rest : List ℕ) → settingsGround letters k mirror ≡ none
     → readLine (surveyLine letters k mirror ++ rest) ≡ NoSurvey
-unfolding surveyLine
 reads-no-printed-line letters k mirror rest passed =
     let v = values-good letters k mirror passed in
-    further-form _ (v .letters-good) (v .k-good) (v .mirror-good) (append-assoc (settingsPart letters k mirror) _ rest)
+    let part = unclosed (printedForms letters k mirror) in
+    rw (printed-line letters k mirror, append-assoc part _ rest)
+    (further-form part _ (v .letters-good) (v .k-good) (v .mirror-good) as-listed refl)
 
--- "Where the settings are not refused, equal settings then mean equal lines, save for the line's end" (document 02, K5): both are the settings' part of the
--- line that we print, closed.
+-- "Where the settings are not refused, equal settings then mean equal lines, save for the line's end" (document 02, K5): both are the line of the
+-- settings' forms as we print them.
 pub equal-settings-equal-lines : {input input′ letters file file′ : List ℕ} {k mirror : ℕ} → settingsGround letters k mirror ≡ none
     → (S : SurveyInput input letters k mirror file) (S′ : SurveyInput input′ letters k mirror file′) → S .line ≡ S′ .line
 equal-settings-equal-lines passed S S′ = the-settings-line passed S ∙ sym (the-settings-line passed S′)
@@ -128,8 +137,8 @@ equal-lines-equal-settings S S′ e =
 pub equal-printed-lines-equal-settings : {letters letters′ : List ℕ} {k k′ mirror mirror′ : ℕ} → settingsGround letters k mirror ≡ none
     → settingsGround letters′ k′ mirror′ ≡ none → surveyLine letters k mirror ≡ surveyLine letters′ k′ mirror′
     → (letters ≡ letters′) × (k ≡ k′) × (mirror ≡ mirror′)
-unfolding surveyLine
 equal-printed-lines-equal-settings {letters} {letters′} {k} {k′} {mirror} {mirror′} passed passed′ e =
     let v = values-good letters k mirror passed in
     let v′ = values-good letters′ k′ mirror′ passed′ in
-    one-row _ _ (v .letters-good) (v .k-good) (v .mirror-good) refl (v′ .letters-good) (v′ .k-good) (v′ .mirror-good) e
+    one-row _ _ (v .letters-good) (v .k-good) (v .mirror-good) (printed-line letters k mirror)
+    (v′ .letters-good) (v′ .k-good) (v′ .mirror-good) (e ∙ printed-line letters′ k′ mirror′)

@@ -1,21 +1,23 @@
--- The settings' part of the survey line that we print, closed, is a line of the grammar: k up to 999 in decimal is a k, the two mirrors' names are mirrors, and
--- the letters of settings that pass the check are letters. From the laws of decimal digits of the texts and what is known of such settings.
+-- The survey line that we print: what it is part by part (`printed-line`); and its settings' part, closed, is a line of the grammar (`line-written`): k up to
+-- 999 in decimal is a k, the two mirrors' names are mirrors, and the letters of settings that pass the check are letters. From the laws of decimal digits of
+-- the texts and what is known of such settings.
 use mathlib.Core.Path.{_≡_, refl, sym, _∙_}
 use mathlib.Core.Bool.{Bool, true, false, not, _&&_, and-eq-true-iff}
 use mathlib.Core.Option.{none}
-use mathlib.Core.List.{List, [], _∷_, _++_}
+use mathlib.Core.List.{List, [], _∷_, _++_, append-assoc, append-nil}
 use Prim.Native.Nat.{ℕ, zero, suc, _+_, _/_, _%_, _≤_}
 use native.Mathlib.Omega.{arith}
 use lib.Dec.{leb, ltb}
 use borrow.Author.Tests.{leb-true, ltb-true, ltb-false}
 use Rattle.laws.specs.Text.{bytes}
 use Rattle.laws.specs.Each.{Each}
-use Rattle.settings.specs.Settings.{isCapital, isIn, differentCapitals, settingsGround}
+use Rattle.settings.specs.Settings.{isCapital, isIn, differentCapitals, settingsGround, settingsOf}
 use Rattle.settings.proofs.Letters.{some-letters}
 use Rattle.settings.proofs.SettingsGrounds.{good-settings}
 use Rattle.texts.specs.Decimals.{decimal}
 use Rattle.texts.proofs.Decimals.{one-digit, more-digits}
-use Rattle.survey.specs.Line.{mirrorName, settingsPart}
+use Rattle.survey.specs.Forms.{unclosed, lineOf}
+use Rattle.survey.specs.Line.{mirrorName, printedForms, surveyLine}
 use Rattle.survey.specs.Grammar.{LetterByte, LettersText, Digit, KText, MirrorText, reversal, complement, spelt, as-listed, LineEnd, SurveyInput}
 use Rattle.survey.proofs.ByteLaws.{letter-above}
 use Rattle.survey.proofs.MirrorNames.{reversal-small, complement-small}
@@ -95,13 +97,20 @@ values-good letters k mirror passed =
       mirror-good = mirror-written mirror (good .low);
     }
 
+-- The settings' part, and then the number of classes.
+pub printed-line : (letters : List ℕ) (k mirror : ℕ)
+    → surveyLine letters k mirror
+    ≡ unclosed (printedForms letters k mirror) ++ (bytes " (classes " ++ (decimal (settingsOf letters k mirror .classes) ++ bytes "))\n"))
+unfolding surveyLine
+printed-line letters k mirror = simp (append-assoc, append-nil)
+
 -- Whatever the line's end is and the file behind it.
 pub line-written : (letters : List ℕ) (k mirror : ℕ) {end file : List ℕ} → LettersText letters → k ≤ 999 → mirror ≤ 1 → LineEnd end file
-    → SurveyInput ((settingsPart letters k mirror ++ bytes ")") ++ (end ++ file)) letters k mirror file
+    → SurveyInput (lineOf (printedForms letters k mirror) ++ (end ++ file)) letters k mirror file
 line-written letters k mirror good small known ends = record {
   kText = decimal k;
   mirrorText = mirrorName mirror;
-  line = settingsPart letters k mirror ++ bytes ")";
+  line = lineOf (printedForms letters k mirror);
   end = _;
   letters-good = good;
   k-good = k-written k small;

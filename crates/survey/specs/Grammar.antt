@@ -7,7 +7,7 @@ use Prim.Native.Nat.{ℕ, _+_, _-_, _*_, _≤_}
 use lib.ListN.{length, getD}
 use Rattle.laws.specs.Text.{bytes}
 use Rattle.laws.specs.Each.{Each}
-use Rattle.survey.specs.Forms.{settingsForms, unclosed}
+use Rattle.survey.specs.Forms.{settingsForms, lineOf}
 
 -- "letters are one or more bytes other than brackets, spaces, CR and LF"
 abbrev pub LetterByte : ℕ → Type 0
@@ -47,11 +47,6 @@ pub record MirrorText (text : List ℕ) (mirror : ℕ) : Type 0 where
   pub each : Each SmallLetter text
   pub number : MirrorNumber text mirror
 
--- A line that is read, without its end: these inner forms and no more. "The line that the program reads has no such form" (document 02, K6): none for the
--- number of classes.
-abbrev pub lineOf : (forms : List (List ℕ)) → List ℕ
-lineOf forms = unclosed forms ++ bytes ")"
-
 -- "They now stand as letters, k, mirror" (document 02, K5): the forms as they are listed.
 pub data InOrder (forms : List (List ℕ)) : (line : List ℕ) → Type 0 where
   as-listed : InOrder forms (lineOf forms)
@@ -71,7 +66,7 @@ pub data LineEnd : (end file : List ℕ) → Type 0 where
   with-the-input : LineEnd [] []
 
 -- The input is a line with the settings' forms, well formed, as `Order` has them, its end, and then a file. Well formed is a matter of shape: k may be 0 and
--- the mirror any name.
+-- the mirror any name. "The line that the program reads has no such form" (document 02, K6): none for the number of classes.
 pub record LineInput (Order : (forms : List (List ℕ)) (line : List ℕ) → Type 0) (input letters : List ℕ) (k mirror : ℕ) (file : List ℕ) : Type 0 where
   pub kText : List ℕ
   pub mirrorText : List ℕ

@@ -36,6 +36,7 @@ fn is_number(text: &str) -> bool {
     digits && (text == "0" || !text.starts_with('0'))
 }
 
+/// Its value; none where the text is no such number or does not fit.
 fn number<T: std::str::FromStr>(text: &str) -> Option<T> {
     text.parse().ok().filter(|_| is_number(text))
 }
@@ -110,11 +111,13 @@ struct Lines<R> {
 }
 
 impl<R: BufRead> Lines<R> {
-    /// The next line without its end, none after the last. What is no text has none of a listing's shapes.
+    /// The next line without its end, none after the last. A listing is all ASCII: any other byte is read as one
+    /// that none of its shapes has, and the rest of its line still tells which line it was.
     fn next(&mut self) -> Result<Option<&str>, String> {
         self.line.clear();
         self.number += 1;
         let read = self.from.by_ref().take(LONGEST).read_until(b'\n', &mut self.line);
+        self.line.iter_mut().filter(|byte| !byte.is_ascii()).for_each(|byte| *byte = b'?');
         match read.map_err(|error| format!("not read: {}", reason(&error)))? {
             0 => Ok(None),
             _ => Ok(Some(str::from_utf8(bare(&self.line)).unwrap_or("?"))),
