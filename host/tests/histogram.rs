@@ -280,6 +280,10 @@ fn a_damaged_number_of_classes() {
     check_refused(&format!("{SURVEY}{EXAMPLE}").replace(CLASSES, &long), DAMAGED);
     let damaged = b"(survey (letters ACGT) (k 2) (mirror complement) (classes 1\xb0))\n(total 0)\n";
     run_with(&["histogram", "-"], damaged).check_failed(&format!("standard input: {DAMAGED}"));
+    // Such a byte after the total, where the file line may stand.
+    let after = [format!("{SURVEY}{EXAMPLE}").as_bytes(), b"(file (rec\xffrds 1))\n"].concat();
+    let reason = "standard input: line 7: nothing may follow the listing";
+    run_with(&["histogram", "-"], &after).check_failed(reason);
 }
 
 /// "a last inner form" (document 02, K6): after the other forms and inside of the survey's own.
@@ -356,8 +360,8 @@ fn what_is_no_listing() {
     run(&["histogram", "/nowhere"]).check_failed("/nowhere: not read: No such file or directory");
 }
 
-/// Every cut is found out but the one that loses only the last LF. One in the first line leaves a damaged survey
-/// line, never that of an older listing.
+/// Every cut is found out but the one that loses only the last LF. One in the first line, after its "(survey ",
+/// leaves a damaged survey line, never that of an older listing.
 #[test]
 fn listings_that_are_cut() {
     let whole = format!("{SURVEY}{EXAMPLE}");

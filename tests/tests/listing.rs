@@ -163,7 +163,7 @@ const LENGTHS: [Measured; 8] = [
     (b"AB", 25, COMPLEMENT, 16_777_216, [59, 78]),
 ];
 
-/// "A lent buffer too short; P is the length needed": a buffer with the length that was enough before document 02, K6,
+/// 7: "a lent buffer too short; P is the length needed": a buffer with the length that was enough before document 02, K6,
 /// is too short, and so is one that lacks a byte of the new length. With just the new length the listing is written.
 #[test]
 fn rooms_about_the_old_and_the_new_length() {

@@ -177,7 +177,7 @@ fn spellings(values: [&str; 3]) -> BTreeSet<String> {
 }
 
 /// "Where the settings are not refused, equal settings then mean equal lines, save for the line's end": with each
-/// end, of all these lines the program takes just one, and it is the one that it prints without the number of classes.
+/// end, of all these lines the program takes just one, and it is the one that it prints, without the number of classes.
 #[test]
 fn settings_have_one_line() {
     let settings = [

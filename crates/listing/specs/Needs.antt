@@ -30,6 +30,7 @@ unfoldable pub linesLength : (k : ℕ) (counts : List ℕ) → ℕ
 linesLength k [] = 0
 linesLength k (n ∷ counts) = lineLength k n + linesLength k counts
 
--- A listing of n classes, up to 16,777,216, has no more bytes: at most 83 for the survey line, 82 for each class and 28 for the total.
+-- A listing of n classes, up to 16,777,216, each count a 32-bit number, has no more bytes: at most 83 for the survey line, 82 for each class and 28 for the
+-- total.
 abbrev pub longest : (n : ℕ) → ℕ
 longest n = 111 + 82 * n

@@ -1,5 +1,5 @@
 -- The reading of a survey line: laws of texts, of a form's value, of a form and of a whole line; what we print, and that settings which are not refused have
--- no other line; the theorems; computed cases.
+-- one line that is read; the theorems; computed cases.
 pub mod TextLaws
 pub mod ByteLaws
 pub mod MirrorNames

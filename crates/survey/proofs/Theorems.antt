@@ -80,8 +80,8 @@ reads-back-the-settings-part letters k mirror passed =
     let good = good-settings letters k mirror passed in
     reads-back letters k mirror (good-letters letters k mirror passed) (omega (arith, good .short-k)) (good .low)
 
--- "The line that the program reads has no such form" (document 02, K6): a survey line that has a further form in place of its closing bracket, whatever that
--- is, is none, nor one in another order;
+-- "The line that the program reads has no such form" (document 02, K6): a survey line that has a space and anything more in place of its closing bracket is
+-- none, nor one in another order;
 pub reads-no-further-form : {input letters file : List ℕ} {k mirror : ℕ} (part rest : List ℕ) (S : SurveyInput input letters k mirror file)
     → S .line ≡ part ++ bytes ")" → readLine (part ++ (bytes " " ++ rest)) ≡ NoSurvey
 reads-no-further-form part rest S e = further-form part rest (S .letters-good) (S .k-good) (S .mirror-good) (S .order) e

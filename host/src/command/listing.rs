@@ -111,16 +111,16 @@ struct Lines<R> {
 }
 
 impl<R: BufRead> Lines<R> {
-    /// The next line without its end, none after the last. A listing is all ASCII: any other byte is read as one
-    /// that none of its shapes has, and the rest of its line still tells which line it was.
+    /// The next line without its end, none after the last. What is no text has none of a listing's shapes; what
+    /// begins as a survey line stays known as a damaged one.
     fn next(&mut self) -> Result<Option<&str>, String> {
         self.line.clear();
         self.number += 1;
         let read = self.from.by_ref().take(LONGEST).read_until(b'\n', &mut self.line);
-        self.line.iter_mut().filter(|byte| !byte.is_ascii()).for_each(|byte| *byte = b'?');
+        let no_text = if self.line.starts_with(b"(survey ") { "(survey ?" } else { "?" };
         match read.map_err(|error| format!("not read: {}", reason(&error)))? {
             0 => Ok(None),
-            _ => Ok(Some(str::from_utf8(bare(&self.line)).unwrap_or("?"))),
+            _ => Ok(Some(str::from_utf8(bare(&self.line)).unwrap_or(no_text))),
         }
     }
 
