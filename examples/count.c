@@ -1,7 +1,7 @@
 /*
  * Counts the 2-mers of small sequence files under reverse complement, as the lab would: clear a table, add the
- * files, withdraw one that was mislabelled, print the listing. The first two are a FASTA and a FASTQ file; the next
- * two, one of each kind, are damaged and are refused whole.
+ * files, withdraw one that was mislabelled, print the listing, load it into another table. The first two are a FASTA
+ * and a FASTQ file; the next two, one of each kind, are damaged and are refused whole.
  */
 #include <stdio.h>
 #include <stdlib.h>
@@ -32,8 +32,20 @@ static void call(file_call *function, uint32_t *table, enum kmer_kinds kind, con
            (unsigned long long)numbers[4]);
 }
 
-/* Prints the listing: a first call without a buffer is refused with the length needed as its P. */
-static int list(const uint32_t *table)
+/* Loads a listing into a table and prints how many places were set, or why it was refused. */
+static void load(uint32_t *table, const uint8_t *text, size_t length)
+{
+    uint64_t answer = kmer_load(letters, sizeof letters, K, KMER_COMPLEMENT, table, CLASSES, text, length);
+    if (kmer_is_refused(answer)) {
+        printf("refused %u %llu\n", kmer_refusal(answer), (unsigned long long)kmer_refusal_p(answer));
+        return;
+    }
+    printf("loaded %llu places\n", (unsigned long long)answer);
+}
+
+/* Prints the listing (a first call without a buffer is refused with the length needed as its P), and loads it into
+ * another table, whose counts are then the same. */
+static int list_and_load(const uint32_t *table, uint32_t *other)
 {
     uint64_t needed = kmer_refusal_p(kmer_listing(letters, sizeof letters, K, KMER_COMPLEMENT, table, CLASSES, NULL, 0));
     uint8_t *text = malloc(needed);
@@ -42,13 +54,16 @@ static int list(const uint32_t *table)
     }
     kmer_listing(letters, sizeof letters, K, KMER_COMPLEMENT, table, CLASSES, text, needed);
     fwrite(text, 1, needed, stdout);
+    load(other, text, needed);
+    /* Cut off: the total, the last line, has lost its end. */
+    load(other, text, needed - 1);
     free(text);
-    return 0;
+    return memcmp(table, other, CLASSES * sizeof *table) != 0;
 }
 
 int main(void)
 {
-    uint32_t table[CLASSES];
+    uint32_t table[CLASSES], other[CLASSES];
 
     printf("%llu classes\n", (unsigned long long)kmer_clear(letters, sizeof letters, K, KMER_COMPLEMENT, table, CLASSES));
     call(kmer_add, table, KMER_FASTA, ">a\nACGTN\n>b\nAG\nCT\n");
@@ -60,5 +75,5 @@ int main(void)
     call(kmer_add, table, KMER_FASTA, ">f\nTTTT\n");
     call(kmer_withdraw, table, KMER_FASTA, ">f\nTTTT\n");
     call(kmer_withdraw, table, KMER_FASTA, ">f\nTTTT\n");
-    return list(table);
+    return list_and_load(table, other);
 }

@@ -1,7 +1,7 @@
 /*
  * kmer.h: the C calls of libkmer.a, which code k-mers, read codes back, mirror k-mers, code all k-mers
- * along a sequence, count the k-mers of sequence files (FASTA or FASTQ) in a table, withdraw files from it, and
- * list the table.
+ * along a sequence, count the k-mers of sequence files (FASTA or FASTQ) in a table, withdraw files from it,
+ * list the table, and load a listing into a table.
  *
  * A class is a word of k letters together with its mirror. The calls work with the minimal encoding
  * of canonical k-mers (Wittler 2023): each class has one code, from 0 to the number of classes less 1.
@@ -24,16 +24,17 @@
  * may be NULL where that length is 0, and must otherwise be aligned for its type and point to as many
  * elements. Nothing need end in a 0 byte. A buffer that is written must not overlap any other lent buffer.
  * Whatever the numbers and bytes are, a call returns and touches no other memory; it never writes to
- * letters, word, sequence or file, and only kmer_clear, kmer_add and kmer_withdraw write to a table. The calls
- * keep no state, so several threads may call at once; they may share what is only read, and what a call writes
- * must be that call's alone. While a call runs nobody else may write to memory that is lent to it, nor read what
+ * letters, word, sequence or file, and only kmer_clear, kmer_add, kmer_withdraw and kmer_load write to a table. The
+ * calls keep no state, so several threads may call at once; they may share what is only read, and what a call
+ * writes must be that call's alone. While a call runs nobody else may write to memory that is lent to it, nor read what
  * it writes. When a refused call returns, all lent memory holds what it held before; kmer_withdraw alone may
  * have written meanwhile, to the table.
  *
  * An answer below 2^63 is a result. An answer from 2^63 on is a refusal: see kmer_is_refused below.
  * Of several grounds for refusing that apply, the one with the lowest number is returned, save that those of
  * a file's bytes all come after 7 and before 12 and 18: in FASTA of 10 and 11 the one at the earlier byte; in
- * FASTQ that of the earliest record at fault, and within the record the first that applies of 15, 10, 16, 17.
+ * FASTQ that of the earliest record at fault, and within the record the first that applies of 15, 10, 16, 17;
+ * in a listing that of the first line at fault, and within the line the lowest of 20, 21, 22.
  */
 #ifndef KMER_H
 #define KMER_H
@@ -92,8 +93,14 @@ enum kmer_grounds {
                                  is the offset of the quality line */
     KMER_QUALITY_BYTE = 17,   /* FASTQ only: a quality byte is not from 33 to 126; P is the offset of the
                                  first */
-    KMER_COUNTS_LACKING = 18  /* kmer_withdraw only: some class has a smaller count than the file has windows
+    KMER_COUNTS_LACKING = 18, /* kmer_withdraw only: some class has a smaller count than the file has windows
                                  of it */
+    KMER_BAD_LINE = 20,       /* kmer_load only: a line has none of a listing's shapes, stands where another kind
+                                 or none belongs, or is missing; P is its offset, for a missing line text_len */
+    KMER_OTHER_SETTINGS = 21, /* kmer_load only: the survey line differs from the settings or their number of
+                                 classes; P is its offset, 0 */
+    KMER_BAD_COUNT = 22       /* kmer_load only: a word is not canonical, its code does not rise, a count is not 1
+                                 to 4,294,967,295, or the total is not the sum; P is the offset of the line */
 };
 
 /*
@@ -221,6 +228,26 @@ uint64_t kmer_withdraw(const uint8_t *letters, size_t letters_len, size_t k, uin
 uint64_t kmer_listing(const uint8_t *letters, size_t letters_len, size_t k, uint64_t mirror,
                       const uint32_t *table, size_t table_len, uint8_t *text, size_t text_len);
 
+/*
+ * Loads a listing into a table: its counts replace the old ones, with 0 for a class that is not listed. What was
+ * added to the table before is no longer in it; files may then be added and withdrawn as after kmer_clear.
+ *   table, table_len  a table, whatever it holds. It needs a place for each class. The first places, one a class,
+ *                     are set; later places keep what they held.
+ *   text, text_len    the listing, as kmer_listing writes it, of any length: the survey line with its number of
+ *                     classes, lines of classes by rising code, the total, each ending in LF, the last too, and
+ *                     nothing behind them. Numbers have no leading zero but 0 itself. A word is k capitals of the
+ *                     settings: here a small letter is none, nor is U where it is not in the letters.
+ * Just the listings of tables with these settings are loaded: what kmer_listing writes gives the counts back, and
+ * kmer_listing of a loaded table gives the text back, byte by byte.
+ * Returns the number of classes, which is the number of places set, or 2^63 + P * 256 + the number of the first
+ * ground that applies: 1, 2, 4, 6 (of the classes), 7, then that of the first line at fault, the lowest of 20, 21,
+ * 22 that applies to it, where P is the length needed for 7, the offset of the line for 20 to 22 (for a missing
+ * line text_len), else 0. An offset above KMER_MOST_P, which no text in a machine's memory has today, is told as
+ * KMER_MOST_P. The text is read to its end before the table is touched: a refused call writes nothing to table.
+ */
+uint64_t kmer_load(const uint8_t *letters, size_t letters_len, size_t k, uint64_t mirror,
+                   uint32_t *table, size_t table_len, const uint8_t *text, size_t text_len);
+
 /* How many numbers kmer_add and kmer_withdraw answer with. */
 #define KMER_NUMBERS 5
 
@@ -229,6 +256,9 @@ uint64_t kmer_listing(const uint8_t *letters, size_t letters_len, size_t k, uint
 
 /* The lowest answer that is a refusal: 2^63. */
 #define KMER_REFUSED UINT64_C(0x8000000000000000)
+
+/* The largest P that fits beside a number: 2^55 - 1. */
+#define KMER_MOST_P UINT64_C(0x7fffffffffffff)
 
 /* 1 where the answer of any call above is a refusal, else 0. */
 static inline int kmer_is_refused(uint64_t answer)
@@ -245,8 +275,8 @@ static inline unsigned kmer_refusal(uint64_t answer)
 /*
  * P of a refusal by any call but kmer_code and kmer_word: the length needed for KMER_SHORT_BUFFER, the place
  * or offset from 0 for KMER_FOREIGN_BYTE, KMER_STRAY_BYTE, KMER_EARLY_LETTER, KMER_BAD_RECORD,
- * KMER_QUALITY_LENGTH and KMER_QUALITY_BYTE, else 0. kmer_code and kmer_word return no P, so for these it is
- * always 0.
+ * KMER_QUALITY_LENGTH, KMER_QUALITY_BYTE, KMER_BAD_LINE, KMER_OTHER_SETTINGS and KMER_BAD_COUNT, else 0.
+ * kmer_code and kmer_word return no P, so for these it is always 0.
  */
 static inline uint64_t kmer_refusal_p(uint64_t answer)
 {

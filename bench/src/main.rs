@@ -1,7 +1,8 @@
 //! Prints nanoseconds a letter, the median of several runs, of both paths of libkmer.a along random sequences
-//! and of adding a file to a table, beside plain Rust versions (baseline.rs says where they differ) in the same
-//! run, with ratios, of adding reads as FASTQ beside FASTA, and of withdrawing a file beside adding it; before
-//! that, the whole command `wontirje count` beside other counters.
+//! and of adding a file to a table, beside plain Rust versions (baseline.rs says where they differ) in the
+//! same run, with ratios, of adding reads as FASTQ beside FASTA, of withdrawing a file beside adding it, and
+//! of loading a listing beside writing it; before that, the whole command `wontirje count` beside other
+//! counters.
 
 mod adding;
 mod baseline;
@@ -11,6 +12,7 @@ mod command;
 #[allow(dead_code)]
 #[path = "../../tests/src/draw.rs"]
 mod draw;
+mod loading;
 #[path = "../../host/tests/run/usage.rs"]
 mod usage;
 mod withdrawing;
@@ -113,14 +115,17 @@ fn print_alphabets() {
 }
 
 fn main() {
-    // The words `adding`, `withdrawing` and `command` as an argument leave out the rest, which takes longer. The
-    // command comes first, while this process is small.
+    // The words `adding`, `withdrawing`, `loading` and `command` as an argument leave out the rest, which
+    // takes longer. The command comes first, while this process is small.
     let asked = |part: &str| std::env::args().any(|argument| argument == part);
     if asked("adding") {
         return adding::print();
     }
     if asked("withdrawing") {
         return withdrawing::print();
+    }
+    if asked("loading") {
+        return loading::print();
     }
     command::print();
     if asked("command") {
@@ -131,4 +136,5 @@ fn main() {
     print_alphabets();
     adding::print();
     withdrawing::print();
+    loading::print();
 }

@@ -27,6 +27,13 @@
 //! assert_eq!(table[code.0 as usize], 3);
 //! settings.withdraw(&mut table, Kind::Fastq, b"@c\nAC\n+\nII\n")?;
 //! assert_eq!(table[code.0 as usize], 2);
+//! // Next year's files are added to the counts of the listing.
+//! let mut listing = vec![0; 1000];
+//! let length = settings.listing(&table, &mut listing)?;
+//! let mut next_year = vec![0; settings.table_places()?];
+//! settings.load(&mut next_year, &listing[..length])?;
+//! settings.add(&mut next_year, Kind::Fasta, b">d\nGT\n")?;
+//! assert_eq!(next_year[code.0 as usize], 3);
 //! # Ok::<(), wontirje::Refusal>(())
 //! ```
 

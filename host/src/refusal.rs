@@ -18,11 +18,11 @@ const REFUSED: u64 = 1 << 63;
 /// ```
 #[derive(Clone, Copy, Debug, PartialEq, Eq)]
 pub struct Refusal {
-    /// The ground, from 1 to 12 or 15 to 18. It is never 3, which is reserved.
+    /// The ground, from 1 to 12, 15 to 18 or 20 to 22. It is never 3, which is reserved.
     pub number: u64,
-    /// The length needed for 7; the place or offset, from 0, of the byte for 9, 10, 11 and 17, of the line for 15
-    /// and 16 (the file's length for a missing line); else 0. [`crate::Settings::code`] and
-    /// [`crate::Settings::word`] always give 0.
+    /// The length needed for 7; the place or offset, from 0, of the byte for 9, 10, 11 and 17, of the line
+    /// for 15, 16 and 20 to 22 (the length of the file or the listing for a missing line); else 0.
+    /// [`crate::Settings::code`] and [`crate::Settings::word`] always give 0.
     pub place: u64,
 }
 
@@ -50,6 +50,15 @@ impl Refusal {
             16 => "a quality line is longer or shorter than its sequence line",
             17 => "a quality byte is not from 33 to 126",
             18 => "some class has a smaller count than the file has windows of it",
+            20 => {
+                "a line has none of a listing's shapes, stands where another kind or none belongs, \
+                 or is missing"
+            }
+            21 => "the survey line differs from the settings or their number of classes",
+            22 => {
+                "a word is not canonical, its code does not rise, a count is not 1 to 4,294,967,295, \
+                 or the total is not the sum"
+            }
             _ => "a ground that the library's header does not name",
         }
     }

@@ -1,7 +1,7 @@
-//! Tables of counts: kmer_clear, kmer_add, kmer_withdraw and kmer_listing, and the number of places that kmer_clear
-//! tells.
+//! Tables of counts: kmer_clear, kmer_add, kmer_withdraw, kmer_listing and kmer_load, and the number of
+//! places that kmer_clear tells.
 
-use crate::c_calls::{kmer_add, kmer_clear, kmer_listing, kmer_withdraw};
+use crate::c_calls::{kmer_add, kmer_clear, kmer_listing, kmer_load, kmer_withdraw};
 use crate::kind::Kind;
 use crate::refusal::{judged, Refusal};
 use crate::settings::Settings;
@@ -80,11 +80,11 @@ impl Settings<'_> {
         judged(answer).map(|places| places as usize)
     }
 
-    /// Adds a sequence file of a kind to a table that was cleared with the same settings: 1 for each window at
-    /// the place of its class. Files of both kinds may be added to one table. Refused on the grounds 1, 4, 6, 7
-    /// (the place is the length needed), those of the file's bytes (the place is an offset), and 12; a refused
-    /// file changes no count. The bytes of FASTA are refused with 10 or 11, whichever byte is earlier; those of
-    /// FASTQ with 15, 10, 16 or 17, in this order within the earliest record at fault.
+    /// Adds a sequence file of a kind to a table that was cleared or loaded with the same settings: 1 for each
+    /// window at the place of its class. Files of both kinds may be added to one table. Refused on the grounds
+    /// 1, 4, 6, 7 (the place is the length needed), those of the file's bytes (the place is an offset), and 12;
+    /// a refused file changes no count. The bytes of FASTA are refused with 10 or 11, whichever byte is earlier;
+    /// those of FASTQ with 15, 10, 16 or 17, in this order within the earliest record at fault.
     ///
     /// ```
     /// use wontirje::{Kind, Refusal, Settings};
@@ -181,5 +181,47 @@ impl Settings<'_> {
             kmer_listing(letters.as_ptr(), letters.len(), k, mirror, from, table.len(), to, text.len())
         };
         judged(answer).map(|length| length as usize)
+    }
+
+    /// Loads a listing into a table: its counts take the place of the old ones, 0 that of a class that is not
+    /// listed; later places keep what they held. Answers how many places were set, which is the number of
+    /// classes. Files may then be added and withdrawn as after [`Settings::clear`].
+    ///
+    /// Just the listings of tables with these settings are loaded, byte for byte as [`Settings::listing`]
+    /// writes them: each line ends in LF, the survey line has the number of classes, and nothing follows the
+    /// total. Refused on the grounds 1, 4, 6, 7 (the place is the length needed), and then that of the first
+    /// line at fault (the place is its offset): 20 where it has none of a listing's shapes, or stands where
+    /// another kind or none belongs; 21 where the survey line differs from the settings or their number of
+    /// classes; 22 where a word is not canonical, its code does not rise, a count is not 1 to 4,294,967,295,
+    /// or the total is not the sum; in this order within a line. A missing line is refused with 20, and the
+    /// place is then the text's length. A refused listing changes no count.
+    ///
+    /// ```
+    /// use wontirje::{Kind, Refusal, Settings};
+    /// let settings = Settings::dna(2);
+    /// let survey = "(survey (letters ACGT) (k 2) (mirror complement) (classes 10))\n";
+    /// let last_year = [survey, "(count CG 1)\n", "(total 1)\n"].concat();
+    /// let mut table = vec![7; 10];
+    /// assert_eq!(settings.load(&mut table, last_year.as_bytes()), Ok(10));
+    /// assert_eq!(table, [0, 1, 0, 0, 0, 0, 0, 0, 0, 0]);
+    /// settings.add(&mut table, Kind::Fasta, b">this year\nACG\n")?;
+    /// assert_eq!(table, [0, 2, 0, 0, 0, 1, 0, 0, 0, 0]);
+    /// // The total is missing.
+    /// let cut_off = Refusal { number: 20, place: 76 };
+    /// assert_eq!(settings.load(&mut table, &last_year.as_bytes()[..76]), Err(cut_off));
+    /// // The listing is of words of 2 letters.
+    /// let other = Refusal { number: 21, place: 0 };
+    /// assert_eq!(Settings::dna(1).load(&mut table, last_year.as_bytes()), Err(other));
+    /// assert_eq!(table, [0, 2, 0, 0, 0, 1, 0, 0, 0, 0]);
+    /// # Ok::<(), Refusal>(())
+    /// ```
+    pub fn load(&self, table: &mut [u32], text: &[u8]) -> Result<usize, Refusal> {
+        let (letters, k, mirror) = (self.letters, self.k, self.mirror as u64);
+        // SAFETY: as in `clear`; the text is only read.
+        let answer = unsafe {
+            let (to, from) = (table.as_mut_ptr(), text.as_ptr());
+            kmer_load(letters.as_ptr(), letters.len(), k, mirror, to, table.len(), from, text.len())
+        };
+        judged(answer).map(|places| places as usize)
     }
 }

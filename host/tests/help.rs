@@ -2,15 +2,16 @@
 
 mod run;
 
-use run::{run, Folder, WONTIRJE};
+use run::{run, whole_listing, Folder, WONTIRJE};
 use std::ffi::{c_char, c_int, CStr, OsStr};
 use std::fs::File;
 use std::io::Read;
 use std::os::fd::{FromRawFd, OwnedFd};
 use std::path::Path;
 use std::process::{Command, Stdio};
+use wontirje::Settings;
 
-const COMMANDS: [&str; 5] = ["count", "code", "word", "classes", "histogram"];
+const COMMANDS: [&str; 6] = ["count", "merge", "code", "word", "classes", "histogram"];
 
 #[test]
 fn each_command_has_help_with_an_example() {
@@ -66,25 +67,58 @@ fn the_help_of_count_says_how_to_withdraw() {
     }
 }
 
+/// What the help of a command says, its lines joined.
+fn told(command: &str) -> String {
+    run(&["help", command]).text().split_whitespace().collect::<Vec<_>>().join(" ")
+}
+
+/// What is said of starting from a listing and of adding listings up.
+#[test]
+fn the_help_says_how_to_go_on_from_a_listing() {
+    let help = run(&["help", "count"]).text().to_string();
+    assert!(
+        help.contains(" [--from LISTING] ") && help.contains("\n  --from LISTING  start from the counts of "),
+        "{help}"
+    );
+    for rule in [
+        "What is not given of letters, k and mirror is the listing's; what is given must be the same.",
+        "A listing that is refused or not read ends the run.",
+        "With --withdraw there need be no file to count",
+    ] {
+        assert!(told("count").contains(rule), "{rule}: {}", told("count"));
+    }
+    for rule in [
+        "the count of each class is the sum of its counts in them. All must have the settings of the first;",
+        "Where one is refused or not read, or a sum is above 4,294,967,295, nothing is printed or written.",
+    ] {
+        assert!(told("merge").contains(rule), "{rule}: {}", told("merge"));
+    }
+    let all = run(&["--help"]).text().to_string();
+    assert!(all.contains("(under count --from: the listing's):\n"), "{all}");
+    // The sums are not the library's.
+    assert!(
+        all.contains("the command is tested, and\nso are the sums of merge, which it adds up by itself.\n")
+    );
+}
+
 /// What is said of the number of classes in a listing.
 #[test]
 fn the_help_says_that_a_listing_has_the_number_of_classes() {
-    let told = |arguments: &[&str]| run(arguments).text().split_whitespace().collect::<Vec<_>>().join(" ");
     let rule = "prints the listing: the survey line with the number of classes, a line for each class";
-    assert!(told(&["help", "count"]).contains(rule), "{}", told(&["help", "count"]));
-    let rule = "A listing from before the number of classes was printed lacks (classes N) at the end of its \
-        first line: it is read too, and standard error says so.";
-    assert!(told(&["help", "histogram"]).contains(rule), "{}", told(&["help", "histogram"]));
+    assert!(told("count").contains(rule), "{}", told("count"));
+    let rule =
+        "A listing is taken as wontirje count prints it, byte for byte; any other is refused, with the \
+        place and what to do, and so is one whose first line lacks (classes N), as it was printed before.";
+    assert!(told("histogram").contains(rule), "{}", told("histogram"));
 }
 
 /// What is said of RNA.
 #[test]
 fn the_help_says_what_u_is_read_as() {
-    let told = |arguments: &[&str]| run(arguments).text().split_whitespace().collect::<Vec<_>>().join(" ");
-    let rule = "where T is one and U is not, U is read as T and printed as T";
-    assert!(told(&["--help"]).contains(rule), "{}", told(&["--help"]));
+    let all = run(&["--help"]).text().split_whitespace().collect::<Vec<_>>().join(" ");
+    assert!(all.contains("where T is one and U is not, U is read as T and printed as T"), "{all}");
     let rule = "foreign letters (not in --letters; U is read as T where they have T and no U)";
-    assert!(told(&["help", "count"]).contains(rule), "{}", told(&["help", "count"]));
+    assert!(told("count").contains(rule), "{}", told("count"));
 }
 
 /// What the help says of an example's output.
@@ -147,6 +181,30 @@ fn errors_in_the_command_line() {
         (&["histogram", "--bars", "many", "-"], format!("--bars many {no_number}")),
         (&["histogram"], format!("give one listing, or - for standard input{}", see("histogram "))),
         (&["histogram", "--bars", "1", "-"], String::from("--bars 1 is not from 2 to 200")),
+    ];
+    for (arguments, right) in cases {
+        run(arguments).check_failed(&right);
+    }
+}
+
+/// The same of listings that are to be loaded.
+#[test]
+fn errors_about_listings() {
+    let see = |command: &str| format!("; see wontirje {command} --help");
+    let no_file = format!("no file given; name files, or - for standard input{}", see("count"));
+    let no_listing = format!("no listing given; name listings, or - for standard input{}", see("merge"));
+    let one = format!("give one listing, or - for standard input{}", see("histogram"));
+    let cases: [(&[&str], String); 10] = [
+        (&["count", "--from", "a.txt"], no_file),
+        (&["count", "a.fa", "--from"], format!("--from lacks its value{}", see("count"))),
+        (&["count", "--from=a", "--from=b", "c"], format!("--from is given twice{}", see("count"))),
+        (&["merge"], no_listing.clone()),
+        (&["merge", "--output", "a.txt"], no_listing),
+        (&["merge", "a.txt", "--output"], format!("--output lacks its value{}", see("merge"))),
+        (&["merge", "--k", "2", "a.txt"], format!("--k is no option{}", see("merge"))),
+        (&["merge", "--from", "a.txt", "b.txt"], format!("--from is no option{}", see("merge"))),
+        (&["histogram", "--from", "a.txt"], format!("--from is no option{}", see("histogram"))),
+        (&["histogram", "a.txt", "b.txt"], one),
     ];
     for (arguments, right) in cases {
         run(arguments).check_failed(&right);
@@ -222,13 +280,16 @@ fn terminal() -> (File, File) {
 
 /// What a count of a file shows on a terminal, with these arguments after it.
 fn shown_on_a_terminal(file: &Path, more: &[&OsStr]) -> String {
+    shown_by(Command::new(WONTIRJE).args(["count", "--k", "3"]).arg(file).args(more))
+}
+
+/// What a command that succeeds shows on a terminal.
+fn shown_by(command: &mut Command) -> String {
     let (mut far, near) = terminal();
-    let mut command = Command::new(WONTIRJE);
-    command.args(["count", "--k", "3"]).arg(file).args(more);
     command.stdin(Stdio::null()).stdout(Stdio::null()).stderr(near);
     assert!(command.status().expect("the command runs").success());
     // The near end is held by the command's builder too; the last reading then ends with an error.
-    drop(command);
+    command.stderr(Stdio::null());
     let (mut shown, mut piece) = (Vec::new(), [0; 4096]);
     while let Ok(length @ 1..) = far.read(&mut piece) {
         shown.extend(&piece[..length]);
@@ -272,4 +333,32 @@ fn progress_on_a_terminal() {
     assert!(shown.starts_with(&format!("{}: records 1,", small.display())), "{shown:?}");
     let piped = run(&["count".as_ref(), "--no-listing".as_ref(), large.as_os_str()]);
     assert!(piped.err.starts_with(&format!("{}: records 1,", large.display())), "{}", piped.err);
+}
+
+/// A listing above 1 MB is told as a file is; a smaller one has its line alone.
+#[test]
+fn progress_of_a_listing() {
+    let folder = Folder::new();
+    let wiped = "\r\x1b[K";
+    for k in [9, 4] {
+        let settings = Settings::dna(k);
+        let table = vec![7; settings.table_places().expect("a table")];
+        let text = whole_listing(&settings, &table);
+        let listing = folder.file("counts.txt", &text);
+        let (name, short, size) = (listing.display(), short_name(&listing), text.len() / 1_000_000);
+        let classes = table.len();
+        let line =
+            format!("{name}: loaded: {classes} of {classes} classes have a count, total {}\r\n", 7 * classes);
+        let shown = shown_by(Command::new(WONTIRJE).arg("merge").arg(&listing));
+        match size {
+            0 => assert_eq!(shown, line),
+            _ => {
+                assert!(shown.starts_with(&format!("{wiped}{short}: 1 MB read")), "{shown:?}");
+                assert!(
+                    shown.ends_with(&format!("{wiped}{short}: loading {size} MB{wiped}{line}")),
+                    "{shown:?}"
+                );
+            }
+        }
+    }
 }

@@ -1,5 +1,6 @@
-//! The memory of `wontirje count`: at most the table, one file and 2 MB, as the system measured the peak of
-//! what was resident. In a file of its own, so that the process which starts the command is small.
+//! The memory of `wontirje count`: at most the table, one file or listing and 2 MB, as the system measured
+//! the peak of what was resident; of `histogram` the same, and of `merge` a second table besides. In a file
+//! of its own, so that the process which starts the command is small.
 
 mod run;
 #[path = "run/usage.rs"]
@@ -8,15 +9,19 @@ mod usage;
 
 use kmer_tests::draw::write_drawn;
 use run::{Folder, WONTIRJE};
-use std::fs::File;
+use std::fs::{self, File};
 use std::io::Write;
 use std::path::{Path, PathBuf};
 use std::process::{Command, Stdio};
 
-/// The peak of a run in bytes. Its listing goes to /dev/null unless it is written to a file.
+/// The peak of a count in bytes. Its listing goes to /dev/null unless it is written to a file.
 fn peak(arguments: &[&str], files: &[&Path], input: Stdio) -> u64 {
-    let mut command = Command::new(WONTIRJE);
-    command.arg("count").args(arguments).args(files).stdin(input).stdout(Stdio::null()).stderr(Stdio::null());
+    peak_of(Command::new(WONTIRJE).arg("count").args(arguments).args(files), input)
+}
+
+/// The peak of a command, likewise.
+fn peak_of(command: &mut Command, input: Stdio) -> u64 {
+    command.stdin(input).stdout(Stdio::null()).stderr(Stdio::null());
     let child = command.spawn().expect("the command starts");
     usage::ended(child).expect("the command succeeds").peak
 }
@@ -75,4 +80,28 @@ fn the_table_one_file_and_two_megabytes() {
     let pipe = cat.stdout.take().expect("a pipe");
     check("a pipe", peak(&["--k", "11"], &["-".as_ref()], pipe.into()), 11, length);
     assert!(cat.wait().expect("cat ends").success());
+}
+
+/// A listing takes its length while it is loaded, and nothing once the files come: here it is shorter than
+/// the file that is added, so that both at once would be too much. Through a pipe it takes no more. Of
+/// several listings one at a time is held, with its table and the sum's.
+#[test]
+fn the_table_one_listing_and_two_megabytes() {
+    let folder = Folder::new();
+    let full = drawn_file(&folder, "all.fa", 16_777_216);
+    let listing = folder.path("counts.txt");
+    let name = listing.to_str().expect("a name");
+    peak(&["--k", "10", "--output", name], &[&full], Stdio::null());
+    let length = fs::metadata(&listing).expect("the listing").len();
+    assert!((10_000_000..16_000_000).contains(&length), "{length} bytes");
+    check("from a listing", peak(&["--from", name], &[&full], Stdio::null()), 10, 16_777_216);
+    check("a listing alone", peak(&["--from", name], &["/dev/null".as_ref()], Stdio::null()), 10, length);
+    check("histogram", peak_of(Command::new(WONTIRJE).args(["histogram", name]), Stdio::null()), 10, length);
+    let mut cat = Command::new("cat").arg(&listing).stdout(Stdio::piped()).spawn().expect("cat starts");
+    let pipe = cat.stdout.take().expect("a pipe");
+    check("a pipe", peak_of(Command::new(WONTIRJE).args(["histogram", "-"]), pipe.into()), 10, length);
+    assert!(cat.wait().expect("cat ends").success());
+    let table = 4 * wontirje::Settings::dna(10).table_places().expect("a table") as u64;
+    let merged = peak_of(Command::new(WONTIRJE).args(["merge", name, name, name]), Stdio::null());
+    check("merge", merged, 10, length + table);
 }

@@ -2,7 +2,7 @@
 
 mod run;
 
-use run::{run, run_as, run_with, Folder, Run, EXAMPLE, WONTIRJE};
+use run::{run, run_as, run_with, whole_listing, Folder, Run, EXAMPLE, WONTIRJE};
 use std::fs::{self, File};
 use std::io::{BufRead, BufReader, Read};
 use std::os::unix::fs::symlink;
@@ -49,8 +49,10 @@ fn a_file_that_is_there_is_not_overwritten() {
     for path in [&there, &folder.path("link"), &folder.as_ref().to_path_buf()] {
         let reason = format!("{}: there is such a file already; only a new one is written", path.display());
         count_to(path, &file).check_failed(&reason);
-        let options = ["histogram", "-", "--svg"].map(AsRef::as_ref);
-        run_with(&[&options[..], &[path.as_os_str()]].concat(), b"").check_failed(&reason);
+        for options in [["histogram", "-", "--svg"], ["merge", "-", "--output"]] {
+            let options = options.map(AsRef::as_ref);
+            run_with(&[&options[..], &[path.as_os_str()]].concat(), b"").check_failed(&reason);
+        }
     }
     assert_eq!(fs::read(&there).expect("the file"), b"kept");
     assert_eq!(folder.names(), ["a.fa", "counts.txt", "link"]);
@@ -81,7 +83,7 @@ fn a_file_that_comes_up_meanwhile_is_not_overwritten() {
     assert_eq!(folder.names(), ["a.fa", "counts.txt"]);
 }
 
-/// Told before any file is read, of the listing and of the chart.
+/// Told before any file is read, of a listing and of the chart.
 #[test]
 fn a_folder_that_takes_no_file() {
     let folder = Folder::new();
@@ -96,8 +98,10 @@ fn a_folder_that_takes_no_file() {
     for (path, reason) in cases {
         let right = format!("{}: not written: {reason}", path.display());
         count_to(&path, &file).check_failed(&right);
-        let chart = ["histogram".as_ref(), "--svg".as_ref(), path.as_os_str(), "/nowhere".as_ref()];
-        run(&chart).check_failed(&right);
+        for [command, option] in [["histogram", "--svg"], ["merge", "--output"]] {
+            let arguments = [command.as_ref(), option.as_ref(), path.as_os_str(), "/nowhere".as_ref()];
+            run(&arguments).check_failed(&right);
+        }
     }
     // Nobody makes files there, root neither; for what reason depends on the system.
     let run = count_to(Path::new("/sys/counts.txt"), &file);
@@ -114,6 +118,7 @@ fn standard_output_as_a_file() {
         |arguments: &[&str]| run_as(Command::new(WONTIRJE).current_dir(&folder).args(arguments), EXAMPLE);
     let listing = "--output - is no file; leave --output out to print the listing";
     of(&["count", "--k", "2", "--output", "-", "-"]).check_failed(listing);
+    of(&["merge", "--output=-", "-"]).check_failed(listing);
     let chart = "--svg - is no file; give the chart a name, as in --svg counts.svg";
     of(&["histogram", "--svg=-", "-"]).check_failed(chart);
     assert!(folder.names().is_empty());
@@ -244,12 +249,14 @@ fn standard_output_is_closed_early() {
     let words: Vec<&str> =
         ["word", "--k", "8"].into_iter().chain(codes.iter().map(|code| &code[..])).collect();
     check_left_early(&words, 0, 0);
-    let wide: String = (1..=100_000).map(|count| format!("(count AAA {count})\n")).collect();
-    let sum: u64 = (1..=100_000).sum();
-    let survey = "(survey (letters ACGT) (k 3) (mirror complement) (classes 32))\n";
-    let listing = format!("{survey}{wide}(total {sum})\n");
-    let listing = folder.file("listing.txt", listing.as_bytes());
-    check_left_early(&["histogram", "--each", listing.to_str().expect("a name")], 0, 0);
+    // Each class of words of 9 letters has a count of its own.
+    let settings = wontirje::Settings::dna(9);
+    let table: Vec<u32> = (1..=settings.table_places().expect("a table") as u32).collect();
+    let listing = folder.file("listing.txt", &whole_listing(&settings, &table));
+    let listing = listing.to_str().expect("a name");
+    check_left_early(&["histogram", "--each", listing], 0, 0);
+    check_left_early(&["merge", listing], 0, 1);
+    check_left_early(&["count", "--from", listing, good], 0, 2);
 }
 
 /// A reader who was gone before the first byte.

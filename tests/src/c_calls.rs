@@ -32,4 +32,7 @@ extern "C" {
 
     pub fn kmer_listing(letters: *const u8, letters_len: usize, k: usize, mirror: u64,
                         table: *const u32, table_len: usize, text: *mut u8, text_len: usize) -> u64;
+
+    pub fn kmer_load(letters: *const u8, letters_len: usize, k: usize, mirror: u64,
+                     table: *mut u32, table_len: usize, text: *const u8, text_len: usize) -> u64;
 }

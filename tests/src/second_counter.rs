@@ -182,7 +182,7 @@ pub fn file_line([records, letters, foreign, edge, windows]: Numbers) -> String 
 
 /// The survey line that we print, without its LF: it "gains a last inner form" (document 02, K6), the number of all
 /// classes, counted or not.
-fn printed_line(settings: &Settings) -> String {
+pub fn printed_line(settings: &Settings) -> String {
     let letters = String::from_utf8(settings.letters.clone()).expect("capitals");
     let mirror = if settings.mirror == COMPLEMENT { "complement" } else { "reversal" };
     let classes = coder(settings).classes();
@@ -211,4 +211,12 @@ pub fn listing(settings: &Settings, classes: impl Iterator<Item = (Vec<u8>, u64)
     }
     text += &format!("(total {total})\n");
     text.into_bytes()
+}
+
+/// The listing of a table's counts, one a class.
+pub fn listing_of(settings: &Settings, counts: &[u32]) -> Vec<u8> {
+    let coder = coder(settings);
+    let word = |code: usize| coder.word(code as u128).expect("a code below the number of classes");
+    let counted = counts.iter().enumerate().filter(|(_, &count)| count > 0);
+    listing(settings, counted.map(|(code, &count)| (word(code), count as u64)))
 }

@@ -1,8 +1,9 @@
-//! Reads the stored answers of independent reference implementations for clearing, adding and withdrawing:
-//! vectors/tables.txt, those to document 01 alone, vectors/k10_tables.txt, those to document 01 with document
-//! 02, K10, vectors/k01_tables.txt, those with K1 too, whose files are FASTQ, vectors/k02_tables.txt and
-//! vectors/k02_fastq_tables.txt, those with K2 too, and vectors/k04_tables.txt and vectors/k04_fastq_tables.txt, those
-//! with K4 too; the heads of these files say what their columns are. Holds the calls and the book against them.
+//! Reads the stored answers of independent reference implementations for clearing, adding, withdrawing and
+//! loading: vectors/tables.txt, those to document 01 alone, vectors/k10_tables.txt, those to document 01 with
+//! document 02, K10, vectors/k01_tables.txt, those with K1 too, whose files are FASTQ, vectors/k02_tables.txt
+//! and vectors/k02_fastq_tables.txt, those with K2 too, vectors/k04_tables.txt and
+//! vectors/k04_fastq_tables.txt, those with K4 too, and vectors/k07_loads.txt, those with K7 too, which load
+//! listings; the heads of these files say what their columns are. Holds the calls and the book against them.
 
 use crate::book::{table_ground, Book};
 use crate::expected::Refusal;
@@ -22,12 +23,17 @@ const TABLES: [(StoredFile, u64); 7] = [
     (("k04_fastq_tables.txt", include_str!("../vectors/k04_fastq_tables.txt")), FASTQ),
 ];
 
+/// The stored loads.
+const LOADS: StoredFile = ("k07_loads.txt", include_str!("../vectors/k07_loads.txt"));
+
 /// A stored call.
 pub struct Stored {
     /// The file and the line in it.
     pub line: String,
     pub settings: Settings,
+    /// The number that names the kind of the sequence file, which says nothing where a listing is loaded.
     pub fastq: u64,
+    /// The sequence file, or the listing.
     pub file: Vec<u8>,
     pub table: Vec<u32>,
     pub outcome: Result<Vec<u64>, Refusal>,
@@ -60,6 +66,11 @@ pub fn stored(call: &str, counts: [usize; 7]) -> Vec<Stored> {
         found.extend(rows(file, call, count).into_iter().map(|row| parsed(fastq, row)));
     }
     found
+}
+
+/// The stored loads, so many of them.
+pub fn stored_loads(count: usize) -> Vec<Stored> {
+    rows(LOADS, "load", count).into_iter().map(|row| parsed(FASTA, row)).collect()
 }
 
 /// The call and the book answer as stored, and leave the stored table. Stored calls have no answer list: it is long

@@ -10,7 +10,7 @@ use kmer_tests::draw_inputs::Inputs;
 use kmer_tests::expected::{coder, Refusal};
 use kmer_tests::files::{Kind, FASTA};
 use kmer_tests::lent::{check_places, filled, Lent};
-use kmer_tests::second_counter::{answer, first_line, listing};
+use kmer_tests::second_counter::{answer, first_line, listing_of};
 use kmer_tests::sequences::two_bit_settings;
 use kmer_tests::settings::*;
 use kmer_tests::tables::{add, clear, cleared, drawn_table, listed, listed_into, sizes_up_to, Table};
@@ -20,10 +20,7 @@ use std::collections::BTreeSet;
 /// Grounds 1, 2, 4, 6 and 7 of the table, then 7 of the text; else the listing.
 fn expected(settings: &Settings, table: &[u32], room: usize) -> Result<Vec<u8>, Refusal> {
     let classes = table_ground(settings, false, table.len())?;
-    let coder = coder(settings);
-    let counts = table[..classes].iter().enumerate().filter(|(_, &count)| count > 0);
-    let word = |code: usize| coder.word(code as u128).expect("a code below the number of classes");
-    let text = listing(settings, counts.map(|(code, &count)| (word(code), count as u64)));
+    let text = listing_of(settings, &table[..classes]);
     if room < text.len() {
         return Err(Refusal { number: 7, p: text.len() as u64 });
     }

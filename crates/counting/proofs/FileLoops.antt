@@ -14,11 +14,12 @@ use Rattle.laws.specs.Windows.{windows}
 use Rattle.laws.proofs.Lists.{take-min, length-take}
 use Rattle.tally.specs.Table.{changes, occurrences}
 use Rattle.tally.proofs.Changes.{length-changes, changes-append, getD-less, occurrences-append}
-use Rattle.counting.specs.declared.Way.{Way}
-use Rattle.counting.specs.declared.Way.the-variants.{In, Out}
+use Rattle.counts.specs.declared.Way.{Way}
+use Rattle.counts.specs.declared.Way.the-variants.{In, Out}
 use Rattle.counting.specs.declared.batches.Gathered.{Gathered}
-use Rattle.counting.specs.Needs.{byWay, Fits, Enough, NoneLeft, Changed, codesBy, codesOfFile, Gathers, Carries}
-use Rattle.counting.proofs.CountLoops.{fits-after, fits-fewer}
+use Rattle.counts.specs.Needs.{byWay, Fits, Enough, NoneLeft, Changed}
+use Rattle.counting.specs.Needs.{codesBy, codesOfFile, Gathers, Carries}
+use Rattle.counts.proofs.CountLoops.{fits-after, fits-fewer}
 use Rattle.counting.proofs.Walks.{Walking, walking-none, walked-all, batch-fits, next-code, done-and, walks-on}
 
 pub record Changing (c : Coder) (table file : List ℕ) (start : Mode) (counts₀ : List ℕ) (way : Way) (limit : ℕ) (counts array : List ℕ) (at : ℕ) (mode : Mode)

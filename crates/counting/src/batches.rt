@@ -1,7 +1,7 @@
 // The windows of a file, counted or taken away in batches: the ranks of a run's letters go into a local array, their codes into another, and then each
 // code is counted or taken away. Between the batches of one run its last k - 1 letters stay in the array.
-use super::Way;
-use super::counts::change_codes;
+use counts::Way;
+use counts::change_codes;
 use fasta::Item;
 use fasta::Mode;
 use kernels::Coder;
@@ -16,8 +16,9 @@ ghost use Rattle.encoding.specs.Words.{Ranks};
 ghost use Rattle.settings.specs.RankTables.{asRank, rankByTable, RanksBelow};
 ghost use Rattle.kernels.specs.Windows.{windowCodes};
 ghost use Rattle.kernels.specs.Needs.{ReadyCoder};
-ghost use Rattle.counting.specs.declared.Way.the-variants.{In};
-ghost use Rattle.counting.specs.Needs.{Fits, Changed, TakenUnlessLacking, markOfRank, markOf, codesOfFile, Gathers, Carries};
+ghost use Rattle.counts.specs.declared.Way.the-variants.{In};
+ghost use Rattle.counts.specs.Needs.{Fits, Changed, TakenUnlessLacking};
+ghost use Rattle.counting.specs.Needs.{markOfRank, markOf, codesOfFile, Gathers, Carries};
 
 // What a byte does to the present run: how many letters it adds, 0 or 1, with the letter's rank; or that it ends the run.
 struct Mark {

@@ -1,5 +1,5 @@
 -- The numbers of the refusals that each C call gives, as include/kmer.h lists them: 3 is none of them. "Refusal 3 then never occurs" (document 02,
--- K10). From the definitions of the calls' grounds; kmer_clear's are `clear-numbers` of tally.
+-- K10). From the definitions of the calls' grounds; kmer_clear's are `clear-numbers` of tally, kmer_load's `load-numbers` of loading.
 use mathlib.Core.Path.{refl}
 use mathlib.Core.Bool.{not}
 use mathlib.Core.List.{List, [], _∷_}

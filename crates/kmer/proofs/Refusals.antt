@@ -12,7 +12,7 @@ use borrow.Author.Tests.{eqb-true, not-false}
 use Rattle.laws.specs.Windows.{windows}
 use Rattle.laws.proofs.Windows.{length-windows}
 use Rattle.settings.specs.declared.Refusal.{Refusal}
-use Rattle.settings.specs.declared.Refusal.the-variants.{BadLetters, BadMirror, BadK, WrongLength, TooLarge, ShortBuffer, NoSuchCode, ForeignByte, StrayByte, EarlyLetter, CountsFull, NoSurveyLine, LongInput, BadRecord, QualityLength, QualityByte, CountsLacking, FormOrder}
+use Rattle.settings.specs.declared.Refusal.the-variants.{BadLetters, BadMirror, BadK, WrongLength, TooLarge, ShortBuffer, NoSuchCode, ForeignByte, StrayByte, EarlyLetter, CountsFull, NoSurveyLine, LongInput, BadRecord, QualityLength, QualityByte, CountsLacking, FormOrder, BadLine, OtherSettings, BadCount}
 use Rattle.settings.specs.Grounds.{Ground, Outcome, refused, groundOf, ground, groundAt, tooShort, outcome, _orElse_, Overwrites}
 use Rattle.settings.specs.Settings.{rankIn, settingsGround}
 use Rattle.settings.proofs.Outcomes.{refused-is, test-fails, not-too-large}
@@ -24,8 +24,8 @@ use Rattle.tally.specs.Table.{classCount, tooMany, clearGround}
 use Rattle.kmer.specs.Returned.{ReturnsPlaces}
 use Rattle.kmer.specs.Needs.{PlaceFits}
 
--- No number of a refusal is above 19.
-pub number-small : (f : Refusal) → groundOf f .0 ≤ 19
+-- No number of a refusal is above 22.
+pub number-small : (f : Refusal) → groundOf f .0 ≤ 22
 number-small BadLetters = omega arith
 number-small BadMirror = omega arith
 number-small BadK = omega arith
@@ -44,6 +44,9 @@ number-small (QualityLength offset) = omega arith
 number-small (QualityByte offset) = omega arith
 number-small CountsLacking = omega arith
 number-small FormOrder = omega arith
+number-small (BadLine offset) = omega arith
+number-small (OtherSettings offset) = omega arith
+number-small (BadCount offset) = omega arith
 
 -- ---- the answer as one number
 

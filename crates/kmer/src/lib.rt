@@ -1,7 +1,7 @@
-// The calls for C programs (include/kmer.h): word coding, code reading, mirroring, codes along a sequence, the table and its listing, on
+// The calls for C programs (include/kmer.h): word coding, code reading, mirroring, codes along a sequence, the table, its listing and loading one, on
 // numbers and slices.
 ghost use mathlib.Core.Path.{_≡_};
-ghost use Prim.Native.Nat.{_^_, _<_, _≤_};
+ghost use Prim.Native.Nat.{_-_, _^_, _<_, _≤_, min};
 ghost use mathlib.Core.List.{_++_};
 ghost use lib.ListN.{length, drop, replicate};
 ghost use Rattle.settings.specs.Grounds.{refused as Refused, groundOf, ofFilling};
@@ -10,13 +10,14 @@ ghost use Rattle.files.specs.File.{fileOf};
 ghost use Rattle.table.specs.Calls.{callOf};
 ghost use Rattle.kmer.specs.FileCalls.{kindOfNumber, fiveNumbers, CallsInto, AddsInto, WithdrawsInto};
 ghost use Rattle.encoding.specs.Calls.{coding, readGround, wordBytes, mirrorGround, mirrorBytes};
-ghost use Rattle.kmer.specs.Returned.{returned, returnedWithPlace, ReturnsPlaces};
+ghost use Rattle.kmer.specs.Returned.{returned, returnedWithPlace, returnedUpTo, ReturnsPlaces};
 ghost use Rattle.kmer.specs.Needs.{PlaceFits};
 ghost use Rattle.listing.specs.Listing.{listing, listingGround};
+ghost use Rattle.loading.specs.Loading.{loadGround, loadedCounts};
 ghost use Rattle.laws.specs.Text.{bytes};
 ghost use Rattle.laws.specs.Windows.{windows};
 ghost use Rattle.sequence.specs.Sequences.{sequenceGround, sequenceCodes};
-use counting::Way;
+use counts::Way;
 use fasta::Answer;
 use fasta::Numbers;
 use files::Kind;
@@ -39,6 +40,24 @@ fn refused_at(f: Refusal) -> u64
     ensures { λ r. ⌜ r ≡ returnedWithPlace (Refused (groundOf f)) ⌝ }
 {
     9223372036854775808 + settings::place_of(f) * 256 + settings::number_of(f)
+}
+
+// A P as far as it fits beside a number.
+fn told_place(p: u64) -> u64
+    ensures { λ r. ⌜ r ≡ min p (2 ^ 55 - 1) ⌝ }
+{
+    if p > 36028797018963967 {
+        return 36028797018963967;
+    }
+    p
+}
+
+// 2^63 plus P * 256 plus the number, P as far as it fits.
+fn refused_up_to(f: Refusal) -> u64
+    ensures { λ r. ⌜ r ≡ returnedUpTo (Refused (groundOf f)) ⌝ }
+{
+    let p = told_place(settings::place_of(f));
+    9223372036854775808 + p * 256 + settings::number_of(f)
 }
 
 // The answer of a call that overwrites a lent buffer, as one number: how many places it set, or the refusal with its P.
@@ -250,4 +269,24 @@ pub extern "C" fn kmer_listing(
         (now (text .entry)) r (now (text .exit)) ⌝ }
 {
     with_place(listing::list(letters, k, mirror, table, text))
+}
+
+// Loads a listing into a table.
+#[no_mangle]
+pub extern "C" fn kmer_load(
+    letters: &[u8],
+    k: usize,
+    mirror: u64,
+    table: &mut [u32],
+    text: &[u8],
+) -> u64
+    ensures { λ r.
+        ⌜ ReturnsPlaces returnedUpTo (loadGround (now (letters .entry)) k mirror (length (now (table .entry))) (now (text .entry)))
+        (classCount (now (letters .entry)) k mirror) (loadedCounts (now (letters .entry)) k mirror (now (text .entry)))
+        (now (table .entry)) r (now (table .exit)) ⌝ }
+{
+    match loader::load(letters, k, mirror, table, text) {
+        Filling::Filled(n) => n as u64,
+        Filling::Unfilled(f) => refused_up_to(f),
+    }
 }

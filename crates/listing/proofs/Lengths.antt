@@ -58,7 +58,7 @@ mirror-length : (m : ℕ) → length (mirrorName m) ≤ 10
 mirror-length zero = omega arith
 mirror-length (suc m) = omega arith
 
-survey-length : (letters : List ℕ) (k m : ℕ) → length letters ≤ 16 → k ≤ 62 → classCount letters k m ≤ 16777216 → length (surveyLine letters k m) ≤ 83
+pub survey-length : (letters : List ℕ) (k m : ℕ) → length letters ≤ 16 → k ≤ 62 → classCount letters k m ≤ 16777216 → length (surveyLine letters k m) ≤ 83
 unfolding surveyLine
 survey-length letters k m h g few =
     simp length-append

@@ -1,5 +1,5 @@
 -- What the listing answers and leaves at each of its tests; and how long the listing of a table is, where it is not refused (`listing-fits`).
-use mathlib.Core.Path.{_≡_, refl, sym, _∙_}
+use mathlib.Core.Path.{_≡_, refl, _∙_}
 use Prim.Native.Nat.{ℕ, zero, suc, _<_, _≤_}
 use native.Mathlib.Omega.{arith}
 use mathlib.Core.Option.{none, some}
@@ -10,10 +10,10 @@ use borrow.Author.Tests.{lt-ltb, le-ltb}
 use Rattle.settings.specs.declared.Settings.{Settings}
 use Rattle.settings.specs.Grounds.{Ground, Outcome, given, refused, outcome}
 use Rattle.settings.specs.Settings.{settingsGround, settingsOf}
-use Rattle.settings.proofs.Outcomes.{refused-is, kept-by, set-by}
-use Rattle.settings.proofs.SettingsGrounds.{Known, known}
-use Rattle.tally.specs.Table.{classCount, tooMany, clearGround}
-use Rattle.tally.proofs.Clearing.{settings-good, classes-bounded, places-enough}
+use Rattle.settings.proofs.Outcomes.{kept-by, set-by}
+use Rattle.settings.proofs.SettingsGrounds.{known}
+use Rattle.tally.specs.Table.{classCount, clearGround}
+use Rattle.tally.proofs.Clearing.{clear-settings, clear-many, clear-short, clear-passed, settings-good, classes-bounded, places-enough}
 use Rattle.texts.specs.Needs.{Puts}
 use Rattle.texts.proofs.Writing.{from-start}
 use Rattle.listing.specs.Listing.{listingOf, listing, listingGround, Lists}
@@ -54,36 +54,24 @@ module _ (letters : List ℕ) (k m : ℕ) (table old : List ℕ) where
   refused-by f e = kept-by _ (length (listing letters k m table)) (listing letters k m table) old f e
 
   pub settings-refused : (f : Ground) → refused f ≡ outcome (settingsGround letters k m) (settingsOf letters k m) → Lists letters k m table old (refused f) old
-  unfolding listingGround clearGround
-  settings-refused f e = refused-by f (rw (refused-is f (settingsOf letters k m) (settingsGround letters k m) e))
+  unfolding listingGround
+  settings-refused f e = refused-by f (rw (clear-settings letters k m (length table) f e))
 
   module _ (st : Settings) (e : given st ≡ outcome (settingsGround letters k m) (settingsOf letters k m)) where
-    good : Known letters k m st
-    good = known letters k m st e
-
     pub many-classes : 16777216 < st .classes → Lists letters k m table old (refused (6, 0)) old
-    unfolding listingGround clearGround tooMany
-    many-classes h = refused-by (6, 0) (rw (good .none-applies, ← good .classes-are, lt-ltb 16777216 (st .classes) h))
+    unfolding listingGround
+    many-classes h = refused-by (6, 0) (rw (clear-many letters k m (length table) st e h))
 
     module _ (few : st .classes ≤ 16777216) where
       pub short-table : length table < st .classes → Lists letters k m table old (refused (7, st .classes)) old
-      unfolding listingGround clearGround tooMany
-      short-table h =
-          refused-by (7, st .classes)
-          (simp (good .none-applies, sym (good .classes-are), le-ltb 16777216 (st .classes) few, lt-ltb (length table) (st .classes) h))
+      unfolding listingGround
+      short-table h = refused-by (7, st .classes) (rw (clear-short letters k m (length table) st e few h))
 
       pub listed : {answer : Outcome ℕ} {new : List ℕ} → st .classes ≤ length table
           → ListsCounts (listingOf letters k m (take (st .classes) table)) old answer new
           → Lists letters k m table old answer new
-      unfolding listingGround clearGround tooMany
-      listed long L =
-          let n = good .classes-are in
-          rw (
-            good .none-applies,
-            le-ltb 16777216 (classCount letters k m) (omega (arith, n)),
-            le-ltb (length table) (classCount letters k m) (omega (arith, n)),
-          )
-          (rw n at L)
+      unfolding listingGround
+      listed long L = rw (clear-passed letters k m (length table) st e few long) (rw (known letters k m st e .classes-are) at L)
 
 -- ---- how long the listing of a table is
 

@@ -29,8 +29,8 @@ fn put_mirror(out: &mut [u8], at: usize, mirror: u64) -> usize
     texts::put_text(out, at, b") (mirror complement")
 }
 
-// The survey line, from the buffer's start on: the settings and the number of their classes.
-fn put_survey(out: &mut [u8], letters: &[u8], k: usize, mirror: u64, classes: usize) -> usize
+// The survey line, from the buffer's start on: the settings and the number of their classes. `loader` compares a line with it.
+pub fn put_survey(out: &mut [u8], letters: &[u8], k: usize, mirror: u64, classes: usize) -> usize
     requires { ⌜ classes ≡ classCount (now letters) k mirror ⌝ }
     ensures { λ r. ⌜ Puts (now (out .entry)) (now (out .exit)) 0 r (surveyLine (now (letters .entry)) k mirror) ⌝ }
 {

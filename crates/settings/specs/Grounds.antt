@@ -1,5 +1,5 @@
--- Document 01, "Grounds for refusing", and document 02, K1 (15 to 17), K4 (18) and K5 (19): how a call reports a refusal, and the order in which grounds are
--- tried.
+-- Document 01, "Grounds for refusing", and document 02, K1 (15 to 17), K4 (18), K5 (19) and K7 (20 to 22): how a call reports a refusal, and the order in
+-- which grounds are tried.
 use Prim.Native.Nat.{ℕ}
 use mathlib.Core.Path.{_≡_}
 use mathlib.Core.Bool.{Bool, true, false, cond}
@@ -10,14 +10,15 @@ use lib.Dec.{ltb}
 use Rattle.settings.specs.declared.Filling.{Filling}
 use Rattle.settings.specs.declared.Filling.the-variants.{Filled, Unfilled}
 use Rattle.settings.specs.declared.Refusal.{Refusal}
-use Rattle.settings.specs.declared.Refusal.the-variants.{BadLetters, BadMirror, BadK, WrongLength, TooLarge, ShortBuffer, NoSuchCode, ForeignByte, StrayByte, EarlyLetter, CountsFull, NoSurveyLine, LongInput, BadRecord, QualityLength, QualityByte, CountsLacking, FormOrder}
+use Rattle.settings.specs.declared.Refusal.the-variants.{BadLetters, BadMirror, BadK, WrongLength, TooLarge, ShortBuffer, NoSuchCode, ForeignByte, StrayByte, EarlyLetter, CountsFull, NoSurveyLine, LongInput, BadRecord, QualityLength, QualityByte, CountsLacking, FormOrder, BadLine, OtherSettings, BadCount}
 
 -- "Each .. gives its number and P": the number, then P.
 abbrev pub Ground : Type 0
 Ground = ℕ × ℕ
 
 -- The number and P of each refusal; P "is 0 unless stated". The number 3 is reserved: "Refusal 3 then never occurs" (document 02, K10). Of 15 to 17 "P is
--- the offset of the line (for a missing line the file's length, for 10 and 17 that of the byte)" (document 02, K1).
+-- the offset of the line (for a missing line the file's length, for 10 and 17 that of the byte)" (document 02, K1); of 20 to 22 "P is the line's offset (for
+-- a missing line the text's length)" (K7).
 abbrev pub groundOf : Refusal → Ground
 groundOf BadLetters = (1, 0)
 groundOf BadMirror = (2, 0)
@@ -37,6 +38,9 @@ groundOf (QualityLength offset) = (16, offset)
 groundOf (QualityByte offset) = (17, offset)
 groundOf CountsLacking = (18, 0)
 groundOf FormOrder = (19, 0)
+groundOf (BadLine offset) = (20, offset)
+groundOf (OtherSettings offset) = (21, offset)
+groundOf (BadCount offset) = (22, offset)
 
 -- What a call answers: its value, or the ground for refusing it.
 pub data Outcome (A : Type 0) : Type 0 where

@@ -13,7 +13,7 @@ pub enum Mirror {
     Complement,
 }
 
-// The grounds for refusing, in the order of their numbers 1 to 19, of which 3 is reserved. One that has a P other than 0 holds it.
+// The grounds for refusing, in the order of their numbers 1 to 22, of which 3 is reserved. One that has a P other than 0 holds it.
 pub enum Refusal {
     BadLetters,
     BadMirror,
@@ -33,6 +33,9 @@ pub enum Refusal {
     QualityByte(usize),
     CountsLacking,
     FormOrder,
+    BadLine(usize),
+    OtherSettings(usize),
+    BadCount(usize),
 }
 
 // The answer of a call that overwrites a lent buffer from its start: how many places it set, or the refusal, which leaves the buffer unchanged.
@@ -64,6 +67,9 @@ pub fn number_of(f: Refusal) -> u64
         Refusal::QualityByte(_) => 17,
         Refusal::CountsLacking => 18,
         Refusal::FormOrder => 19,
+        Refusal::BadLine(_) => 20,
+        Refusal::OtherSettings(_) => 21,
+        Refusal::BadCount(_) => 22,
     }
 }
 
@@ -90,6 +96,9 @@ pub fn place_of(f: Refusal) -> u64
         Refusal::QualityByte(at) => at as u64,
         Refusal::CountsLacking => 0,
         Refusal::FormOrder => 0,
+        Refusal::BadLine(at) => at as u64,
+        Refusal::OtherSettings(at) => at as u64,
+        Refusal::BadCount(at) => at as u64,
     }
 }
 
@@ -199,7 +208,7 @@ pub fn rank_table(letters: &[u8]) -> [u8; 256]
 }
 
 // Whether b stands in letters at the place from or later.
-fn is_in(letters: &[u8], from: usize, b: u8) -> bool
+pub fn is_in(letters: &[u8], from: usize, b: u8) -> bool
     ensures { λ r. ⌜ r ≡ isIn b (drop from (now (letters .entry))) ⌝ }
 {
     let mut i = from;

@@ -42,6 +42,11 @@ pub flat-forms : (a x b y c z after : List ℕ)
     → flat a x b y c z after ≡ unclosed ((a ++ (x ++ bytes ")")) ∷ (b ++ (y ++ bytes ")")) ∷ (c ++ (z ++ bytes ")")) ∷ []) ++ after
 flat-forms a x b y c z after = simp (append-assoc, append-nil)
 
+-- A text that is made of these parts, one after the other.
+pub flat-of : (a x b y c z after : List ℕ) {t d e d′ e′ d″ e″ : List ℕ} → t ≡ bytes "(survey " ++ d → d ≡ a ++ (x ++ e) → e ≡ bytes ") " ++ d′
+    → d′ ≡ b ++ (y ++ e′) → e′ ≡ bytes ") " ++ d″ → d″ ≡ c ++ (z ++ e″) → e″ ≡ bytes ")" ++ after → t ≡ flat a x b y c z after
+flat-of a x b y c z after p q r s u v w = rw (p, q, r, s, u, v, w)
+
 -- What follows the three forms of a line is its closing bracket, its end and the file.
 pub row-is : (x y z end file : List ℕ) → row x y z end file ≡ unclosed (x ∷ y ∷ z ∷ []) ++ (bytes ")" ++ (end ++ file))
 row-is x y z end file = append-assoc (unclosed (x ∷ y ∷ z ∷ [])) (bytes ")") (end ++ file)

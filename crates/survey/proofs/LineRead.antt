@@ -21,7 +21,7 @@ use Rattle.survey.specs.Claims.{Says}
 use Rattle.survey.specs.Reading.{startsWith, formAt, nextForm, endAfter, lineEnd, inOrder, eachOnce, byOrder, headOf, lineFrom, readLine}
 use Rattle.survey.proofs.TextLaws.{starts-at}
 use Rattle.survey.proofs.ValueLaws.{ValueText}
-use Rattle.survey.proofs.FormLaws.{opening, written, row, flat-forms, row-is, FormRead, FormGood, form-good}
+use Rattle.survey.proofs.FormLaws.{opening, written, row, flat-forms, flat-of, row-is, FormRead, FormGood, form-good}
 use Rattle.survey.proofs.LineEnds.{EndRead, EndGood, end-good}
 
 -- An input that is made of these parts, one after the other.
@@ -29,8 +29,9 @@ joined : (a x b y c z end file : List ℕ) {t d e d′ e′ d″ e″ : List ℕ
     → e ≡ bytes ") " ++ d′ → d′ ≡ b ++ (y ++ e′) → e′ ≡ bytes ") " ++ d″ → d″ ≡ c ++ (z ++ e″) → e″ ≡ bytes "))" ++ (end ++ file)
     → t ≡ row (a ++ (x ++ bytes ")")) (b ++ (y ++ bytes ")")) (c ++ (z ++ bytes ")")) end file
 joined a x b y c z end file p q r s u v w =
-    rw (p, q, r, s, u, v, w)
-    (flat-forms a x b y c z (bytes ")" ++ (end ++ file)) ∙ sym (row-is (a ++ (x ++ bytes ")")) (b ++ (y ++ bytes ")")) (c ++ (z ++ bytes ")")) end file))
+    flat-of a x b y c z (bytes ")" ++ (end ++ file)) p q r s u v w
+    ∙ flat-forms a x b y c z (bytes ")" ++ (end ++ file))
+    ∙ sym (row-is (a ++ (x ++ bytes ")")) (b ++ (y ++ bytes ")")) (c ++ (z ++ bytes ")")) end file)
 
 -- What an answer says of the input; that there is no survey line says nothing.
 abbrev pub Fine : List ℕ → Head → Type 0

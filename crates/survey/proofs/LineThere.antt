@@ -23,16 +23,16 @@ use Rattle.survey.proofs.FormLaws.{opening, written, row, flat-forms, r
 use Rattle.survey.proofs.LineEnds.{end-there, end-open}
 
 -- What is read of three forms of these names and values, wherever they stand: each of them, and the answer by the end that is found after them.
-record RowThere (t : List ℕ) (a b c : Name) (x y z : List ℕ) (v w u : ℕ) (after : List ℕ) : Type 0 where
-  first : ℕ
-  second : ℕ
-  third : ℕ
-  is-first : formAt t 8 ≡ Of a first (length x) v
-  is-second : nextForm t (Of a first (length x) v) ≡ Of b second (length y) w
-  is-third : nextForm t (Of b second (length y) w) ≡ Of c third (length z) u
-  is : readLine t ≡ headOf (endAfter t (third + length z)) (Of a first (length x) v) (Of b second (length y) w) (Of c third (length z) u)
-  at-first : take (length x) (drop first t) ≡ x
-  follows : drop (third + length z) t ≡ bytes ")" ++ after
+pub record RowThere (t : List ℕ) (a b c : Name) (x y z : List ℕ) (v w u : ℕ) (after : List ℕ) : Type 0 where
+  pub first : ℕ
+  pub second : ℕ
+  pub third : ℕ
+  pub is-first : formAt t 8 ≡ Of a first (length x) v
+  pub is-second : nextForm t (Of a first (length x) v) ≡ Of b second (length y) w
+  pub is-third : nextForm t (Of b second (length y) w) ≡ Of c third (length z) u
+  pub is : readLine t ≡ headOf (endAfter t (third + length z)) (Of a first (length x) v) (Of b second (length y) w) (Of c third (length z) u)
+  pub at-first : take (length x) (drop first t) ≡ x
+  pub follows : drop (third + length z) t ≡ bytes ")" ++ after
 
 line-is : (t : List ℕ) (a b c : Form) → startsWith (bytes "(survey ") t ≡ true → formAt t 8 ≡ a → nextForm t a ≡ b → nextForm t b ≡ c
     → readLine t ≡ headOf (lineEnd t c) a b c
@@ -67,7 +67,7 @@ module _ {t : List ℕ} {at : ℕ} {name : Name} {v u : List ℕ} {number : ℕ}
   next-at = drop-more t (at + length (opening name) + length v) (bytes ") ") u (after-value S)
 
 -- Three forms of the grammar in a row are read one after the other, whatever follows them.
-row-there : (t : List ℕ) (a b c : Name) {x y z after : List ℕ} {v w u : ℕ} → ValueText a x v → ValueText b y w → ValueText c z u
+pub row-there : (t : List ℕ) (a b c : Name) {x y z after : List ℕ} {v w u : ℕ} → ValueText a x v → ValueText b y w → ValueText c z u
     → t ≡ unclosed (written a x ∷ written b y ∷ written c z ∷ []) ++ after → RowThere t a b c x y z v w u after
 unfolding startsWith lineEnd
 row-there t a b c {x} {y} {z} {after} {v} {w} {u} A B C whole =

@@ -1,6 +1,6 @@
 // Reading the survey line that the counter's input starts with: document 01, "Listing and counter program", and document 02, K5.
 // The line is read from left to right: the opening text, three forms, the closing bracket, the line's end.
-mod values; // the value of a form
+pub mod values; // the value of a form
 
 ghost use mathlib.Core.Path.{_≡_};
 ghost use Rattle.survey.specs.declared.End.the-variants.{At};
@@ -12,7 +12,7 @@ use values::starts;
 use values::value_end;
 
 // The names of the three forms.
-enum Name {
+pub enum Name {
     Letters,
     K,
     Mirror,
@@ -20,7 +20,7 @@ enum Name {
 
 // A form that was read: its name, where the bytes of its value are, and the number that they stand for
 // (k or the mirror; 0 for letters).
-enum Form {
+pub enum Form {
     Of {
         name: Name,
         from: usize,
@@ -69,7 +69,7 @@ fn form_from(input: &[u8], name: Name, from: usize) -> Form
 }
 
 // The form that stands at a place, without its closing bracket.
-fn form_at(input: &[u8], at: usize) -> Form
+pub fn form_at(input: &[u8], at: usize) -> Form
     ensures { λ r. ⌜ r ≡ formAt (now (input .entry)) at ⌝ }
 {
     if starts(input, at, b"(letters ") {
@@ -85,7 +85,7 @@ fn form_at(input: &[u8], at: usize) -> Form
 }
 
 // The form after a form, parted from it by one space.
-fn next_form(input: &[u8], f: Form) -> Form
+pub fn next_form(input: &[u8], f: Form) -> Form
     requires { ⌜ Within (now input) f ⌝ }
     ensures { λ r. ⌜ r ≡ nextForm (now (input .entry)) f ⌝ }
 {

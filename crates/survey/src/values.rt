@@ -84,7 +84,7 @@ pub fn sized(input: &[u8], name: Name, from: usize, len: usize) -> bool
 }
 
 // What a digit adds.
-fn digit(b: u8) -> u64
+pub fn digit(b: u8) -> u64
     ensures { λ r. ⌜ r ≡ b - 48 ⌝ }
 {
     if b < 48 {

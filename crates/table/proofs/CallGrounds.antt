@@ -26,10 +26,10 @@ use Rattle.fasta.proofs.Runs.{windows-fit}
 use Rattle.kernels.specs.declared.Kernel.{Kernel}
 use Rattle.kernels.specs.Needs.{Takes}
 use Rattle.tally.specs.Table.{classCount, placeOf, windowsOfFile, places, changes, oneMore, oneLess, full, lacks, tooMany, readyGround, callGround, clearGround, Call, callFile, lastGround, tableGround, tableAfter, Called, Clears}
-use Rattle.counting.specs.Needs.{byWay, Fits, TakenUnlessLacking}
-use Rattle.counting.proofs.CountLoops.{room-fits}
-use Rattle.counting.specs.declared.Way.{Way}
-use Rattle.counting.specs.declared.Way.the-variants.{In, Out}
+use Rattle.counts.specs.Needs.{byWay, Fits, TakenUnlessLacking}
+use Rattle.counts.proofs.CountLoops.{room-fits}
+use Rattle.counts.specs.declared.Way.{Way}
+use Rattle.counts.specs.declared.Way.the-variants.{In, Out}
 use Rattle.table.specs.Calls.{callOf}
 use Rattle.table.specs.Needs.{lastOf, ChangedUnlessRefused, CalledUnlessRefused, CleanFile, ClearsPlaces}
 use Rattle.tally.proofs.Changes.{changes-front}

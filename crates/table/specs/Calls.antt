@@ -9,8 +9,8 @@ use Rattle.fasta.specs.declared.Numbers.{Numbers}
 use Rattle.fasta.specs.Scan.{ofAnswer}
 use Rattle.files.specs.File.{File}
 use Rattle.table.specs.declared.Survey.{Survey}
-use Rattle.counting.specs.declared.Way.{Way}
-use Rattle.counting.specs.declared.Way.the-variants.{In, Out}
+use Rattle.counts.specs.declared.Way.{Way}
+use Rattle.counts.specs.declared.Way.the-variants.{In, Out}
 use Rattle.tally.specs.Table.{clearGround, Clears, Call, add, withdraw}
 use Rattle.tally.specs.Demand.{TableCalls, DemandThree}
 

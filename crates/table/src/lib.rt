@@ -1,8 +1,7 @@
 // The table of counts, one place a class: clearing it, adding files to it and withdrawing them. What holds of a list of such calls, demand 3, is
 // stated in the crate tally (specs/Demand.antt); `survey_two` has it in its contract.
-use counting::Way;
 use counting::batches;
-use counting::counts;
+use counts::Way;
 use fasta::Answer;
 use fasta::Numbers;
 use files::Kind;
@@ -24,7 +23,7 @@ ghost use Rattle.fasta.specs.Scan.{ofAnswer};
 ghost use Rattle.settings.specs.RankTables.{RankTable, RanksBelow};
 ghost use Rattle.kernels.specs.Needs.{Takes, ReadyCoder};
 ghost use Rattle.tally.specs.Table.{classCount, readyGround, Called, Added, Withdrawn, Clears};
-ghost use Rattle.counting.specs.declared.Way.the-variants.{In, Out};
+ghost use Rattle.counts.specs.declared.Way.the-variants.{In, Out};
 ghost use Rattle.table.specs.Calls.{callOf, Surveyed};
 ghost use Rattle.table.specs.Needs.{codesOf, ChangedUnlessRefused, CalledUnlessRefused, CleanFile, ClearsPlaces};
 

@@ -1,20 +1,55 @@
--- What is known where no ground refuses a clearing: the settings pass the check, the classes are at most 16,777,216, and each has a place. And the
--- table after it: its first places, one a class, are 0, and it agrees with the cleared book. From the definitions in specs/Table.antt.
-use mathlib.Core.Path.{_≡_, refl, ap, _∙_}
-use Prim.Native.Nat.{ℕ, zero, suc, _≤_}
+-- The grounds of a clearing, which other calls on a table have too: the one that applies at each test (`clear-settings`, `clear-many`, `clear-short`,
+-- `clear-passed`), and what is known where none does: the settings pass the check, the classes are at most 16,777,216, and each has a place. And the table after
+-- a clearing: its first places, one a class, are 0, and it agrees with the cleared book. From the definitions in specs/Table.antt.
+use mathlib.Core.Path.{_≡_, refl, sym, ap, _∙_}
+use Prim.Native.Nat.{ℕ, zero, suc, _<_, _≤_}
 use native.Mathlib.Omega.{arith}
-use mathlib.Core.Option.{none}
+use mathlib.Core.Option.{none, some}
 use mathlib.Core.List.{List, _++_}
 use lib.ListN.{length, drop, replicate, length-replicate, getD-replicate, length-append, length-drop, List·getD-append}
 use lib.Seq.{drop-at}
+use borrow.Author.Tests.{lt-ltb, le-ltb}
 use Rattle.laws.proofs.Buffers.{front-is, front-fits}
-use Rattle.settings.specs.Grounds.{Outcome, ground, groundAt, tooShort, _orElse_}
-use Rattle.settings.specs.Settings.{settingsGround}
-use Rattle.settings.proofs.Outcomes.{first-none, later-none, nowhere-met, not-too-large, room-enough}
+use Rattle.settings.specs.declared.Settings.{Settings}
+use Rattle.settings.specs.Grounds.{Ground, Outcome, given, refused, ground, groundAt, tooShort, outcome, _orElse_}
+use Rattle.settings.specs.Settings.{settingsGround, settingsOf}
+use Rattle.settings.proofs.Outcomes.{refused-is, first-none, later-none, nowhere-met, not-too-large, room-enough}
+use Rattle.settings.proofs.SettingsGrounds.{Known, known}
 use Rattle.tally.specs.Table.{classCount, placeOf, tooMany, clearGround, Clears}
 use Rattle.tally.specs.Book.{clearedBook}
 use Rattle.tally.specs.Demand.{sum, counts, Agrees}
 use Rattle.tally.proofs.Classes.{place-below}
+
+-- ---- the ground at each test
+
+module _ (letters : List ℕ) (k m room : ℕ) where
+  pub clear-settings : (f : Ground) → refused f ≡ outcome (settingsGround letters k m) (settingsOf letters k m) → clearGround letters k m room ≡ some f
+  unfolding clearGround
+  clear-settings f e = rw (refused-is f (settingsOf letters k m) (settingsGround letters k m) e)
+
+  module _ (st : Settings) (e : given st ≡ outcome (settingsGround letters k m) (settingsOf letters k m)) where
+    good : Known letters k m st
+    good = known letters k m st e
+
+    pub clear-many : 16777216 < st .classes → clearGround letters k m room ≡ some (6, 0)
+    unfolding clearGround tooMany
+    clear-many h = rw (good .none-applies, ← good .classes-are, lt-ltb 16777216 (st .classes) h)
+
+    module _ (few : st .classes ≤ 16777216) where
+      pub clear-short : room < st .classes → clearGround letters k m room ≡ some (7, st .classes)
+      unfolding clearGround tooMany
+      clear-short h =
+          simp (good .none-applies, sym (good .classes-are), le-ltb 16777216 (st .classes) few, lt-ltb room (st .classes) h)
+
+      pub clear-passed : st .classes ≤ room → clearGround letters k m room ≡ none
+      unfolding clearGround tooMany
+      clear-passed long =
+          let n = good .classes-are in
+          rw (
+            good .none-applies,
+            le-ltb 16777216 (classCount letters k m) (omega (arith, n)),
+            le-ltb room (classCount letters k m) (omega (arith, n)),
+          )
 
 -- ---- where no ground refuses a clearing
 

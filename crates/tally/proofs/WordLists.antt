@@ -16,13 +16,13 @@ use Rattle.tally.specs.Book.{sameWord, sameClass, CanonicalWord, withFro
 -- ---- the tests
 
 -- A word is equal to itself by the test.
-same-word : (w : List ℕ) → sameWord w w ≡ true
+pub same-word : (w : List ℕ) → sameWord w w ≡ true
 unfolding sameWord
 same-word [] = refl
 same-word (a ∷ w) = rw (eq-eqb a a refl) (same-word w)
 
 -- Words that the test takes for equal are.
-word-same : (v w : List ℕ) → sameWord v w ≡ true → v ≡ w
+pub word-same : (v w : List ℕ) → sameWord v w ≡ true → v ≡ w
 unfolding sameWord
 word-same [] [] e = refl
 word-same [] (b ∷ w) e = absurd (false≢true e)

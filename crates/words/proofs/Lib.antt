@@ -6,6 +6,7 @@ pub mod LetterLoops
 pub mod RankLoops
 pub mod DigitValues
 pub mod TwoWords
+pub mod OwnAndMirror
 pub mod ReadSteps
 pub mod CallGrounds
 pub mod CodeAnswers

@@ -1,19 +1,18 @@
--- The canonical one of a word of letters and its mirror, and its code, where `word_code`, `write_mirror` and `plain_of` have them in arrays: own, whose
--- first places hold the ranks of the word, and other, whose first places hold their mirror.
+-- A word of letters and its mirror, where `word_code`, `write_mirror` and `plain_of` have them in arrays: own, whose first places hold the ranks of the word, and
+-- other, whose first places hold their mirror.
 use mathlib.Core.Path.{refl, _≡_, _∙_, ap, subst⁻¹}
 use mathlib.Core.List.{List, _++_}
-use Prim.Native.Nat.{ℕ, _≤_, _<_}
+use Prim.Native.Nat.{ℕ, _≤_}
 use native.Mathlib.Omega.{arith}
 use lib.ListN.{length, take, drop}
 use Rattle.settings.specs.Limits.{Limits}
 use Rattle.settings.proofs.Limits.{k-at-most}
 use Rattle.laws.proofs.Buffers.{front-is, front-fits, front-length}
 use Rattle.encoding.specs.Calls.{ranksOf, inCapitals}
-use Rattle.encoding.specs.Codes.{code, codeOfCanonical}
-use Rattle.words.specs.Needs.{FitWord, FitCanonical}
-use Rattle.encoding.specs.Words.{Mirror, mirror, Ranks, plain}
-use Rattle.encoding.proofs.Canonical.{Ranks-mirror, mirror-mirror}
-use Rattle.encoding.proofs.Codes.{canonical-low, canonical-high}
+use Rattle.encoding.specs.Codes.{code}
+use Rattle.words.specs.Needs.{FitWord}
+use Rattle.encoding.specs.Words.{Mirror, mirror, Ranks}
+use Rattle.encoding.proofs.Canonical.{Ranks-mirror}
 use Rattle.encoding.proofs.Ends.{length-mirror}
 use Rattle.words.proofs.LetterLoops.{ranks-below, length-ranksOf}
 
@@ -33,30 +32,6 @@ module _ (letters word : List ℕ) (m : Mirror) (f : Limits (length letters) (le
 
   as-mirror : FitWord (length letters) (mirror (length letters) m (ranksOf letters word))
   as-mirror = record { two = f .two; ranks = mirror-ranks; small = rw mirror-len (f .small) }
-
-  own-canonical : plain (length letters) (ranksOf letters word) ≤ plain (length letters) (mirror (length letters) m (ranksOf letters word))
-      → FitCanonical (length letters) m (ranksOf letters word)
-  own-canonical h = record { word = as-word letters word f; few = f .few; least = h }
-
-  other-canonical : plain (length letters) (mirror (length letters) m (ranksOf letters word)) < plain (length letters) (ranksOf letters word)
-      → FitCanonical (length letters) m (mirror (length letters) m (ranksOf letters word))
-  other-canonical h =
-      record {
-        word = as-mirror;
-        few = f .few;
-        least = rw (mirror-mirror (length letters) m (length (ranksOf letters word)) (ranksOf letters word) refl own-ranks) (omega arith);
-      }
-
-  own-code : plain (length letters) (ranksOf letters word) ≤ plain (length letters) (mirror (length letters) m (ranksOf letters word))
-      → codeOfCanonical (length letters) m (length (ranksOf letters word)) (ranksOf letters word) ≡ code (length letters) m (length word) (ranksOf letters word)
-  unfolding code
-  own-code h = rw (canonical-low (length letters) m (ranksOf letters word) h, length-ranksOf letters word)
-
-  other-code : plain (length letters) (mirror (length letters) m (ranksOf letters word)) < plain (length letters) (ranksOf letters word)
-      → codeOfCanonical (length letters) m (length (mirror (length letters) m (ranksOf letters word))) (mirror (length letters) m (ranksOf letters word))
-      ≡ code (length letters) m (length word) (ranksOf letters word)
-  unfolding code
-  other-code h = rw (canonical-high (length letters) m (ranksOf letters word) h, mirror-len)
 
 -- ---- the array own
 
@@ -84,6 +59,14 @@ module _ {letters word own : List ℕ} (A : OwnArray letters word own) where
 
   pub own-short : length (take (length word) own) ≤ 64
   own-short = omega (arith, own-length, k-at-most (A .within))
+
+  -- The code of what it holds is that of the word.
+  pub own-coded : (m : Mirror) {r : ℕ} → r ≡ code (length letters) m (length (take (length word) own)) (take (length word) own)
+      → r ≡ code (length letters) m (length word) (ranksOf letters word)
+  own-coded m e =
+      e
+      ∙ ap (λ (l : List ℕ). code (length letters) m (length l) l) own-is
+      ∙ ap (λ (n : ℕ). code (length letters) m n (ranksOf letters word)) (length-ranksOf letters word)
 
 -- ---- the array other beside it
 
@@ -122,42 +105,3 @@ module _ {letters word : List ℕ} {m : Mirror} {own other : List ℕ} (B : Both
       x
       ∙ ap (λ (l : List ℕ). inCapitals letters l ++ drop (length (take (length word) other)) old) other-is
       ∙ ap (λ (n : ℕ). inCapitals letters (mirror (length letters) m (ranksOf letters word)) ++ drop n old) other-length
-
--- ---- both, with the plain ranks p and q of what they hold
-
-pub record RankedArrays (letters word : List ℕ) (m : Mirror) (own other : List ℕ) (p q : ℕ) : Type 0 where
-  pub arrays : BothArrays letters word m own other
-  pub own-plain : p ≡ plain (length letters) (take (length word) own)
-  pub other-plain : q ≡ plain (length letters) (take (length word) other)
-
-module _ {letters word : List ℕ} {m : Mirror} {own other : List ℕ} {p q : ℕ} (R : RankedArrays letters word m own other p q) where
-  within : Limits (length letters) (length word)
-  within = R .arrays .own-array .within
-
-  p-is : p ≡ plain (length letters) (ranksOf letters word)
-  p-is = R .own-plain ∙ ap (plain (length letters)) (own-is (R .arrays .own-array))
-
-  q-is : q ≡ plain (length letters) (mirror (length letters) m (ranksOf letters word))
-  q-is = R .other-plain ∙ ap (plain (length letters)) (other-is (R .arrays))
-
-  own-low : p ≤ q → plain (length letters) (ranksOf letters word) ≤ plain (length letters) (mirror (length letters) m (ranksOf letters word))
-  own-low h = omega (arith, p-is, q-is)
-
-  other-low : q < p → plain (length letters) (mirror (length letters) m (ranksOf letters word)) < plain (length letters) (ranksOf letters word)
-  other-low h = omega (arith, p-is, q-is)
-
-  pub own-least : p ≤ q → FitCanonical (length letters) m (take (length word) own)
-  own-least h = subst⁻¹ (FitCanonical (length letters) m) (own-is (R .arrays .own-array)) (own-canonical letters word m within (own-low h))
-
-  pub other-least : q < p → FitCanonical (length letters) m (take (length word) other)
-  other-least h = subst⁻¹ (FitCanonical (length letters) m) (other-is (R .arrays)) (other-canonical letters word m within (other-low h))
-
-  pub own-answer : p ≤ q → (r : ℕ) → r ≡ codeOfCanonical (length letters) m (length (take (length word) own)) (take (length word) own)
-      → r ≡ code (length letters) m (length word) (ranksOf letters word)
-  own-answer h r x =
-      x ∙ ap (λ (l : List ℕ). codeOfCanonical (length letters) m (length l) l) (own-is (R .arrays .own-array)) ∙ own-code letters word m within (own-low h)
-
-  pub other-answer : q < p → (r : ℕ) → r ≡ codeOfCanonical (length letters) m (length (take (length word) other)) (take (length word) other)
-      → r ≡ code (length letters) m (length word) (ranksOf letters word)
-  other-answer h r x =
-      x ∙ ap (λ (l : List ℕ). codeOfCanonical (length letters) m (length l) l) (other-is (R .arrays)) ∙ other-code letters word m within (other-low h)

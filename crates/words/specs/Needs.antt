@@ -2,13 +2,15 @@
 -- words and codes that fit 62 bits, and whether a ground applies.
 use mathlib.Core.Bool.{Bool, true, false, cond}
 use mathlib.Core.Option.{Option, none, some}
-use mathlib.Core.List.{List}
+use mathlib.Core.List.{List, map}
 use Prim.Native.Nat.{ℕ, suc, _+_, _-_, _*_, _^_, _<_, _≤_}
 use lib.ListN.{length, take, drop}
 use lib.Dec.{leb}
 use Rattle.settings.specs.Grounds.{Ground}
 use Rattle.settings.specs.Settings.{classes}
 use Rattle.settings.specs.Limits.{Limits}
+use Rattle.settings.specs.RankTables.{rankByTable}
+use Rattle.encoding.specs.Calls.{rankOrZero}
 use Rattle.encoding.specs.Words.{Mirror, Ranks, mirror, plain}
 
 -- ---- parts of a word
@@ -16,6 +18,10 @@ use Rattle.encoding.specs.Words.{Mirror, Ranks, mirror, plain}
 -- n letters of w from place i.
 abbrev pub part : ℕ → ℕ → List ℕ → List ℕ
 part i n w = take n (drop i w)
+
+-- The ranks of a word's bytes by a table of all bytes' ranks; 0 for a byte that has none.
+unfoldable pub ranksByTable : (table word : List ℕ) → List ℕ
+ranksByTable table word = map (λ (b : ℕ). rankOrZero (rankByTable table b)) word
 
 -- ---- the scan
 

@@ -4,9 +4,11 @@ ghost use mathlib.Core.List.{_++_};
 ghost use Prim.Native.Nat.{_≤_};
 ghost use lib.ListN.{length, drop};
 ghost use Rattle.settings.specs.Limits.{Limits};
+ghost use Rattle.settings.specs.RankTables.{asRank};
 ghost use Rattle.encoding.specs.Words.{Ranks, mirror, plain};
-ghost use Rattle.encoding.specs.Calls.{rankAt, ranksOf, inCapitals, foreignFrom};
+ghost use Rattle.encoding.specs.Calls.{rankOrZero, rankAt, ranksOf, inCapitals, foreignFrom};
 ghost use Rattle.words.specs.Answers.{ofPlace};
+ghost use Rattle.words.specs.Needs.{ranksByTable};
 use crate::PlainRank;
 use crate::ranks;
 use settings::Mirror;
@@ -51,6 +53,27 @@ pub fn fill_ranks(letters: &[u8], word: &[u8], out: &mut [u64])
     let mut i: usize = 0;
     while i < word.len() {
         out[i] = rank_or_zero(letters, word[i]);
+        i += 1;
+    }
+}
+
+// The rank in a table's entry; 0 for a byte that is no letter.
+fn entry_or_zero(r: u8) -> u64
+    ensures { λ q. ⌜ q ≡ rankOrZero (asRank r) ⌝ }
+{
+    if r == 255 { 0 } else { r as u64 }
+}
+
+// The same by a table of all bytes' ranks, for `loader`, which reads many words: no letter is searched for.
+pub fn fill_ranks_by(table: &[u8; 256], word: &[u8], out: &mut [u64])
+    requires { ⌜ length (now word) ≤ length (now out) ⌝ }
+    ensures { λ _.
+        ⌜ now (out .exit) ≡ ranksByTable (now (table .entry)) (now (word .entry)) ++ drop (length (now (word .entry))) (now (out .entry)) ⌝ }
+{
+    let mut i: usize = 0;
+    while i < word.len() {
+        let b = word[i];
+        out[i] = entry_or_zero(table[b as usize]);
         i += 1;
     }
 }

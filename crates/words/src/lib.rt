@@ -1,7 +1,7 @@
 // Words and their codes: the code of a word, the word of a code, a word's mirror, and the pick of the lower of two words.
 // The calls take the settings as they are and refuse what no rule allows; the modules below them work on good settings.
-mod to_code; // from a word to its code
-mod letters; // from bytes to ranks and back
+pub mod to_code; // from a word to its code
+pub mod letters; // from bytes to ranks and back
 pub mod pair_ranks; // the rank of a pair of ranks
 pub mod ranks; // words of ranks: mirror and plain rank
 mod to_word; // from a code to its word

@@ -1,13 +1,14 @@
 // From a word to its code, as document 01 works it out: the digits of the canonical word from the outside inwards, less the shifts.
 ghost use mathlib.Core.Path.{_≡_};
 ghost use Prim.Native.Nat.{_+_, _-_, _*_, _^_, _<_, _≤_};
+ghost use lib.Dec.{leb};
 ghost use lib.ListN.{length, take, drop};
 ghost use Rattle.settings.specs.Limits.{Limits};
-ghost use Rattle.encoding.specs.Words.{Ranks, plain};
+ghost use Rattle.encoding.specs.Words.{Ranks, mirror, plain};
 ghost use Rattle.encoding.specs.Codes.{pairRank, digits, shift, oddShift, codeOfCanonical, code};
 ghost use Rattle.encoding.specs.Calls.{ranksOf};
 ghost use Rattle.encoding.specs.Needs.{equalPairs};
-ghost use Rattle.words.specs.Needs.{pairAfter, FitCanonical, FitDiffering};
+ghost use Rattle.words.specs.Needs.{pairAfter, FitWord, FitCanonical, FitDiffering};
 use crate::Code;
 use crate::letters;
 use crate::pair_ranks::pair_rank;
@@ -107,7 +108,39 @@ fn canonical_code(w: &[u64], s: u64, m: Mirror) -> Code
     Code(value - shift - odd)
 }
 
-// The code of a word of letters: that of the word or of its mirror, whichever has the lower plain rank.
+// What coding a word finds: the code of its class, and whether the word itself is the class's canonical one.
+pub struct WordCode {
+    pub code: Code,
+    pub canonical: bool,
+}
+
+// The code of a word of ranks: that of the word or of its mirror, whichever has the lower plain rank.
+pub fn ranks_code(w: &[u64], s: u64, m: Mirror) -> WordCode
+    requires { ⌜ FitWord s (now w) × (s ≤ 16) ⌝ }
+    ensures { λ r.
+        ⌜ (r .code .0 ≡ code s m (length (now (w .entry))) (now (w .entry)))
+        × (r .canonical ≡ leb (plain s (now (w .entry))) (plain s (mirror s m (now (w .entry))))) ⌝ }
+{
+    let k = w.len();
+    let mut other = [0u64; 64];
+    ranks::fill_mirror(w, s, m, &mut other);
+    let other_word = &other[..k];
+    let own_rank = ranks::plain_rank(w, s);
+    let other_rank = ranks::plain_rank(other_word, s);
+    if own_rank.0 <= other_rank.0 {
+        WordCode {
+            code: canonical_code(w, s, m),
+            canonical: true,
+        }
+    } else {
+        WordCode {
+            code: canonical_code(other_word, s, m),
+            canonical: false,
+        }
+    }
+}
+
+// The code of a word of letters.
 pub fn word_code(letters: &[u8], word: &[u8], m: Mirror) -> Code
     requires { ⌜ Limits (length (now letters)) (length (now word)) ⌝ }
     ensures { λ r.
@@ -116,16 +149,7 @@ pub fn word_code(letters: &[u8], word: &[u8], m: Mirror) -> Code
     let s = letters.len() as u64;
     let k = word.len();
     let mut own = [0u64; 64];
-    let mut other = [0u64; 64];
     letters::fill_ranks(letters, word, &mut own);
-    let own_word = &own[..k];
-    ranks::fill_mirror(own_word, s, m, &mut other);
-    let other_word = &other[..k];
-    let own_rank = ranks::plain_rank(own_word, s);
-    let other_rank = ranks::plain_rank(other_word, s);
-    if own_rank.0 <= other_rank.0 {
-        canonical_code(own_word, s, m)
-    } else {
-        canonical_code(other_word, s, m)
-    }
+    let found = ranks_code(&own[..k], s, m);
+    found.code
 }

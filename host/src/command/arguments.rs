@@ -87,12 +87,12 @@ impl Arguments {
         self.value(option).is_some()
     }
 
-    /// The number given with an option, or this one where it is not given.
-    pub fn number(&self, option: &str, otherwise: usize) -> Result<usize, String> {
-        match self.value(option) {
-            None => Ok(otherwise),
-            Some(value) => number(value)
-                .ok_or_else(|| format!("--{option} {} is no number from 0 to 2^64 - 1", shown(value))),
+    /// The number given with an option, none where it is not given.
+    pub fn number(&self, option: &str) -> Result<Option<usize>, String> {
+        let Some(value) = self.value(option) else { return Ok(None) };
+        match number(value) {
+            None => Err(format!("--{option} {} is no number from 0 to 2^64 - 1", shown(value))),
+            number => Ok(number),
         }
     }
 }

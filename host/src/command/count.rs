@@ -1,46 +1,43 @@
-//! `wontirje count`: clears a table, adds each file in order, withdraws files in order and prints the listing.
+//! `wontirje count`: clears a table or loads a listing into it, adds each file in order, withdraws files in
+//! order and prints the listing.
 
 use crate::arguments::{Arguments, Options, Takes};
 use crate::failure::{reason, status, Failure, Outcome};
 use crate::fault::Fault;
+use crate::listing;
 use crate::output;
 use crate::progress::Progress;
 use crate::report;
+use crate::survey::Given;
+use crate::table::Table;
 use crate::task::Task;
 use crate::{input, survey};
 use std::ffi::OsStr;
-use std::path::Path;
-use wontirje::{Kind, Settings};
+use wontirje::Kind;
 
 pub const OPTIONS: Options = &[
     ("letters", Takes::Value),
     ("k", Takes::Value),
     ("mirror", Takes::Value),
     ("kind", Takes::Value),
+    ("from", Takes::Value),
     ("withdraw", Takes::Values),
     ("output", Takes::Value),
     ("strict", Takes::Nothing),
     ("no-listing", Takes::Nothing),
 ];
 
-/// The table of a run, the kind that its files are given as, and the one buffer that they are read into.
-struct Run<'a> {
-    settings: Settings<'a>,
+/// The table of a run, the kind that its files are given as, and the one buffer that they are read into, and
+/// the listing before them.
+struct Run {
+    table: Table,
     kind: Option<Kind>,
-    table: Vec<u32>,
     buffer: Vec<u8>,
 }
 
-impl Run<'_> {
-    fn new(settings: Settings, kind: Option<Kind>) -> Result<Run, Failure> {
-        let refused = |refusal| survey::refused(&settings, refusal);
-        let mut table = vec![0; settings.table_places().map_err(refused)?];
-        settings.clear(&mut table).map_err(refused)?;
-        Ok(Run { settings, kind, table, buffer: Vec::new() })
-    }
-
-    /// Adds or withdraws a file and says its numbers, or why that was not done. Gives whether it was. Where no
-    /// kind is given, the file's first byte tells it.
+impl Run {
+    /// Adds or withdraws a file and says its numbers, or why that was not done. Gives whether it was. Where
+    /// no kind is given, the file's first byte tells it.
     fn handle(&mut self, task: Task, file: &OsStr) -> bool {
         let name = report::name(file);
         let mut progress = Progress::new(&name);
@@ -48,9 +45,10 @@ impl Run<'_> {
         let kind = self.kind.unwrap_or(Kind::of(&self.buffer));
         let answer = read.map(|()| {
             progress.working(task.doing(), self.buffer.len());
+            let (settings, counts) = self.table.parts();
             match task {
-                Task::Add => self.settings.add(&mut self.table, kind, &self.buffer),
-                Task::Withdraw => self.settings.withdraw(&mut self.table, kind, &self.buffer),
+                Task::Add => settings.add(counts, kind, &self.buffer),
+                Task::Withdraw => settings.withdraw(counts, kind, &self.buffer),
             }
         });
         progress.done();
@@ -64,31 +62,33 @@ impl Run<'_> {
         report::line(format_args!("{name}: {said}"));
         matches!(answer, Ok(Ok(_)))
     }
-
-    /// The listing goes to standard output or to a new file.
-    fn list(&self, to: Option<&Path>, refused: bool) -> Result<(), Failure> {
-        let (settings, table) = (&self.settings, &self.table);
-        match to {
-            None => output::to_stdout(status(refused), &mut |to| settings.write_listing(table, to).map(drop)),
-            Some(path) => output::to_new_file(path, &mut |to| settings.write_listing(table, to).map(drop)),
-        }
-    }
 }
 
-/// The files and what to do with each: those to be counted come first, wherever the options stand.
+/// The table that a run starts from: that of the listing of --from, or one in which nothing is counted.
+fn start(arguments: &Arguments, given: Given, buffer: &mut Vec<u8>) -> Result<Table, Failure> {
+    let Some(operand) = arguments.value("from") else {
+        let settings = given.or(survey::by_default());
+        return Table::new(&settings).map_err(|refusal| survey::refused(&settings, refusal));
+    };
+    let table = listing::load(operand, given, buffer)?;
+    listing::say_loaded(operand, &table);
+    Ok(table)
+}
+
+/// The files and what to do with each: those to be counted come first, wherever the options stand. Without a
+/// listing to start from, nothing can be withdrawn where no file is counted.
 fn tasks(arguments: &Arguments) -> Result<Vec<(Task, &OsStr)>, Failure> {
-    if arguments.operands.is_empty() {
+    let adds = arguments.operands.iter().map(|file| (Task::Add, file.as_os_str()));
+    let withdrawals = arguments.values("withdraw").map(|file| (Task::Withdraw, file));
+    let tasks: Vec<(Task, &OsStr)> = adds.chain(withdrawals).collect();
+    let from = arguments.value("from");
+    if tasks.is_empty() || from.is_none() && arguments.operands.is_empty() {
         return Err(Failure::said(
             "no file given; name files, or - for standard input; see wontirje count --help",
         ));
     }
-    let adds = arguments.operands.iter().map(|file| (Task::Add, file.as_os_str()));
-    let withdrawals = arguments.values("withdraw").map(|file| (Task::Withdraw, file));
-    let tasks: Vec<(Task, &OsStr)> = adds.chain(withdrawals).collect();
-    match tasks.iter().filter(|(_, file)| *file == "-").count() {
-        0 | 1 => Ok(tasks),
-        _ => Err(Failure::said("- is given twice; standard input can be read only once")),
-    }
+    input::check_once(tasks.iter().map(|(_, file)| *file).chain(from))?;
+    Ok(tasks)
 }
 
 /// The kind that --kind gives to all files; none where it is not given.
@@ -101,14 +101,15 @@ fn kind(arguments: &Arguments) -> Result<Option<Kind>, Failure> {
 }
 
 pub fn run(arguments: &Arguments) -> Outcome {
-    let settings = survey::settings(arguments)?;
+    let given = survey::given(arguments)?;
     let kind = kind(arguments)?;
     let tasks = tasks(arguments)?;
     if arguments.has("output") && arguments.has("no-listing") {
         return Err(Failure::said("--output and --no-listing exclude each other"));
     }
     let to = output::new_file(arguments, "output", "leave --output out to print the listing")?;
-    let mut run = Run::new(settings, kind)?;
+    let mut buffer = Vec::new();
+    let mut run = Run { table: start(arguments, given, &mut buffer)?, kind, buffer };
     let mut refused = false;
     for (task, file) in tasks {
         if !run.handle(task, file) {
@@ -119,7 +120,7 @@ pub fn run(arguments: &Arguments) -> Outcome {
         }
     }
     if !arguments.has("no-listing") {
-        run.list(to, refused)?;
+        run.table.list(to, status(refused))?;
     }
     Ok(status(refused))
 }

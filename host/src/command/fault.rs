@@ -1,6 +1,7 @@
 //! What is wrong in a file that was refused, where, and what whoever supplied it can do.
 
-use crate::input::bare;
+use crate::input::{advice_on_the_start, bare};
+use crate::listing;
 use crate::task::Task;
 use std::fmt;
 use wontirje::{Kind, Refusal};
@@ -8,13 +9,8 @@ use wontirje::{Kind, Refusal};
 const SAM: &str = "it looks like SAM: make FASTQ of it first, with samtools fastq";
 
 /// How files begin that are of neither kind, and what to do with them.
-const NEITHER: [(&[u8], &str); 11] = [
-    (b"\x1f\x8b", "it is compressed: give - for it, with gzip -dc FILE | before the command"),
-    (b"BZh", "it is compressed: give - for it, with bzip2 -dc FILE | before the command"),
-    (b"\xfd7zXZ", "it is compressed: give - for it, with xz -dc FILE | before the command"),
-    (b"\x28\xb5\x2f\xfd", "it is compressed: give - for it, with zstd -dc FILE | before the command"),
+const NEITHER: [(&[u8], &str); 6] = [
     (b"(survey ", "take the survey line out: settings are given as options"),
-    (b"\xef\xbb\xbf", "it begins with a byte order mark: take its three bytes out"),
     (b"@HD\t", SAM),
     (b"@SQ\t", SAM),
     (b"@RG\t", SAM),
@@ -134,9 +130,19 @@ impl Fault<'_> {
         };
         let begins = |(start, _): &&(&[u8], _)| self.file.starts_with(start);
         match self.refusal.number {
-            6 | 10 | 11 | 15 => NEITHER.iter().chain([&other]).find(begins).map(|(_, advice)| *advice),
+            6 | 10 | 11 | 15 => advice_on_the_start(self.file)
+                .or_else(|| self.of_a_listing())
+                .or_else(|| NEITHER.iter().chain([&other]).find(begins).map(|(_, advice)| *advice)),
             _ => None,
         }
+    }
+
+    /// What to do where it is a listing.
+    fn of_a_listing(&self) -> Option<&'static str> {
+        listing::looks_like_one(self.file).then_some(match self.task {
+            Task::Add => "it looks like a listing: put --from before it to start from its counts",
+            Task::Withdraw => "it looks like a listing: only sequence files are withdrawn",
+        })
     }
 
     /// What to do about a line of FASTQ that is not what it must be, or is missing.
@@ -212,7 +218,7 @@ impl Fault<'_> {
                 "put a header line before it, one that begins with > (with @ if it is FASTQ), and count the \
                  file again"
             }
-            (12, _) => "start a new count with this file, and add the two listings up",
+            (12, _) => "start a new count with this file, and add the two listings up with wontirje merge",
             (15, _) => self.advice_on_the_line(),
             (16, _) => {
                 "the record is damaged or cut off, or its qualities go over several lines: copy the file again, \

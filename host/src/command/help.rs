@@ -4,13 +4,14 @@ pub const ALL: &str = "\
 wontirje counts canonical k-mers: a word of k letters and its reverse complement are one class.
 
   wontirje count FILE...       count the words of FASTA and FASTQ files and print a listing
+  wontirje merge LISTING...    add listings up and print the listing of their sum
   wontirje code WORD...        print the code of each word's class
   wontirje word CODE...        print the canonical word of each code
   wontirje classes [K...]      print the number of classes and the size of their table
   wontirje histogram LISTING   print how many classes have each count, and draw a chart
   wontirje --version           print the version
 
-Settings of all but histogram, and what they are when not given:
+Settings of all but merge and histogram, and what they are when not given (under count --from: the listing's):
   --letters ACGT        2 to 16 different capitals, in the order of their ranks; where T is one and U is not,
                         U is read as T and printed as T (so RNA needs no other letters)
   --k 11                letters in a word (-k 11 will do too)
@@ -23,12 +24,13 @@ Example:
 Exit status: 0 all was taken in or withdrawn; 1 a file was refused or not read by count, or a word, code or K
 was refused; 2 the command could not do its work: options, settings, a listing, lines of standard input, an
 output.
-See wontirje COMMAND --help. Codes and counts are the library's, which is proved; the command is tested.
+See wontirje COMMAND --help. Codes and counts are the library's, which is proved; the command is tested, and
+so are the sums of merge, which it adds up by itself.
 ";
 
 pub const COUNT: &str = "\
-wontirje count [--letters ACGT] [--k 11] [--mirror complement] [--kind KIND] [--output FILE] [--strict]
-               [--no-listing] FILE... [--withdraw FILE]...
+wontirje count [--letters ACGT] [--k 11] [--mirror complement] [--kind KIND] [--from LISTING] [--output FILE]
+               [--strict] [--no-listing] FILE... [--withdraw FILE]...
 
 Clears a table, adds each file in order, withdraws those of --withdraw, and prints the listing: the survey
 line with the number of classes, a line for each class with its count, and the total. - is standard input. A
@@ -39,6 +41,10 @@ a run's end to begin a word) and windows (words counted or withdrawn); or why it
 to do. A refused file changes no count and does not stop the others.
 
   --kind KIND     fasta or fastq: take all files for this kind, whatever their first byte is
+  --from LISTING  start from the counts of a listing instead of from 0, as to add this year's files to last
+                  year's. What is not given of letters, k and mirror is the listing's; what is given must be
+                  the same. A listing that is refused or not read ends the run. With --withdraw there need be
+                  no file to count
   --withdraw FILE when all files are counted, take this one out again: 1 from its class for each window. One
                   file each time, in the order given (a further name after it is a file to count). Refused
                   with 18 where some class has a smaller count than the file has windows of it. Files are not
@@ -53,8 +59,23 @@ most 12.
 
 Examples:
   wontirje count --k 12 --output counts.txt lake-1.fa lake-2.fq
+  wontirje count --from 2023.txt --output 2024.txt lake-2024.fa
   wontirje count lake-*.fa --withdraw lake-7.fa     (as if lake-7.fa had not been counted)
   gzip -dc reads.fa.gz | wontirje count -           (in jellyfish: count -C -m 11, then dump)
+";
+
+pub const MERGE: &str = "\
+wontirje merge [--output FILE] LISTING...
+
+Prints the listing of the sum of several listings: the count of each class is the sum of its counts in them.
+All must have the settings of the first; - is standard input. On standard error is a line for each listing.
+Where one is refused or not read, or a sum is above 4,294,967,295, nothing is printed or written.
+
+  --output FILE   write the listing to a new file, which appears only when it is whole; a file that is there
+                  already is not overwritten
+
+Example:
+  wontirje merge --output lakes.txt north.txt south.txt
 ";
 
 pub const CODE: &str = "\
@@ -94,8 +115,8 @@ wontirje histogram [--bars 40] [--each] [--svg FILE] LISTING
 
 Prints how many classes of a listing have each count, with bars; - is standard input. Classes without a
 count are in no bar. Where the highest count is above --bars, a bar may stand for several counts, and the
-last one for all above. A listing from before the number of classes was printed lacks (classes N) at the
-end of its first line: it is read too, and standard error says so.
+last one for all above. A listing is taken as wontirje count prints it, byte for byte; any other is refused,
+with the place and what to do, and so is one whose first line lacks (classes N), as it was printed before.
 
   --bars N     at most N bars, 2 to 200
   --each       print a line for each count that some class has, however many

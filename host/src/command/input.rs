@@ -1,6 +1,7 @@
-//! Reads a file or standard input whole into one buffer, which all files of a run share; and where a line of
-//! text ends.
+//! Reads a file or standard input whole into one buffer, which all files of a run share; what a file's first
+//! bytes say of it; and where a line of text ends.
 
+use crate::failure::Failure;
 use crate::progress::Progress;
 use std::ffi::OsStr;
 use std::fs::File;
@@ -11,14 +12,53 @@ use wontirje::MOST_BYTES;
 /// How much is read between two reports of progress.
 const PIECE: u64 = 1 << 20;
 
-/// Where an operand is read from.
-fn opened(operand: &OsStr) -> io::Result<(Box<dyn Read>, u64)> {
+/// How files begin that are no text of ours yet, whatever they hold, and what to do with them.
+const ENCODED: [(&[u8], &str); 5] = [
+    (b"\x1f\x8b", "it is compressed: give - for it, with gzip -dc FILE | before the command"),
+    (b"BZh", "it is compressed: give - for it, with bzip2 -dc FILE | before the command"),
+    (b"\xfd7zXZ", "it is compressed: give - for it, with xz -dc FILE | before the command"),
+    (b"\x28\xb5\x2f\xfd", "it is compressed: give - for it, with zstd -dc FILE | before the command"),
+    (b"\xef\xbb\xbf", "it begins with a byte order mark: take its three bytes out"),
+];
+
+/// What to do with a file that is compressed or begins with a byte order mark.
+pub fn advice_on_the_start(file: &[u8]) -> Option<&'static str> {
+    ENCODED.iter().find(|(start, _)| file.starts_with(start)).map(|(_, advice)| *advice)
+}
+
+/// Standard input is given at most once among these operands.
+pub fn check_once<'a>(operands: impl Iterator<Item = &'a OsStr>) -> Result<(), Failure> {
+    match operands.filter(|operand| *operand == "-").count() {
+        0 | 1 => Ok(()),
+        _ => Err(Failure::said("- is given twice; standard input can be read only once")),
+    }
+}
+
+/// Where an operand is read from, and its length where that is known, else 0.
+pub fn opened(operand: &OsStr) -> io::Result<(Box<dyn Read>, u64)> {
     if operand == "-" {
         return Ok((Box::new(io::stdin().lock()), 0));
     }
     let file = File::open(Path::new(operand))?;
     let length = file.metadata()?.len();
     Ok((Box::new(file), length))
+}
+
+/// Reads on, behind what the buffer holds, until it holds `most` bytes or there are no more.
+pub fn read_on(
+    file: &mut impl Read,
+    buffer: &mut Vec<u8>,
+    most: u64,
+    progress: &mut Progress,
+) -> io::Result<()> {
+    while (buffer.len() as u64) < most {
+        let piece = PIECE.min(most - buffer.len() as u64);
+        if file.by_ref().take(piece).read_to_end(buffer)? == 0 {
+            break;
+        }
+        progress.reading(buffer.len());
+    }
+    Ok(())
 }
 
 /// Puts the bytes of a file into the buffer in place of what it held. The library refuses more than
@@ -29,14 +69,7 @@ pub fn read(operand: &OsStr, buffer: &mut Vec<u8>, progress: &mut Progress) -> i
     let (mut file, length) = opened(operand)?;
     let most = MOST_BYTES as u64 + 1;
     buffer.reserve_exact(length.min(most) as usize);
-    while (buffer.len() as u64) < most {
-        let piece = PIECE.min(most - buffer.len() as u64);
-        if file.by_ref().take(piece).read_to_end(buffer)? == 0 {
-            break;
-        }
-        progress.reading(buffer.len());
-    }
-    Ok(())
+    read_on(&mut file, buffer, most, progress)
 }
 
 /// A line without its end, LF or CR LF.

@@ -1,158 +1,174 @@
-//! Reads a listing, or what the counter program prints: how many classes have each count. The counts must add
-//! up to the total, so that a listing that was cut off is found out. The number of classes in the survey line
-//! must be that of the settings; a listing from before document 02, K6 has none and is read too.
+//! Loads a listing into a table. Its first line proposes the settings, and the library judges the whole text
+//! under them: nothing else is read out of a listing here.
 
-use crate::failure::reason;
-use crate::input::bare;
-use std::collections::BTreeMap;
-use std::io::{BufRead, Read};
+use crate::arguments::number;
+use crate::failure::{reason, Failure};
+use crate::input::{opened, read_on};
+use crate::listing_fault::{self, ListingFault};
+use crate::progress::Progress;
+use crate::report;
+use crate::survey::Given;
+use crate::table::Table;
+use std::ffi::OsStr;
+use std::io::{self, Read};
 use wontirje::{Mirror, Settings};
 
-/// No line of a listing has more bytes.
-const LONGEST: u64 = 256;
+/// The first line must end within so many bytes: that of a listing has at most 83.
+pub const FIRST: u64 = 256;
 
-/// What is said of a survey line that no listing has.
-const DAMAGED: &str = "the survey line is damaged; \
-    a whole one is as in (survey (letters ACGT) (k 2) (mirror complement) (classes 10))";
-
-/// What a listing tells.
-pub struct Listing {
-    letters: Vec<u8>,
-    k: usize,
-    mirror: Mirror,
-    /// The number of classes of these settings.
-    pub classes: u64,
-    /// Whether the survey line has it.
-    pub has_classes: bool,
-    /// How many classes have each count, for the counts that occur.
-    pub spectrum: BTreeMap<u32, u64>,
-    /// The sum of the counts.
-    pub total: u64,
+/// What stands in the forms of a first line, none where there is no such form: what it proposes, whatever the
+/// line is besides.
+pub struct Forms {
+    pub letters: Option<String>,
+    pub k: Option<String>,
+    pub mirror: Option<String>,
+    pub classes: Option<String>,
 }
 
-/// Whether a text is a decimal number without sign and leading zeros, as the listing has them; of any length.
-fn is_number(text: &str) -> bool {
-    let digits = !text.is_empty() && text.bytes().all(|byte| byte.is_ascii_digit());
-    digits && (text == "0" || !text.starts_with('0'))
-}
-
-/// Its value; none where the text is no such number or does not fit.
-fn number<T: std::str::FromStr>(text: &str) -> Option<T> {
-    text.parse().ok().filter(|_| is_number(text))
-}
-
-/// What stands in a form from this start on, and what follows the form.
-fn form<'a>(text: &'a str, start: &str) -> Option<(&'a str, &'a str)> {
-    text.strip_prefix(start)?.split_once(')')
-}
-
-/// The survey line: letters, k, mirror and, last, the number of classes, none where it has no such form.
-fn survey(line: &str) -> Option<(Settings<'_>, Option<&str>)> {
-    let (letters, rest) = form(line, "(survey (letters ")?;
-    let (k, rest) = form(rest, " (k ")?;
-    let (mirror, rest) = form(rest, " (mirror ")?;
-    let (letters, k, mirror) = (letters.as_bytes(), number(k)?, Mirror::from_name(mirror)?);
-    let settings = Settings { letters, k, mirror };
-    match form(rest, " (classes ") {
-        Some((classes, ")")) if is_number(classes) => Some((settings, Some(classes))),
-        None if rest == ")" => Some((settings, None)),
+/// The value of the first form with this name in a line. A byte that is no text is no letter either, so that
+/// nothing is lost where another stands for it.
+fn value(line: &[u8], name: &str) -> Option<String> {
+    let start = format!("({name} ");
+    let at = line.windows(start.len()).position(|bytes| bytes == start.as_bytes())?;
+    let rest = &line[at + start.len()..];
+    match rest.iter().position(|byte| b"() \r".contains(byte)) {
+        Some(end @ 1..) if rest[end] == b')' => Some(String::from_utf8_lossy(&rest[..end]).into_owned()),
         _ => None,
     }
 }
 
-/// A listing of which only the first line is read, or what is wrong with that.
-fn begun(line: &str) -> Result<Listing, String> {
-    let (settings, told) = survey(line).ok_or(match line.starts_with("(survey ") {
-        true => DAMAGED,
-        false => "no survey line, so this is no listing",
-    })?;
-    let classes = settings.classes().map_err(|refusal| refusal.to_string())?;
-    if let Some(told) = told.filter(|told| *told != classes.to_string()) {
-        return Err(format!("(classes {told}), but these settings have {classes} classes"));
-    }
-    let Settings { letters, k, mirror } = settings;
-    let (letters, has_classes) = (letters.to_vec(), told.is_some());
-    Ok(Listing { letters, k, mirror, classes, has_classes, spectrum: BTreeMap::new(), total: 0 })
-}
-
-impl Listing {
-    pub fn settings(&self) -> Settings<'_> {
-        Settings { letters: &self.letters, k: self.k, mirror: self.mirror }
+impl Forms {
+    /// Those of a text's first line.
+    pub fn of(text: &[u8]) -> Forms {
+        let line = text.split(|&byte| byte == b'\n').next().unwrap_or_default();
+        let value = |name| value(line, name);
+        Forms { letters: value("letters"), k: value("k"), mirror: value("mirror"), classes: value("classes") }
     }
 
-    /// The classes with a count above 0.
-    pub fn listed(&self) -> u64 {
-        self.spectrum.values().sum()
-    }
-
-    /// Takes in the line of a class.
-    fn count(&mut self, line: &str) -> Option<()> {
-        let (word, count) = line.strip_prefix("(count ")?.strip_suffix(')')?.split_once(' ')?;
-        let count: u32 = number(count).filter(|&count| count > 0)?;
-        if word.len() != self.k || !word.bytes().all(|letter| self.letters.contains(&letter)) {
-            return None;
+    /// The settings that are proposed.
+    pub fn proposed(&self) -> Given<'_> {
+        Given {
+            letters: self.letters.as_deref().map(str::as_bytes),
+            k: self.k.as_deref().and_then(|k| number(OsStr::new(k))),
+            mirror: self.mirror.as_deref().and_then(Mirror::from_name),
         }
-        *self.spectrum.entry(count).or_default() += 1;
-        self.total += u64::from(count);
-        Some(())
     }
 }
 
-/// The total of a total line.
-fn total(line: &str) -> Option<u64> {
-    number(line.strip_prefix("(total ")?.strip_suffix(')')?)
+/// Whether a file begins as a listing does.
+pub fn looks_like_one(file: &[u8]) -> bool {
+    file.starts_with(b"(survey ") && Forms::of(file).classes.is_some()
 }
 
-/// Reads lines one by one into one buffer, so that a listing of any length takes little memory.
-struct Lines<R> {
-    from: R,
-    line: Vec<u8>,
-    number: usize,
+/// The most bytes that a listing of so many classes has: 83 for the survey line, 20 besides the word for each
+/// class, 28 for the total.
+fn most_bytes(settings: &Settings, classes: usize) -> u64 {
+    111 + (20 + settings.k as u64) * classes as u64
 }
 
-impl<R: BufRead> Lines<R> {
-    /// The next line without its end, none after the last. What is no text has none of a listing's shapes; what
-    /// begins as a survey line stays known as a damaged one.
-    fn next(&mut self) -> Result<Option<&str>, String> {
-        self.line.clear();
-        self.number += 1;
-        let read = self.from.by_ref().take(LONGEST).read_until(b'\n', &mut self.line);
-        let no_text = if self.line.starts_with(b"(survey ") { "(survey ?" } else { "?" };
-        match read.map_err(|error| format!("not read: {}", reason(&error)))? {
-            0 => Ok(None),
-            _ => Ok(Some(str::from_utf8(bare(&self.line)).unwrap_or(no_text))),
+fn unread(error: io::Error) -> String {
+    format!("not read: {}", reason(&error))
+}
+
+/// A listing that is being read, into a buffer that others were read into before.
+struct Text<'a> {
+    from: Box<dyn Read>,
+    length: u64,
+    bytes: &'a mut Vec<u8>,
+}
+
+impl Text<'_> {
+    /// A listing of which the first line is read.
+    fn begun<'a>(
+        operand: &OsStr,
+        bytes: &'a mut Vec<u8>,
+        progress: &mut Progress,
+    ) -> Result<Text<'a>, String> {
+        bytes.clear();
+        let (from, length) = opened(operand).map_err(unread)?;
+        let mut text = Text { from, length, bytes };
+        text.read_to(FIRST, progress).map_err(unread)?;
+        match text.bytes.len() as u64 == FIRST && !text.has_line_end(0) {
+            true => Err(listing_fault::of_the_first_line(text.bytes)),
+            false => Ok(text),
         }
     }
 
-    fn fault(&self, what: &str) -> String {
-        format!("line {}: {what}", self.number)
+    /// Reads on until there are so many bytes, or no more.
+    fn read_to(&mut self, most: u64, progress: &mut Progress) -> io::Result<()> {
+        let more = self.length.min(most).saturating_sub(self.bytes.len() as u64);
+        self.bytes.try_reserve_exact(more as usize)?;
+        read_on(&mut self.from, self.bytes, most, progress)
+    }
+
+    /// Whether a line that begins at this place has its end among the bytes that were read.
+    fn has_line_end(&self, place: u64) -> bool {
+        self.bytes.iter().skip(place as usize).any(|&byte| byte == b'\n')
+    }
+
+    /// Loads the listing into a table, whose settings may be those of a first listing with this name. No more
+    /// is read than a listing of these settings can have, and one byte. Of a longer text the library judges
+    /// that part: what it says of a whole line holds of the whole text.
+    fn load_into(
+        mut self,
+        table: &mut Table,
+        forms: &Forms,
+        first: Option<&str>,
+        progress: &mut Progress,
+    ) -> Result<(), String> {
+        let (settings, counts) = table.parts();
+        let most = most_bytes(&settings, counts.len()).max(FIRST);
+        self.read_to(most + 1, progress).map_err(unread)?;
+        progress.working("loading", self.bytes.len());
+        let whole = self.bytes.len() as u64 <= most;
+        match settings.load(counts, self.bytes) {
+            Ok(_) if whole => Ok(()),
+            Err(refusal) if whole || self.has_line_end(refusal.place) => {
+                Err(ListingFault { refusal, text: self.bytes, settings, forms, first }.to_string())
+            }
+            _ => Err(listing_fault::of_the_length(&settings, most)),
+        }
     }
 }
 
-/// Reads a listing to its end.
-pub fn read(from: impl BufRead) -> Result<Listing, String> {
-    let mut lines = Lines { from, line: Vec::new(), number: 0 };
-    let first = begun(lines.next()?.unwrap_or_default());
-    let mut listing = first.map_err(|what| lines.fault(&what))?;
-    let total = loop {
-        let Some(line) = lines.next()? else {
-            return Err(lines.fault("no total line: the listing is cut off"));
-        };
-        if let Some(total) = total(line) {
-            break total;
-        }
-        listing.count(line).ok_or_else(|| lines.fault("neither a count nor a total"))?;
-    };
-    if total != listing.total {
-        return Err(lines.fault(&format!("the total is {total}, the counts add up to {}", listing.total)));
-    }
-    // The counter program prints the file's numbers after the listing, and nothing after these.
-    let mut after = lines.next()?;
-    if after.is_some_and(|line| line.starts_with("(file (")) {
-        after = lines.next()?;
-    }
-    match after {
-        Some(_) => Err(lines.fault("nothing may follow the listing")),
-        None => Ok(listing),
-    }
+/// Does something with the listing that an operand names; where that fails, the failure names it too.
+fn named<T>(operand: &OsStr, work: impl FnOnce(&mut Progress) -> Result<T, String>) -> Result<T, Failure> {
+    let name = report::name(operand);
+    let mut progress = Progress::new(&name);
+    let done = work(&mut progress);
+    progress.done();
+    done.map_err(|reason| Failure::said(format!("{name}: {reason}")))
+}
+
+/// Loads a listing into a new table. Its settings are those given, and else the listing's own; where its
+/// first line proposes none, any will do, since the library then refuses the line.
+pub fn load(operand: &OsStr, given: Given, buffer: &mut Vec<u8>) -> Result<Table, Failure> {
+    named(operand, |progress| {
+        let text = Text::begun(operand, buffer, progress)?;
+        let forms = Forms::of(text.bytes);
+        let settings = given.or(forms.proposed().or(Settings::dna(1)));
+        let refused = |refusal| listing_fault::of_the_settings(&settings, refusal, &given);
+        let mut table = Table::new(&settings).map_err(refused)?;
+        text.load_into(&mut table, &forms, None, progress)?;
+        Ok(table)
+    })
+}
+
+/// Loads a further listing into a table that has the settings of the first one, which has this name.
+pub fn load_further(
+    operand: &OsStr,
+    first: &str,
+    table: &mut Table,
+    buffer: &mut Vec<u8>,
+) -> Result<(), Failure> {
+    named(operand, |progress| {
+        let text = Text::begun(operand, buffer, progress)?;
+        let forms = Forms::of(text.bytes);
+        text.load_into(table, &forms, Some(first), progress)
+    })
+}
+
+/// Says that a listing was loaded, and what it has.
+pub fn say_loaded(operand: &OsStr, table: &Table) {
+    report::line(format_args!("{}: loaded: {}", report::name(operand), table.summary()));
 }

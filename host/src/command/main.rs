@@ -1,5 +1,6 @@
-//! The command `wontirje`: counts k-mers of sequence files and tells codes, words, classes and spectra. It
-//! reads, lends buffers to the library, calls and prints; it decides nothing about counts.
+//! The command `wontirje`: counts k-mers of sequence files, adds listings up, and tells codes, words, classes
+//! and spectra. It reads, lends buffers to the library, calls and prints; it decides nothing about counts,
+//! but for `merge`, which adds up the counts of listings that the library loaded.
 
 mod arguments;
 mod bars;
@@ -11,11 +12,14 @@ mod help;
 mod histogram;
 mod input;
 mod listing;
+mod listing_fault;
+mod merge;
 mod output;
 mod progress;
 mod report;
 mod survey;
 mod svg;
+mod table;
 mod task;
 mod translate;
 
@@ -28,8 +32,9 @@ use std::process::ExitCode;
 /// The commands: name, help, options, and what runs it.
 type Command = (&'static str, &'static str, Options, fn(&Arguments) -> Outcome);
 
-const COMMANDS: [Command; 5] = [
+const COMMANDS: [Command; 6] = [
     ("count", help::COUNT, count::OPTIONS, count::run),
+    ("merge", help::MERGE, merge::OPTIONS, merge::run),
     ("code", help::CODE, survey::OPTIONS, translate::codes),
     ("word", help::WORD, survey::OPTIONS, translate::words),
     ("classes", help::CLASSES, survey::OPTIONS, classes::run),

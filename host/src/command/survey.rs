@@ -9,23 +9,74 @@ use wontirje::{Mirror, Refusal, Settings};
 
 pub const OPTIONS: Options = &[("letters", Takes::Value), ("k", Takes::Value), ("mirror", Takes::Value)];
 
-/// The settings as options give them. The library judges them, but for the mirror's name.
-pub fn settings(arguments: &Arguments) -> Result<Settings<'_>, Failure> {
-    let letters = arguments.value("letters").unwrap_or(OsStr::new("ACGT")).as_bytes();
-    let k = arguments.number("k", 11).map_err(Failure::Said)?;
-    let name = arguments.value("mirror").unwrap_or(OsStr::new("complement"));
+/// The settings that are given, each or none.
+#[derive(Clone, Copy, Default)]
+pub struct Given<'a> {
+    pub letters: Option<&'a [u8]>,
+    pub k: Option<usize>,
+    pub mirror: Option<Mirror>,
+}
+
+impl<'a> Given<'a> {
+    /// The settings, with these for what is not given.
+    pub fn or(&self, others: Settings<'a>) -> Settings<'a> {
+        Settings {
+            letters: self.letters.unwrap_or(others.letters),
+            k: self.k.unwrap_or(others.k),
+            mirror: self.mirror.unwrap_or(others.mirror),
+        }
+    }
+
+    /// The options that are given, by name.
+    pub fn options(&self) -> Vec<&'static str> {
+        let given = [self.letters.is_some(), self.k.is_some(), self.mirror.is_some()];
+        let names = ["--letters", "--k", "--mirror"].into_iter().zip(given);
+        names.filter(|(_, given)| *given).map(|(name, _)| name).collect()
+    }
+}
+
+/// The settings that options give. The library judges them, but for the mirror's name.
+pub fn given(arguments: &Arguments) -> Result<Given<'_>, Failure> {
+    let letters = arguments.value("letters").map(OsStr::as_bytes);
+    let k = arguments.number("k").map_err(Failure::Said)?;
+    let Some(name) = arguments.value("mirror") else { return Ok(Given { letters, k, mirror: None }) };
     match name.to_str().and_then(Mirror::from_name) {
-        Some(mirror) => Ok(Settings { letters, k, mirror }),
         None => {
             let refusal = Refusal { number: 2, place: 0 };
             Err(Failure::said(format!("{refusal}: --mirror {}", shown(name))))
         }
+        mirror => Ok(Given { letters, k, mirror }),
     }
 }
 
+/// The settings where nothing but the options tells them.
+pub fn settings(arguments: &Arguments) -> Result<Settings<'_>, Failure> {
+    Ok(given(arguments)?.or(by_default()))
+}
+
+/// The settings where no option gives others.
+pub fn by_default() -> Settings<'static> {
+    Settings::dna(11)
+}
+
+/// Settings in words.
+pub fn described(settings: &Settings) -> String {
+    let Settings { letters, k, mirror } = settings;
+    format!("letters {}, k {k}, mirror {}", shown(OsStr::from_bytes(letters)), mirror.name())
+}
+
+/// What is wrong with settings that the library refuses.
+pub fn refusal(settings: &Settings, refusal: Refusal) -> String {
+    let what = match refusal.number {
+        6 => "more than 16,777,216 classes, too many for a table",
+        _ => refusal.what(),
+    };
+    format!("refused {}: {what} ({})", refusal.number, described(settings))
+}
+
 /// Settings that the library refuses, with what to do.
-pub fn refused(settings: &Settings, refusal: Refusal) -> Failure {
-    let advice = match refusal.number {
+pub fn refused(settings: &Settings, refused: Refusal) -> Failure {
+    let advice = match refused.number {
         1 => "give --letters in capitals, each once, as in --letters ACGT",
         4 => "give a k from 1 to 31 for 4 letters (62 for 2, 39 for 3, 26 for 5, 15 for 16)",
         6 => {
@@ -34,11 +85,5 @@ pub fn refused(settings: &Settings, refusal: Refusal) -> Failure {
         }
         _ => "see wontirje --help",
     };
-    let what = match refusal.number {
-        6 => "more than 16,777,216 classes, too many for a table",
-        _ => refusal.what(),
-    };
-    let Settings { letters, k, mirror } = settings;
-    let given = format!("letters {}, k {k}, mirror {}", shown(OsStr::from_bytes(letters)), mirror.name());
-    Failure::said(format!("refused {}: {what} ({given}); {advice}", refusal.number))
+    Failure::said(format!("{}; {advice}", refusal(settings, refused)))
 }

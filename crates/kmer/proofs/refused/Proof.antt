@@ -1,4 +1,4 @@
--- `kmer::refused` meets its contract: the number is at most 17, so the sum fits.
+-- `kmer::refused` meets its contract: the number is at most 22, so the sum fits.
 use native.Mathlib.Omega.{arith}
 use Rattle.kmer.proofs.Refusals.{number-small}
 use borrow.Author.Needs.{needs}

@@ -1,4 +1,4 @@
--- `kmer::refused_at` meets its contract: P is below 2^32 and the number at most 17, so the sum fits.
+-- `kmer::refused_at` meets its contract: P is below 2^32 and the number at most 22, so the sum fits.
 use native.Mathlib.Omega.{arith}
 use Rattle.kmer.proofs.Refusals.{number-small}
 use borrow.Author.Needs.{needs}

@@ -1,5 +1,5 @@
--- `settings::number_of` meets its contract. The first 18 needs `search` finds; then, one line a variant, `groundOf` computes to the number of its arm. By hand, since
--- the prover's own search computes no definition by cases on an enum of 18 variants.
+-- `settings::number_of` meets its contract. The first 21 needs `search` finds; then, one line a variant, `groundOf` computes to the number of its arm. By hand, since
+-- the prover's own search computes no definition by cases on an enum of 18 variants or more.
 use borrow.Author.Needs.{needs}
 use Rattle.settings.proofs.number_of.Statement.{statement}
 use Rattle.settings.proofs.number_of.Tie as tie
@@ -8,6 +8,9 @@ pub number-of-spec : {M : Type 1} → statement M
 number-of-spec =
     tie.close
     (tie.spec
+    (λ c. search needs)
+    (λ c. search needs)
+    (λ c. search needs)
     (λ c. search needs)
     (λ c. search needs)
     (λ c. search needs)
@@ -43,4 +46,7 @@ number-of-spec =
     (λ c. rw (c .enum-told15 .given .1))
     (λ c. rw (c .enum-told16 .given .1))
     (λ c. rw (c .enum-told17 .given .1))
-    (λ c. rw (c .enum-told18 .given .1)))
+    (λ c. rw (c .enum-told18 .given .1))
+    (λ c. rw (c .enum-told19 .given .1))
+    (λ c. rw (c .enum-told20 .given .1))
+    (λ c. rw (c .enum-told21 .given .1)))

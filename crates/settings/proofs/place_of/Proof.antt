@@ -1,5 +1,5 @@
--- `settings::place_of` meets its contract. The first 18 needs `search` finds; then, one line a variant, `groundOf` computes to the P of its arm. By hand, since
--- the prover's own search computes no definition by cases on an enum of 18 variants.
+-- `settings::place_of` meets its contract. The first 21 needs `search` finds; then, one line a variant, `groundOf` computes to the P of its arm. By hand, since
+-- the prover's own search computes no definition by cases on an enum of 18 variants or more.
 use borrow.Author.Needs.{needs}
 use Rattle.settings.proofs.place_of.Statement.{statement}
 use Rattle.settings.proofs.place_of.Tie as tie
@@ -8,6 +8,9 @@ pub place-of-spec : {M : Type 1} → statement M
 place-of-spec =
     tie.close
     (tie.spec
+    (λ c. search needs)
+    (λ c. search needs)
+    (λ c. search needs)
     (λ c. search needs)
     (λ c. search needs)
     (λ c. search needs)
@@ -43,4 +46,7 @@ place-of-spec =
     (λ c. rw (c .before .f6 .given .1))
     (λ c. rw (c .before .f7 .given .1))
     (λ c. rw (c .enum-told10 .given .1))
-    (λ c. rw (c .enum-told11 .given .1)))
+    (λ c. rw (c .enum-told11 .given .1))
+    (λ c. rw (c .before .f8 .given .1))
+    (λ c. rw (c .before .f9 .given .1))
+    (λ c. rw (c .before .f10 .given .1)))

@@ -2,7 +2,7 @@
 use mathlib.Core.Path.{sym, _∙_}
 use Rattle.files.specs.File.{fileOf}
 use denote.Ref.{now}
-use Rattle.counting.proofs.CountLoops.{all-in}
+use Rattle.counts.proofs.CountLoops.{all-in}
 use Rattle.table.specs.Needs.{codesOf}
 use Rattle.table.proofs.CallGrounds.{counts-full, counts-free, counts-grown}
 use borrow.Author.Needs.{needs}

@@ -5,7 +5,7 @@ use Prim.Native.Nat.{ℕ, min}
 use native.Mathlib.Omega.{arith}
 use lib.ListN.{length}
 use denote.Ref.{now}
-use Rattle.counting.specs.Needs.{Changed}
+use Rattle.counts.specs.Needs.{Changed}
 use Rattle.counting.proofs.BatchLaws.{codes-first, first-length, first-below}
 use borrow.Author.Needs.{needs}
 use Rattle.counting.proofs.batches.change_batch.Statement.{statement}

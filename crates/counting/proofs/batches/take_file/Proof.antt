@@ -2,8 +2,8 @@
 -- counted again, for which there is room, since it was there.
 use mathlib.Core.Path.{sym, _∙_}
 use native.Mathlib.Omega.{arith}
-use Rattle.counting.proofs.CountLoops.{in-not-out, all-in}
-use Rattle.counting.proofs.Taking.{of-all, restore-fits, took-all, lacking-restored}
+use Rattle.counts.proofs.CountLoops.{in-not-out, all-in}
+use Rattle.counts.proofs.Taking.{of-all, restore-fits, took-all, lacking-restored}
 use borrow.Author.Needs.{needs}
 use Rattle.counting.proofs.batches.take_file.Statement.{statement}
 use Rattle.counting.proofs.batches.take_file.Tie as tie

@@ -1,0 +1,173 @@
+-- The survey line's shape: the lines that `isSurveyLine` finds are just those of the grammar with the number of classes last (`survey-shaped`), and the survey
+-- line that we print is one (`survey-shape`). From survey's laws of three forms in a row and of the line that we print.
+use mathlib.Core.Path.{_≡_, refl, sym, _∙_}
+use mathlib.Core.Bool.{true, false, _&&_, and-eq-true-iff, false≢true}
+use mathlib.Core.Logic.{_↔_}
+use mathlib.Core.Option.{none}
+use mathlib.Core.List.{List, [], _∷_, _++_, append-assoc, append-nil}
+use Prim.Native.Nat.{ℕ, zero, suc, _+_}
+use lib.ListN.{take, drop}
+use lib.Dec.{eqb}
+use Rattle.laws.specs.Text.{bytes}
+use Rattle.laws.proofs.Tests.{by-test}
+use Rattle.settings.specs.Settings.{isIn, settingsGround, settingsOf}
+use Rattle.texts.specs.Decimals.{decimal}
+use Rattle.survey.specs.declared.Name.the-variants.{Letters, K, Mirror}
+use Rattle.survey.specs.declared.Form.{Form}
+use Rattle.survey.specs.declared.Form.the-variants.{Of, NoForm}
+use Rattle.survey.specs.Forms.{form, settingsForms, unclosed, lineOf}
+use Rattle.survey.specs.Line.{mirrorName, printedForms, surveyLine}
+use Rattle.survey.specs.Grammar.{LettersText, KText, MirrorText}
+use Rattle.survey.specs.Reading.{startsWith, formAt, nextForm}
+use Rattle.survey.proofs.TextLaws.{starts-at}
+use Rattle.survey.proofs.FormLaws.{opening, flat, flat-forms, flat-of, FormRead, FormGood, form-good}
+use Rattle.survey.proofs.LineThere.{row-there}
+use Rattle.survey.proofs.Written.{values-good, printed-line}
+use Rattle.tally.proofs.WordLists.{same-word, word-same}
+use Rattle.loading.specs.Shapes.{sameText, inner, isNumber, isClassesEnd, formPosition, formEnd, classesLast, isSurveyLine}
+use Rattle.loading.specs.Claims.{SurveyShape}
+use Rattle.loading.proofs.Lines.{Line, past}
+use Rattle.loading.proofs.Numbers.{decimal-is-number, decimal-no-lf}
+use Rattle.loading.proofs.Words.{letters-no-lf}
+use Rattle.loading.proofs.Shapes.{inner-is}
+
+-- ---- the end with the number of classes
+
+abbrev classesShape : (digits : List ℕ) → List ℕ
+classesShape digits = bytes ") (classes " ++ (digits ++ bytes "))\n")
+
+-- The digits of a number make such an end, and such an end has them.
+classes-end : (digits : List ℕ) → isNumber digits ≡ true → isClassesEnd (classesShape digits) ≡ true
+unfolding isClassesEnd
+classes-end digits n = rw (inner-is (bytes ") (classes ") digits (bytes "))\n") 11 3 refl refl, same-word (classesShape digits), n)
+
+classes-read : (u : List ℕ) → isClassesEnd u ≡ true → (u ≡ classesShape (inner 11 3 u)) × (isNumber (inner 11 3 u) ≡ true)
+unfolding isClassesEnd
+classes-read u e =
+    let h = and-eq-true-iff (sameText u (classesShape (inner 11 3 u))) (isNumber (inner 11 3 u)) .0 e in
+    (word-same u (classesShape (inner 11 3 u)) (h .0), h .1)
+
+-- ---- from the grammar
+
+-- The three forms, and then the end with a number.
+survey-there : (l digits : List ℕ) {letters kText mirrorText : List ℕ} {k mirror : ℕ} → LettersText letters → KText kText k → MirrorText mirrorText mirror
+    → isNumber digits ≡ true
+    → l ≡ unclosed (settingsForms letters kText mirrorText) ++ (bytes " (classes " ++ (digits ++ bytes "))\n"))
+    → isSurveyLine l ≡ true
+unfolding isSurveyLine classesLast formPosition formEnd startsWith
+survey-there l digits good-letters good-k good-mirror n e =
+    let r = row-there l Letters K Mirror (good-letters, refl) good-k good-mirror e in
+    let started : startsWith (bytes "(survey ") l ≡ true = rw e in
+    rw (started, r .is-first, r .is-second, r .is-third, r .follows) (classes-end digits n)
+
+-- The line of the grammar, part by part.
+line-parts : (x y z digits : List ℕ)
+    → lineOf (settingsForms x y z ++ (form (bytes "classes") digits ∷ [])) ++ bytes "\n"
+    ≡ unclosed (settingsForms x y z) ++ (bytes " (classes " ++ (digits ++ bytes "))\n"))
+line-parts x y z digits = simp (append-assoc, append-nil)
+
+shape-found : (l : List ℕ) → SurveyShape l → isSurveyLine l ≡ true
+shape-found l S =
+    survey-there l (S .digits) (S .letters-good) (S .k-good) (S .mirror-good) (S .number)
+    (S .line ∙ line-parts (S .letters) (S .kText) (S .mirrorText) (S .digits))
+
+-- ---- to the grammar
+
+-- Form by form, as they are read.
+module _ (l : List ℕ) (opened : startsWith (bytes "(survey ") l ≡ true) where
+  third-read : {f n v g m w : ℕ} → FormRead l 8 Letters f n v → startsWith (bytes ") ") (drop (f + n) l) ≡ true → FormRead l (f + n + 2) K g m w
+      → startsWith (bytes ") ") (drop (g + m) l) ≡ true → (c : Form) → FormGood l (g + m + 2) c
+      → (eqb (formPosition c) 3 && isClassesEnd (drop (formEnd c) l)) ≡ true
+      → SurveyShape l
+  unfolding formPosition formEnd
+  third-read A p B q NoForm C e = absurd (false≢true e)
+  third-read A p B q (Of Letters h o x) C e = absurd (false≢true e)
+  third-read A p B q (Of K h o x) C e = absurd (false≢true e)
+  third-read {f} {n} {v} {g} {m} {w} A p B q (Of Mirror h o x) C e =
+      let P = starts-at _ l (f + n) p in
+      let Q = starts-at _ l (g + m) q in
+      let (end, number) = classes-read (drop (h + o) l) e in
+      let digits = inner 11 3 (drop (h + o) l) in
+      let after = bytes " (classes " ++ (digits ++ bytes "))\n") in
+      let whole : l ≡ flat (opening Letters) (take n (drop f l)) (opening K) (take m (drop g l)) (opening Mirror) (take o (drop h l)) after =
+      flat-of (opening Letters) (take n (drop f l)) (opening K) (take m (drop g l)) (opening Mirror) (take o (drop h l)) after
+      (starts-at _ l 0 opened) (A .text) P (B .text) Q (C .text) end in
+      record {
+        letters = take n (drop f l);
+        kText = take m (drop g l);
+        mirrorText = take o (drop h l);
+        digits = digits;
+        k = w;
+        mirror = x;
+        letters-good = A .means _ P .0;
+        k-good = B .means _ Q;
+        mirror-good = C .means _ end;
+        number = number;
+        line = whole
+            ∙ flat-forms (opening Letters) (take n (drop f l)) (opening K) (take m (drop g l)) (opening Mirror) (take o (drop h l)) after
+            ∙ sym (line-parts (take n (drop f l)) (take m (drop g l)) (take o (drop h l)) digits);
+      }
+
+  second-read : {f n v : ℕ} → FormRead l 8 Letters f n v → startsWith (bytes ") ") (drop (f + n) l) ≡ true → (b : Form) → FormGood l (f + n + 2) b
+      → (eqb (formPosition b) 2 && (eqb (formPosition (nextForm l b)) 3 && isClassesEnd (drop (formEnd (nextForm l b)) l))) ≡ true
+      → SurveyShape l
+  unfolding formPosition nextForm
+  second-read A p NoForm B e = absurd (false≢true e)
+  second-read A p (Of Letters g m w) B e = absurd (false≢true e)
+  second-read A p (Of Mirror g m w) B e = absurd (false≢true e)
+  second-read A p (Of K g m w) B e =
+      by-test (λ (c : Form). (eqb (formPosition c) 3 && isClassesEnd (drop (formEnd c) l)) ≡ true → SurveyShape l)
+      (startsWith (bytes ") ") (drop (g + m) l))
+      (λ q. third-read A p B q (formAt l (g + m + 2)) (form-good l (g + m + 2))) (λ q x. absurd (false≢true x)) e
+
+  first-read : (a : Form) → FormGood l 8 a → classesLast l a (nextForm l a) (nextForm l (nextForm l a)) ≡ true → SurveyShape l
+  unfolding classesLast formPosition nextForm
+  first-read NoForm A e = absurd (false≢true e)
+  first-read (Of K f n v) A e = absurd (false≢true e)
+  first-read (Of Mirror f n v) A e = absurd (false≢true e)
+  first-read (Of Letters f n v) A e =
+      by-test
+      (λ (b : Form). (eqb (formPosition b) 2 && (eqb (formPosition (nextForm l b)) 3 && isClassesEnd (drop (formEnd (nextForm l b)) l))) ≡ true → SurveyShape l)
+      (startsWith (bytes ") ") (drop (f + n) l))
+      (λ p. second-read A p (formAt l (f + n + 2)) (form-good l (f + n + 2))) (λ p x. absurd (false≢true x)) e
+
+shape-read : (l : List ℕ) → isSurveyLine l ≡ true → SurveyShape l
+unfolding isSurveyLine
+shape-read l e =
+    let a = formAt l 8 in
+    let h = and-eq-true-iff (startsWith (bytes "(survey ") l) (classesLast l a (nextForm l a) (nextForm l (nextForm l a))) .0 e in
+    first-read l (h .0) a (form-good l 8) (h .1)
+
+-- "the survey line is of the form the program reads, classes last": the test finds just the lines of that grammar.
+pub survey-shaped : (l : List ℕ) → (isSurveyLine l ≡ true) ↔ SurveyShape l
+survey-shaped l = (shape-read l, shape-found l)
+
+-- ---- the survey line that we print
+
+mirror-no-lf : (m : ℕ) → isIn 10 (mirrorName m) ≡ false
+unfolding isIn
+mirror-no-lf zero = refl
+mirror-no-lf (suc m) = refl
+
+module _ (letters : List ℕ) (k m : ℕ) (good : settingsGround letters k m ≡ none) where
+  pub survey-shape : isSurveyLine (surveyLine letters k m) ≡ true
+  survey-shape =
+      let P = values-good letters k m good in
+      survey-there (surveyLine letters k m) (decimal (settingsOf letters k m .classes)) (P .letters-good) (P .k-good) (P .mirror-good) (decimal-is-number (settingsOf letters k m .classes) .0)
+      (printed-line letters k m)
+
+  pub survey-one-line : Line (surveyLine letters k m)
+  unfolding surveyLine isIn
+  survey-one-line =
+      record {
+        front = lineOf (printedForms letters k m ++ (form (bytes "classes") (decimal (settingsOf letters k m .classes)) ∷ []));
+        is = refl;
+        no-lf =
+            simp (append-assoc, append-nil)
+            (rw (
+              past 10 letters _ (letters-no-lf letters k m good),
+              past 10 (decimal k) _ (decimal-no-lf k),
+              past 10 (mirrorName m) _ (mirror-no-lf m),
+              past 10 (decimal (settingsOf letters k m .classes)) _ (decimal-no-lf (settingsOf letters k m .classes)),
+            ));
+      }

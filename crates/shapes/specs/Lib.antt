@@ -1,0 +1,2 @@
+-- What functions ask of each other.
+pub mod Needs
