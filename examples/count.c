@@ -1,7 +1,7 @@
 /*
  * Counts the 2-mers of small sequence files under reverse complement, as the lab would: clear a table, add the
- * files, withdraw one that was mislabelled, print the listing, load it into another table. The first two are a FASTA
- * and a FASTQ file; the next two, one of each kind, are damaged and are refused whole.
+ * files, withdraw one that was mislabelled, print the listing, load it into another table. The first two files
+ * are a FASTA and a FASTQ file; the next two, one of each kind, are damaged and are refused whole.
  */
 #include <stdio.h>
 #include <stdlib.h>

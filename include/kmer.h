@@ -20,15 +20,15 @@
  *   mirror                KMER_REVERSAL or KMER_COMPLEMENT. Under the latter the letter of rank i pairs with
  *                         that of rank s - 1 - i, the middle letter of an odd s with itself.
  *
- * Every pointer comes with its length in elements of its type (bytes, 32-bit counts or 64-bit numbers),
- * may be NULL where that length is 0, and must otherwise be aligned for its type and point to as many
- * elements. Nothing need end in a 0 byte. A buffer that is written must not overlap any other lent buffer.
- * Whatever the numbers and bytes are, a call returns and touches no other memory; it never writes to
- * letters, word, sequence or file, and only kmer_clear, kmer_add, kmer_withdraw and kmer_load write to a table. The
- * calls keep no state, so several threads may call at once; they may share what is only read, and what a call
- * writes must be that call's alone. While a call runs nobody else may write to memory that is lent to it, nor read what
- * it writes. When a refused call returns, all lent memory holds what it held before; kmer_withdraw alone may
- * have written meanwhile, to the table.
+ * Every pointer comes with its length in elements of its type (bytes, 32-bit counts or 64-bit numbers), may be
+ * NULL where that length is 0, and must otherwise be aligned for its type and point to as many elements.
+ * Nothing need end in a 0 byte. A buffer that is written must not overlap any other lent buffer. Whatever the
+ * numbers and bytes are, a call returns and touches no other memory; it never writes to letters, word, sequence
+ * or file, nor to the text of kmer_load, and only kmer_clear, kmer_add, kmer_withdraw and kmer_load write to a
+ * table. The calls keep no state, so several threads may call at once; they may share what is only read, and
+ * what a call writes must be that call's alone. While a call runs nobody else may write to memory that is lent
+ * to it, nor read what it writes. When a refused call returns, all lent memory holds what it held before;
+ * kmer_withdraw alone may have written meanwhile, to the table.
  *
  * An answer below 2^63 is a result. An answer from 2^63 on is a refusal: see kmer_is_refused below.
  * Of several grounds for refusing that apply, the one with the lowest number is returned, save that those of
@@ -173,8 +173,8 @@ uint64_t kmer_clear(const uint8_t *letters, size_t letters_len, size_t k, uint64
 
 /*
  * Adds a sequence file to a table: 1 at the place of its class for each window of k letters.
- *   table, table_len    a table that was cleared, and perhaps added to and withdrawn from, with the same settings.
- *                       Files of both kinds may be added to one table.
+ *   table, table_len    a table that was cleared or loaded, and perhaps added to and withdrawn from, with the same
+ *                       settings. Files of both kinds may be added to one table.
  *   fastq               the file's kind, which the call does not guess: KMER_FASTA (0) or KMER_FASTQ; any
  *                       number but 0 is taken for KMER_FASTQ. A FASTQ file that is not empty begins with @,
  *                       and no FASTA file that is taken in does.
@@ -216,8 +216,8 @@ uint64_t kmer_withdraw(const uint8_t *letters, size_t letters_len, size_t k, uin
 /*
  * Lists a table: the survey line with the number of classes as its last form, a line for each class with a
  * count above 0 by rising code, the total.
- *   table, table_len  a table that was cleared, and perhaps added to and withdrawn from, with the same settings.
- *                     Only read.
+ *   table, table_len  a table that was cleared or loaded, and perhaps added to and withdrawn from, with the same
+ *                     settings. Only read.
  *   text, text_len    the buffer for the listing and its length in bytes. Its first bytes receive the
  *                     listing, each line ending in LF and no end byte after the last; later bytes keep
  *                     what they held.
@@ -243,7 +243,7 @@ uint64_t kmer_listing(const uint8_t *letters, size_t letters_len, size_t k, uint
  * ground that applies: 1, 2, 4, 6 (of the classes), 7, then that of the first line at fault, the lowest of 20, 21,
  * 22 that applies to it, where P is the length needed for 7, the offset of the line for 20 to 22 (for a missing
  * line text_len), else 0. An offset above KMER_MOST_P, which no text in a machine's memory has today, is told as
- * KMER_MOST_P. The text is read to its end before the table is touched: a refused call writes nothing to table.
+ * KMER_MOST_P. The whole text is judged before the table is touched: a refused call writes nothing to table.
  */
 uint64_t kmer_load(const uint8_t *letters, size_t letters_len, size_t k, uint64_t mirror,
                    uint32_t *table, size_t table_len, const uint8_t *text, size_t text_len);

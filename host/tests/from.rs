@@ -34,7 +34,7 @@ impl Place {
     }
 
     fn count_with(&self, arguments: &[impl AsRef<OsStr>], input: &[u8]) -> Run {
-        run_as(Command::new(WONTIRJE).current_dir(&self.0).arg("count").args(arguments), input)
+        self.0.run(&["count"], arguments, input)
     }
 
     /// What a count leaves: status, listing and the lines on standard error.
@@ -119,14 +119,18 @@ fn year_after_year() {
     for name in &names {
         place.0.file(name, &drawn_of_either_kind(&mut random, &settings, 3000).1);
     }
-    place.count_with(&["--k", "6", "--output", "0.txt", &names[0]], b"");
+    let mut statuses = vec![place.count_with(&["--k", "6", "--output", "0.txt", &names[0]], b"").status];
     for (year, name) in names.iter().enumerate().skip(1) {
         let (from, to) = (format!("{}.txt", year - 1), format!("{year}.txt"));
-        place.count_with(&["--from", &from, "--output", &to, name], b"");
+        statuses.push(place.count_with(&["--from", &from, "--output", &to, name], b"").status);
     }
     let all: Vec<&str> = ["--k", "6"].into_iter().chain(names.iter().map(|name| &name[..])).collect();
     let at_once = place.count_with(&all, b"");
     assert!(at_once.out.len() > 10_000, "{}", at_once.err);
+    // Each year's status is that of its file.
+    let told = at_once.complaints().into_iter().map(|line| i32::from(line.contains(": refused ")));
+    assert_eq!(statuses, told.collect::<Vec<_>>(), "{}", at_once.err);
+    assert!(statuses.contains(&0) && statuses.contains(&1), "{statuses:?}");
     assert!(fs::read(place.0.path("7.txt")).expect("the last listing") == at_once.out, "the listings differ");
 }
 
@@ -195,6 +199,43 @@ fn options_that_no_listing_has() {
     ] {
         let arguments = [given, &["--from", "last.txt", "pond.fa"]].concat();
         place.count_with(&arguments, b"").check_failed(&reason);
+    }
+}
+
+/// The listing's own settings are none: to leave an option out does not help. Where its first line is no
+/// survey line, that is told, whatever the options are.
+#[test]
+fn listings_that_no_option_mends() {
+    let place = Place::new();
+    place.0.file("k13.txt", LISTING.replace("(k 2)", "(k 13)").as_bytes());
+    place.0.file("lower.txt", LISTING.replace("ACGT", "acgt").as_bytes());
+    place.0.file("empty.txt", b"");
+    place.0.file("lake.fa", EXAMPLE);
+    let again = "no listing has these settings: copy it again, or count its files again";
+    let many = "more than 16,777,216 classes, too many for a table (letters ACGT, k 13, mirror complement)";
+    let k13 = format!("k13.txt: refused 6: {many}; {again}");
+    let differs = "k13.txt: refused 21 at offset 0 (line 1): the survey line has k 13, the command line \
+        --k 2; no table has the listing's own: count its files again";
+    let capitals = "the letters are not 2 to 16 different capitals";
+    let lower = |k: usize| {
+        format!("lower.txt: refused 1: {capitals} (letters acgt, k {k}, mirror complement); {again}")
+    };
+    let empty = "empty.txt: refused 20 at offset 0 (line 1): the survey line is missing; the listing is \
+        empty: copy it again, or count its files again";
+    let none = "lake.fa: refused 20 at offset 0 (line 1): no survey line, so this is no listing; give a \
+        listing as wontirje count prints it";
+    for (arguments, reason) in [
+        (&["--letters", "ACGT", "--from", "k13.txt"][..], &k13[..]),
+        (&["--letters", "ACGT", "--mirror", "complement", "--from", "k13.txt"], &k13),
+        (&["--k", "2", "--from", "k13.txt"], differs),
+        (&["--k", "2", "--from", "lower.txt"], &lower(2)),
+        (&["--k", "13", "--from", "lower.txt"], &lower(13)),
+        (&["--k", "13", "--from", "empty.txt"], empty),
+        (&["--letters", "acgt", "--from", "empty.txt"], empty),
+        (&["--k", "0", "--from", "lake.fa"], none),
+        (&["--k", "2", "--from", "lake.fa"], none),
+    ] {
+        place.count_with(&[arguments, &["pond.fa"]].concat(), b"").check_failed(reason);
     }
 }
 
@@ -291,11 +332,22 @@ fn the_old_listing_is_kept() {
 fn listings_given_as_sequence_files() {
     let place = Place::new();
     let byte = "refused 10 at offset 0 (line 1, column 1): '(': a byte of a sequence line is no letter";
-    let add =
-        format!("last.txt: {byte}; it looks like a listing: put --from before it to start from its counts");
+    let advice = "it looks like a listing: give it with --from, or add several up with wontirje merge first";
+    let add = format!("last.txt: {byte}; {advice}");
     let pond = format!("pond.fa: {POND_SAID}");
     let ponds = EMPTY.replace("(total 0)", "(count AA 3)\n(total 3)");
     place.check(&["--k", "2", "last.txt", "pond.fa"], 1, &ponds, &[&add, &pond]);
+    place.check(&["--from", "last.txt", "last.txt", "pond.fa"], 1, BOTH, &[LOADED, &add, &pond]);
+    // Older ones have no number of classes.
+    for (name, listing) in [("older.txt", LISTING), ("none.txt", EMPTY)] {
+        place.0.file(name, listing.replace(" (classes 10)", "").as_bytes());
+        place.check(
+            &["--k", "2", name, "pond.fa"],
+            1,
+            &ponds,
+            &[&format!("{name}: {byte}; {advice}"), &pond],
+        );
+    }
     let withdraw = format!(
         "last.txt: not withdrawn: {byte}; it looks like a listing: only sequence files are withdrawn"
     );

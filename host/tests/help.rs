@@ -81,8 +81,10 @@ fn the_help_says_how_to_go_on_from_a_listing() {
         "{help}"
     );
     for rule in [
+        "Clears a table, or loads a listing into it (--from), adds each file in order,",
         "What is not given of letters, k and mirror is the listing's; what is given must be the same.",
         "A listing that is refused or not read ends the run.",
+        "It does not remember its files: one that is in it already is counted again.",
         "With --withdraw there need be no file to count",
     ] {
         assert!(told("count").contains(rule), "{rule}: {}", told("count"));
@@ -108,7 +110,7 @@ fn the_help_says_that_a_listing_has_the_number_of_classes() {
     assert!(told("count").contains(rule), "{}", told("count"));
     let rule =
         "A listing is taken as wontirje count prints it, byte for byte; any other is refused, with the \
-        place and what to do, and so is one whose first line lacks (classes N), as it was printed before.";
+        place and what to do, and so is an older one, whose first line lacks (classes N).";
     assert!(told("histogram").contains(rule), "{}", told("histogram"));
 }
 

@@ -8,7 +8,7 @@ use std::fs;
 use wontirje::Settings;
 
 const SURVEY: &str = "(survey (letters ACGT) (k 2) (mirror complement) (classes 10))\n";
-const EXAMPLE: &str = "(count CG 1)\n(count GC 1)\n(count AG 2)\n(count AC 4)\n(total 8)\n";
+const COUNTS: &str = "(count CG 1)\n(count GC 1)\n(count AG 2)\n(count AC 4)\n(total 8)\n";
 
 /// A listing of words of DNA in which the first classes have these counts, for the smallest k that has so
 /// many.
@@ -27,7 +27,7 @@ fn bars_by_hand() {
         2        1  █████████████████████████\n    3        0\n    \
         4        1  █████████████████████████\n";
     let folder = Folder::new();
-    let whole = format!("{SURVEY}{EXAMPLE}");
+    let whole = format!("{SURVEY}{COUNTS}");
     let file = folder.file("counts.txt", whole.as_bytes());
     let by_name = run(&["histogram", file.to_str().expect("a name")]);
     assert_eq!((by_name.status, by_name.text(), &by_name.err[..]), (0, right, ""));

@@ -10,7 +10,7 @@ use kmer_tests::draw_listings::{damaged_listing, drawn_listing};
 use kmer_tests::second_loader::loading;
 use kmer_tests::tables::some_settings;
 use run::{lent, options, run, run_as, whole_listing, Folder, Run, EXAMPLE, WONTIRJE};
-use std::ffi::{OsStr, OsString};
+use std::ffi::OsString;
 use std::process::Command;
 
 const SURVEY: &str = "(survey (letters ACGT) (k 2) (mirror complement) (classes 10))\n";
@@ -32,10 +32,6 @@ fn place(listing: &[u8]) -> Folder {
     folder
 }
 
-fn run_in(folder: &Folder, arguments: &[impl AsRef<OsStr>]) -> Run {
-    run_as(Command::new(WONTIRJE).current_dir(folder).args(arguments), b"")
-}
-
 /// Each command that takes a listing refuses this one for this reason, prints nothing and writes nothing.
 fn check_refused(listing: &[u8], reason: &str) {
     let folder = place(listing);
@@ -46,7 +42,7 @@ fn check_refused(listing: &[u8], reason: &str) {
         &["merge", "counts.txt"],
         &["merge", "--output", "new.txt", "counts.txt", "counts.txt"],
     ] {
-        let run = run_in(&folder, arguments);
+        let run = folder.run(&[], arguments, b"");
         assert_eq!((run.status, run.text()), (2, ""), "{arguments:?}: {}", run.err);
         assert_eq!(run.complaints(), [format!("wontirje: counts.txt: {reason}")], "{arguments:?}");
     }
@@ -72,7 +68,7 @@ fn the_whole_listing_is_taken() {
         &["count", "--from", "counts.txt", "--output", "new.txt", "lake.fa"],
         &["merge", "counts.txt"],
     ] {
-        assert_eq!(run_in(&folder, arguments).status, 0, "{arguments:?}");
+        assert_eq!(folder.run(&[], arguments, b"").status, 0, "{arguments:?}");
     }
     assert_eq!(folder.names(), ["counts.txt", "lake.fa", "new.svg", "new.txt"]);
 }
@@ -108,6 +104,8 @@ fn line_ends_and_what_follows() {
     let cr = "the line ends in CR LF; make all lines end in LF alone, as tr -d '\\r' does";
     let cut = |what: &str| format!("{what}; the listing is cut off: {AGAIN}");
     let follows = "a line follows the total; take out what follows it";
+    let another =
+        "another listing follows the total; part them into a file each, which wontirje merge adds up";
     check_each(&[
         (whole().replace('\n', "\r\n"), [20, 0, 1], cr.into()),
         (whole().replace("AG 2)", "AG 2)\r"), [20, 89, 4], cr.into()),
@@ -124,17 +122,35 @@ fn line_ends_and_what_follows() {
             [20, 115, 6],
             "the last line does not end in LF; put the line end behind it".into(),
         ),
+        (whole().replace("(total 8)\n", "(total x)"), [20, 115, 6], cut("the last line has no end")),
+        (whole().replace("(total 8)\n", "(total 08)"), [20, 115, 6], cut("the last line has no end")),
+        (whole().replace("(total 8)\n", "(total )"), [20, 115, 6], cut("the last line has no end")),
         (whole() + "\n", [20, 125, 7], follows.into()),
+        // More bytes than any listing of these settings has, and no line end.
+        (whole() + &"\0".repeat(300), [20, 125, 7], follows.into()),
         (whole() + "more", [20, 125, 7], follows.into()),
         (whole() + "(total 8)\n", [20, 125, 7], follows.into()),
         (whole() + "(count AA 1)\n", [20, 125, 7], follows.into()),
-        (
-            whole() + &whole(),
-            [20, 125, 7],
-            "another listing follows the total; part them into a file each, which wontirje merge adds up"
-                .into(),
-        ),
+        (whole() + &whole(), [20, 125, 7], another.into()),
+        (whole() + "\n" + &whole(), [20, 125, 7], another.into()),
     ]);
+}
+
+/// Lines that end in CR alone are one line, whether it is short or long; the last one may end in LF.
+#[test]
+fn lines_that_end_in_cr() {
+    let advice = "make them end in LF, as tr '\\r' '\\n' does";
+    let short = whole().replace('\n', "\r");
+    let with_end = format!("{}\n", short.trim_end());
+    let right = format!("its lines end in CR alone; {advice}");
+    check_each(&[short.clone(), with_end].map(|text| (text, [20, 0, 1], right.clone())));
+    check_refused(
+        short.repeat(3).as_bytes(),
+        &format!(
+            "its first line does not end within 256 bytes, so this is no listing; its lines end in CR alone: \
+             {advice}"
+        ),
+    );
 }
 
 /// Lines between the survey line and the total that have no shape of a listing's.
@@ -220,6 +236,29 @@ fn damaged_survey_lines() {
     }
 }
 
+/// First lines that are no survey lines are told as such, whatever settings stand in them: those that no
+/// table has too.
+#[test]
+fn settings_in_lines_that_are_no_survey_lines() {
+    let none = format!("no survey line, so this is no listing; {AS_PRINTED}");
+    let as_in = format!("the survey line is damaged; a whole one is as in {}", SURVEY.trim_end());
+    let cut = format!("the last line has no end; the listing is cut off: {AGAIN}");
+    for (text, right) in [
+        (">sample (k 13) lake\nACGT\n", &none),
+        (">sample (letters acgt)\n", &none),
+        (">sample (k 13)", &none),
+        ("(k 0) (survey (letters ACGT))\n", &none),
+        ("(survey (letters ACGT) (k 13)", &cut),
+        ("(survey (letters A) (k", &cut),
+        ("(survey (letters acgt) (k 2))\n(total 0)\n", &as_in),
+        ("(survey (k 13) (letters ACGT) (mirror complement) (classes 33554432))\n(total 0)\n", &as_in),
+        ("(survey (letters ACGT) (k 13) (mirror complement))\n(total 0)\n", &as_in),
+        ("(survey (letters ACGT) (k 99) (mirror complement) (classes 010))\n(total 0)\n", &as_in),
+    ] {
+        check_each(&[(text.into(), [20, 0, 1], right.clone())]);
+    }
+}
+
 /// The forms of the survey line in another order, the older one's too.
 #[test]
 fn survey_lines_in_another_order() {
@@ -245,6 +284,10 @@ fn other_files() {
         [">a\nACGT\n", "(surveys\n", "\n", "(refused 10 3)\n", "(survey\n", "(count AC 1)\n(total 1)\n"]
     {
         check_each(&[(text.into(), [20, 0, 1], none.clone())]);
+    }
+    let later = "the survey line is not the first line; take out what stands before it";
+    for before in ["\n", "lake.fa: records 2\n", ">lake (k 13)\n", " \n\n"] {
+        check_each(&[(before.to_string() + &whole(), [20, 0, 1], later.into())]);
     }
     let gzip = "it is compressed: give - for it, with gzip -dc FILE | before the command";
     let mark = "it begins with a byte order mark: take its three bytes out";
@@ -362,38 +405,53 @@ fn run_with_listing(text: &[u8]) -> Run {
     run_as(Command::new(WONTIRJE).args(["histogram", "-"]), text)
 }
 
-/// Drawn listings of several settings, whole and damaged, under the settings given as options: a run answers
-/// as the second loader does, and a listing that is taken comes back byte for byte.
+/// What a run leaves that starts from a text and counts nothing.
+fn run_from(text: &[u8], options: &[OsString]) -> Run {
+    let folder = place(text);
+    folder.file("none.fa", b"");
+    folder.run(&["count", "--from", "counts.txt", "none.fa"], options, b"")
+}
+
+/// Drawn listings of several settings, whole and damaged, with the settings given as options and without: a
+/// run answers as the second loader does, and a listing that is taken comes back byte for byte. Without
+/// options a survey line of other settings is not at fault by that.
 #[test]
 fn drawn_damages_beside_the_second_loader() {
     let mut random = Random::new(201);
-    let mut found = [0; 23];
+    let (mut found, mut at_first) = ([0; 23], 0);
     for settings in some_settings() {
         let places = lent(&settings).table_places().expect("a table");
         for round in 0..60 {
             let sparse = 1 + random.below(places as u64);
             let (_, text) = drawn_listing(&mut random, &settings, sparse);
             let text = if round < 5 { text } else { damaged_listing(&mut random, &settings, &text) };
-            let folder = place(&text);
-            folder.file("none.fa", b"");
-            let arguments = ["count", "--from", "counts.txt", "none.fa"].map(OsString::from);
-            let run = run_in(&folder, &[&arguments[..], &options(&settings)[..]].concat());
-            match loading(&settings, places, &text) {
-                Ok(_) => {
-                    found[0] += 1;
-                    assert!(run.status == 0 && run.out == text, "{settings}: {}", run.err);
-                }
-                Err(refusal) => {
-                    found[refusal.number as usize] += 1;
-                    let (number, p) = (refusal.number, refusal.p);
-                    let right = format!("wontirje: counts.txt: refused {number} at offset {p} (line ");
-                    assert!(run.err.starts_with(&right), "{settings}: {right}: {}", run.err);
-                    assert_eq!((run.status, run.text()), (2, ""), "{settings}: {}", run.err);
-                }
+            let due = loading(&settings, places, &text);
+            let refused = due.as_ref().map_or_else(|refusal| (refusal.number, refusal.p), |_| (0, 0));
+            found[refused.0 as usize] += 1;
+            at_first += usize::from(refused == (20, 0));
+            check_answer(&run_from(&text, &options(&settings)), refused, &text);
+            let alone = run_from(&text, &[]);
+            match refused {
+                (21, _) => assert!([0, 2].contains(&alone.status), "{settings}: {}", alone.err),
+                _ => check_answer(&alone, refused, &text),
             }
         }
     }
-    assert!([0, 20, 21, 22].iter().all(|&number| found[number] > 20), "{found:?}");
+    assert!(
+        [0, 20, 21, 22].iter().all(|&number| found[number] > 20) && at_first > 10,
+        "{found:?}, {at_first}"
+    );
+}
+
+/// A run from a text that is refused with a number at an offset, or with 0 where it is taken.
+fn check_answer(run: &Run, (number, offset): (u64, u64), text: &[u8]) {
+    if number == 0 {
+        assert!(run.status == 0 && run.out == text, "{}", run.err);
+        return;
+    }
+    let right = format!("wontirje: counts.txt: refused {number} at offset {offset} (line ");
+    assert!(run.err.starts_with(&right), "{right}: {}: {}", text.escape_ascii(), run.err);
+    assert_eq!((run.status, run.text()), (2, ""), "{}", run.err);
 }
 
 /// A run whose standard input is what a shell's commands print, without an end, in 64 MB of memory and a
@@ -429,6 +487,7 @@ fn texts_without_an_end() {
         ),
         (format!("echo '{survey}'; yes '(count AC 1)'"), format!("{code}: {AGAIN}")),
         (format!("echo '{survey}'; echo '(total 0)'; yes ''"), follows.into()),
+        (format!("echo '{survey}'; echo '(total 0)'; cat /dev/zero"), follows.into()),
         (format!("echo '{survey}'; printf '(count AC '; yes 1 | tr -d '\\n'"), too_long.clone()),
         (format!("echo '{survey}'; printf '(total '; yes 1 | tr -d '\\n'"), too_long),
     ];
@@ -442,6 +501,39 @@ fn texts_without_an_end() {
     }
 }
 
+/// A first line that is refused is told before what follows it is read, though a listing of its settings
+/// could have far more bytes than there is memory. Where there is no room for such a listing or for its
+/// table, that is told too.
+#[test]
+fn texts_for_which_there_is_no_memory() {
+    let survey = |letters: &str, k: usize, classes: usize| {
+        format!(
+            "echo '(survey (letters {letters}) (k {k}) (mirror complement) (classes {classes}))'; yes '('"
+        )
+    };
+    for (commands, reason) in [
+        (
+            survey("ACGT", 12, 10),
+            format!(
+                "refused 21 at offset 0 (line 1): (classes 10), but these settings have 8390656 classes; the \
+                 survey line is damaged: {AGAIN}"
+            ),
+        ),
+        (survey("ACGT", 11, 2_097_152), "not read: out of memory".into()),
+        (
+            survey("AB", 25, 16_777_216),
+            "no table: out of memory (67108864 bytes for letters AB, k 25, mirror complement)".into(),
+        ),
+    ] {
+        for arguments in [&["histogram", "-"][..], &["merge", "-"], &["count", "--from", "-", "/dev/null"]] {
+            run_endless(&commands, arguments).check_failed(&format!("standard input: {reason}"));
+        }
+    }
+    let arguments = ["count", "--letters", "AB", "--k", "25", "/dev/null"];
+    run_endless("true", &arguments)
+        .check_failed("no table: out of memory (67108864 bytes for letters AB, k 25, mirror complement)");
+}
+
 /// A listing of all classes with the longest counts there are is not too long; behind it there may be no end.
 #[test]
 fn the_longest_listings() {
@@ -451,7 +543,7 @@ fn the_longest_listings() {
         let table = vec![u32::MAX; settings.table_places().expect("a table")];
         let text = whole_listing(&settings, &table);
         let folder = place(&text);
-        let run = run_in(&folder, &["merge", "counts.txt"]);
+        let run = folder.run(&[], &["merge", "counts.txt"], b"");
         assert!(run.status == 0 && run.out == text, "{}", run.err);
         let listing = folder.path("counts.txt");
         let run = run_endless(&format!("cat '{}'; yes ''", listing.display()), &["merge", "-"]);

@@ -62,7 +62,7 @@ fn check(settings: &Settings, text: &[u8]) -> usize {
     }
 }
 
-/// Each byte of a listing lost, doubled, and put in place of each other one.
+/// Each byte of a listing lost, doubled, and with each byte that there is in its place.
 #[test]
 fn every_byte_of_a_listing() {
     let settings = Settings::new(b"ACGT", 2, COMPLEMENT);

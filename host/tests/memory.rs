@@ -1,6 +1,7 @@
 //! The memory of `wontirje count`: at most the table, one file or listing and 2 MB, as the system measured
-//! the peak of what was resident; of `histogram` the same, and of `merge` a second table besides. In a file
-//! of its own, so that the process which starts the command is small.
+//! the peak of what was resident; of `merge` a second table besides; of `histogram` the same where few counts
+//! differ, since it holds each count that occurs, and with `--each` its bar too. In a file of its own, so
+//! that the process which starts the command is small.
 
 mod run;
 #[path = "run/usage.rs"]

@@ -4,17 +4,16 @@ mod run;
 
 use kmer_tests::draw::Random;
 use kmer_tests::settings::{Settings, COMPLEMENT, REVERSAL};
-use run::{drawn_of_either_kind, options, run_as, whole_listing, Folder, Run, EMPTY, LISTING, WONTIRJE};
+use run::{drawn_of_either_kind, options, whole_listing, Folder, Run, EMPTY, LISTING};
 use std::ffi::{OsStr, OsString};
 use std::fs;
-use std::process::Command;
 
-const POND: &str = "(survey (letters ACGT) (k 2) (mirror complement) (classes 10))\n\
+const POND_LISTING: &str = "(survey (letters ACGT) (k 2) (mirror complement) (classes 10))\n\
     (count GC 5)\n(count AA 3)\n(total 8)\n";
 const SUM: &str = "(survey (letters ACGT) (k 2) (mirror complement) (classes 10))\n\
     (count CG 1)\n(count GC 6)\n(count AG 2)\n(count AC 2)\n(count AA 3)\n(total 14)\n";
-const LAKE_SAID: &str = "lake.txt: loaded: 4 of 10 classes have a count, total 6";
-const POND_SAID: &str = "pond.txt: loaded: 2 of 10 classes have a count, total 8";
+const LAKE_LOADED: &str = "lake.txt: loaded: 4 of 10 classes have a count, total 6";
+const POND_LOADED: &str = "pond.txt: loaded: 2 of 10 classes have a count, total 8";
 
 /// A folder in which the command runs, with the listings of a lake and of a pond.
 struct Place(Folder);
@@ -23,16 +22,24 @@ impl Place {
     fn new() -> Place {
         let folder = Folder::new();
         folder.file("lake.txt", LISTING.as_bytes());
-        folder.file("pond.txt", POND.as_bytes());
+        folder.file("pond.txt", POND_LISTING.as_bytes());
         Place(folder)
     }
 
     fn run(&self, arguments: &[impl AsRef<OsStr>], input: &[u8]) -> Run {
-        run_as(Command::new(WONTIRJE).current_dir(&self.0).args(arguments), input)
+        self.0.run(&[], arguments, input)
     }
 
     fn merge(&self, arguments: &[&str]) -> Run {
-        self.run(&[&["merge"], arguments].concat(), b"")
+        self.0.run(&["merge"], arguments, b"")
+    }
+
+    /// Counts files to a new listing; gives the status, which tells whether one was refused, and the listing.
+    fn count(&self, settings: &Settings, files: &[&str], to: &str) -> (i32, Vec<u8>) {
+        let files = files.iter().map(OsString::from).chain(options(settings)).collect::<Vec<_>>();
+        let run = self.0.run(&["count", "--output", to], &files, b"");
+        assert!([0, 1].contains(&run.status), "{settings}: {}", run.err);
+        (run.status, fs::read(self.0.path(to)).expect("a listing"))
     }
 
     fn check(&self, arguments: &[&str], listing: &str, said: &[&str]) {
@@ -56,14 +63,14 @@ impl Place {
 #[test]
 fn sums_by_hand() {
     let place = Place::new();
-    place.check(&["lake.txt", "pond.txt"], SUM, &[LAKE_SAID, POND_SAID]);
-    place.check(&["pond.txt", "lake.txt"], SUM, &[POND_SAID, LAKE_SAID]);
-    place.check(&["lake.txt"], LISTING, &[LAKE_SAID]);
+    place.check(&["lake.txt", "pond.txt"], SUM, &[LAKE_LOADED, POND_LOADED]);
+    place.check(&["pond.txt", "lake.txt"], SUM, &[POND_LOADED, LAKE_LOADED]);
+    place.check(&["lake.txt"], LISTING, &[LAKE_LOADED]);
     let twice = LISTING.replace(" 2)\n", " 4)\n").replace(" 1)\n", " 2)\n").replace(" 6)", " 12)");
-    place.check(&["lake.txt", "lake.txt"], &twice, &[LAKE_SAID, LAKE_SAID]);
+    place.check(&["lake.txt", "lake.txt"], &twice, &[LAKE_LOADED, LAKE_LOADED]);
     place.0.file("none.txt", EMPTY.as_bytes());
     let none = "none.txt: loaded: 0 of 10 classes have a count, total 0";
-    place.check(&["none.txt", "lake.txt", "none.txt"], LISTING, &[none, LAKE_SAID, none]);
+    place.check(&["none.txt", "lake.txt", "none.txt"], LISTING, &[none, LAKE_LOADED, none]);
     place.check(&["none.txt", "none.txt"], EMPTY, &[none, none]);
 }
 
@@ -71,21 +78,22 @@ fn sums_by_hand() {
 #[test]
 fn standard_input_is_a_listing() {
     let place = Place::new();
-    let piped = POND_SAID.replace("pond.txt", "standard input");
-    for (arguments, said) in
-        [(["merge", "lake.txt", "-"], [LAKE_SAID, &piped]), (["merge", "-", "lake.txt"], [&piped, LAKE_SAID])]
-    {
-        let run = place.run(&arguments, POND.as_bytes());
+    let piped = POND_LOADED.replace("pond.txt", "standard input");
+    for (arguments, said) in [
+        (["merge", "lake.txt", "-"], [LAKE_LOADED, &piped]),
+        (["merge", "-", "lake.txt"], [&piped, LAKE_LOADED]),
+    ] {
+        let run = place.run(&arguments, POND_LISTING.as_bytes());
         assert_eq!((run.status, run.text(), run.complaints()), (0, SUM, said.to_vec()));
     }
     let twice = "- is given twice; standard input can be read only once";
-    place.run(&["merge", "-", "lake.txt", "-"], POND.as_bytes()).check_failed(twice);
+    place.run(&["merge", "-", "lake.txt", "-"], POND_LISTING.as_bytes()).check_failed(twice);
 }
 
 #[test]
 fn a_new_file_has_the_sum() {
     let place = Place::new();
-    place.check(&["--output", "sum.txt", "lake.txt", "pond.txt"], "", &[LAKE_SAID, POND_SAID]);
+    place.check(&["--output", "sum.txt", "lake.txt", "pond.txt"], "", &[LAKE_LOADED, POND_LOADED]);
     assert_eq!(fs::read_to_string(place.0.path("sum.txt")).expect("the listing"), SUM);
     assert_eq!(place.0.names(), ["lake.txt", "pond.txt", "sum.txt"]);
     let there = "lake.txt: there is such a file already; only a new one is written";
@@ -98,6 +106,7 @@ fn a_new_file_has_the_sum() {
 #[test]
 fn parts_of_a_count() {
     let mut random = Random::new(221);
+    let (mut refused, mut counted) = (0, 0);
     let names = ["a", "b", "c", "d", "e"];
     for (letters, k, mirror) in [
         (&b"ACGT"[..], 3, COMPLEMENT),
@@ -113,13 +122,10 @@ fn parts_of_a_count() {
             for name in names {
                 place.0.file(name, &drawn_of_either_kind(&mut random, &settings, 1500).1);
             }
-            let count = |files: &[&str], to: &str| {
-                let arguments = [&["count", "--output", to], files].concat();
-                let arguments = arguments.iter().map(OsString::from).chain(options(&settings));
-                place.run(&arguments.collect::<Vec<_>>(), b"");
-                fs::read(place.0.path(to)).expect("a listing")
-            };
-            let at_once = count(&names, "all.txt");
+            let count = |files: &[&str], to: &str| place.count(&settings, files, to);
+            let (status, at_once) = count(&names, "all.txt");
+            refused += status;
+            counted += i32::from(!at_once.ends_with(b"\n(total 0)\n"));
             for (file, to) in [("a", "1.txt"), ("b", "2.txt"), ("c", "3.txt")] {
                 count(&[file], to);
             }
@@ -129,9 +135,10 @@ fn parts_of_a_count() {
             let merged = place.merge(&["4.txt", "123.txt"]);
             assert!(merged.status == 0 && merged.out == at_once, "{settings}: {}", merged.err);
             let gone_on = place.run(&["count", "--from=123.txt", "d", "e"], b"");
-            assert!(gone_on.out == at_once, "{settings}: {}", gone_on.err);
+            assert!(gone_on.out == at_once && gone_on.status <= status, "{settings}: {}", gone_on.err);
         }
     }
+    assert!(refused >= 20 && counted >= 40, "{refused} runs with a refused file, {counted} with a count");
 }
 
 /// A sum that is just a count, and one above it: the listing, the word and both numbers are named.
@@ -151,7 +158,7 @@ fn sums_that_are_too_large() {
     let kept = "in sum above 4,294,967,295; nothing is merged: keep the listings apart";
     place.check_refused(
         &["full.txt", "lake.txt", "pond.txt"],
-        &[&full, LAKE_SAID],
+        &[&full, LAKE_LOADED],
         &format!("lake.txt: the count of AC is 4294967295 before it and 2 in it, {kept}"),
     );
     place.check_refused(
@@ -190,7 +197,7 @@ fn listings_of_other_settings() {
             "other.txt: refused 21 at offset 0 (line 1): the survey line has {has}, that of lake.txt \
              {first}; only listings of the same settings are merged"
         );
-        place.check_refused(&["lake.txt", "other.txt", "pond.txt"], &[LAKE_SAID], &reason);
+        place.check_refused(&["lake.txt", "other.txt", "pond.txt"], &[LAKE_LOADED], &reason);
     }
 }
 
@@ -205,15 +212,15 @@ fn listings_that_are_refused() {
     let missing = "no.txt: not read: No such file or directory";
     for (name, reason) in [("bad.txt", bad), ("no.txt", missing), (".", ".: not read: Is a directory")] {
         place.check_refused(&[name, "lake.txt", "pond.txt"], &[], reason);
-        place.check_refused(&["lake.txt", name, "pond.txt"], &[LAKE_SAID], reason);
-        place.check_refused(&["lake.txt", "pond.txt", name], &[LAKE_SAID, POND_SAID], reason);
+        place.check_refused(&["lake.txt", name, "pond.txt"], &[LAKE_LOADED], reason);
+        place.check_refused(&["lake.txt", "pond.txt", name], &[LAKE_LOADED, POND_LOADED], reason);
     }
     // A sequence file among the listings.
     place.0.file("lake.fa", b">a\nACGT\n");
     let none =
         "lake.fa: refused 20 at offset 0 (line 1): no survey line, so this is no listing; give a listing \
         as wontirje count prints it";
-    place.check_refused(&["lake.txt", "lake.fa"], &[LAKE_SAID], none);
+    place.check_refused(&["lake.txt", "lake.fa"], &[LAKE_LOADED], none);
 }
 
 /// As many listings as a folder may have.
@@ -221,6 +228,7 @@ fn listings_that_are_refused() {
 fn many_listings() {
     let place = Place::new();
     let run = place.run(&[&["merge"], &["pond.txt"; 500][..]].concat(), b"");
-    let right = POND.replace("GC 5", "GC 2500").replace("AA 3", "AA 1500").replace("total 8", "total 4000");
+    let right =
+        POND_LISTING.replace("GC 5", "GC 2500").replace("AA 3", "AA 1500").replace("total 8", "total 4000");
     assert_eq!((run.status, run.text(), run.complaints().len()), (0, &right[..], 500), "{}", run.err);
 }

@@ -10,11 +10,10 @@ use kmer_tests::draw::{write_drawn, Random};
 use kmer_tests::settings::{Settings, COMPLEMENT};
 use kmer_tests::tables::Call;
 use lists::List;
-use run::{drawn_of_either_kind, run_as, run_with, Folder, Run, WONTIRJE};
+use run::{drawn_of_either_kind, run_with, Folder, Run};
 use run::{EMPTY, EXAMPLE, LISTING, NUMBERS, READS};
 use std::fs;
 use std::path::PathBuf;
-use std::process::Command;
 use wontirje::Refusal;
 
 /// The lake is the example. The pond is one read, as FASTA and as FASTQ: three windows of a class that the lake has
@@ -46,8 +45,7 @@ impl Place {
 
     /// Counts words of 2 letters.
     fn count_with(&self, arguments: &[&str], input: &[u8]) -> Run {
-        let mut command = Command::new(WONTIRJE);
-        run_as(command.current_dir(&self.0).args(["count", "--k", "2"]).args(arguments), input)
+        self.0.run(&["count", "--k", "2"], arguments, input)
     }
 
     fn count(&self, arguments: &[&str]) -> Run {

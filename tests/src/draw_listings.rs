@@ -22,7 +22,7 @@ pub fn drawn_listing(random: &mut Random, settings: &Settings, sparse: u64) -> (
     (counts, text)
 }
 
-/// A listing with one damage, now and then with several. Some damages leave a listing that is good.
+/// A listing with one damage, about one time in four with several. Some damages leave a listing that is good.
 pub fn damaged_listing(random: &mut Random, settings: &Settings, text: &[u8]) -> Vec<u8> {
     let mut lines: Vec<Vec<u8>> = text.split_inclusive(|&byte| byte == b'\n').map(<[u8]>::to_vec).collect();
     loop {
@@ -85,7 +85,8 @@ fn move_lines(random: &mut Random, lines: &mut Vec<Vec<u8>>) {
 }
 
 /// Another number in place of a line's last one: near it, at the limits, above them by what a number of 32 or
-/// 64 bits would lose, with a leading zero, or with many digits. Now and then the total is the sum again.
+/// 64 bits would lose, with a leading zero, or with many digits. About every other time the total is made the
+/// sum again.
 fn change_number(random: &mut Random, lines: &mut [Vec<u8>]) {
     let place = drawn_line(random, lines);
     let Some((before, number, after)) = last_number(&lines[place]) else { return };
@@ -162,7 +163,7 @@ fn other_word(random: &mut Random, settings: &Settings, word: &[u8]) -> Vec<u8> 
 }
 
 /// A survey line with its LF that is another one: of other settings, with another number of classes, with its
-/// forms in another order, or with a value that is none. One of the ways gives the line that is due.
+/// forms in another order, or with a value that is none. Now and then it is the line that is due.
 fn other_survey_line(random: &mut Random, settings: &Settings) -> Vec<u8> {
     let mut other = settings.clone();
     match random.below(8) {

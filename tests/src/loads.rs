@@ -81,8 +81,8 @@ pub fn check_written(settings: &Settings, table: &[u32], text: &[u8]) {
     assert!(same, "{}: written again it is {answer:#x}, {}", what(), shown_file(&written));
 }
 
-/// A table of filled places, some more than needed, into which the text is loaded as `check_load` does. Gives
-/// the number of the ground, 0 where there is none, with P.
+/// A table of so many filled places, be they enough or too few, into which the text is loaded as `check_load`
+/// does. Gives the number of the ground, 0 where there is none, with P.
 pub fn check_fresh_load(settings: &Settings, places: usize, text: &[u8]) -> (u64, u64) {
     match check_load(settings, &mut Table::filled(places), text) {
         Ok(_) => (0, 0),

@@ -189,15 +189,22 @@ pub fn printed_line(settings: &Settings) -> String {
     format!("(survey (letters {letters}) (k {}) (mirror {mirror}) (classes {classes}))", settings.k)
 }
 
-/// A line that we print, taken apart: the line of its settings, which is closed by the bracket that follows the last
-/// form, and the number in that form. None where the last form is not the number of classes in plain decimal.
-pub fn taken_apart(printed: &[u8]) -> Option<(Vec<u8>, u128)> {
+/// A line whose last form has the name of the number of classes, in two: the line of its settings, which is
+/// closed by the bracket that follows the last form, and what stands in that form.
+pub fn parted(printed: &[u8]) -> Option<(Vec<u8>, &[u8])> {
     let inner = printed.strip_suffix(b"))")?;
     let name = b" (classes ";
     let at = inner.windows(name.len()).rposition(|part| part == name)?;
-    let digits = std::str::from_utf8(&inner[at + name.len()..]).ok()?;
+    Some(([&inner[..at], b")"].concat(), &inner[at + name.len()..]))
+}
+
+/// A line that we print, taken apart: the line of its settings, and the number of classes. None where the
+/// last form is not that number in plain decimal.
+pub fn taken_apart(printed: &[u8]) -> Option<(Vec<u8>, u128)> {
+    let (line, digits) = parted(printed)?;
+    let digits = std::str::from_utf8(digits).ok()?;
     let number = digits.parse::<u128>().ok().filter(|number| number.to_string() == digits)?;
-    Some(([&inner[..at], b")"].concat(), number))
+    Some((line, number))
 }
 
 /// The listing of classes given as canonical word and count, by rising code.

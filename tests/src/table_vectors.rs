@@ -31,8 +31,8 @@ pub struct Stored {
     /// The file and the line in it.
     pub line: String,
     pub settings: Settings,
-    /// The number that names the kind of the sequence file, which says nothing where a listing is loaded.
-    pub fastq: u64,
+    /// The number that names the kind of the sequence file; none where a listing is loaded.
+    pub fastq: Option<u64>,
     /// The sequence file, or the listing.
     pub file: Vec<u8>,
     pub table: Vec<u32>,
@@ -47,7 +47,7 @@ fn stored_outcome(text: &str) -> Result<Vec<u64>, Refusal> {
     }
 }
 
-fn parsed(fastq: u64, (line, columns): (String, Vec<&str>)) -> Stored {
+fn parsed(fastq: Option<u64>, (line, columns): (String, Vec<&str>)) -> Stored {
     Stored {
         line,
         settings: Settings::new(&bytes(columns[1]), number(columns[2]), number(columns[3])),
@@ -63,14 +63,14 @@ fn parsed(fastq: u64, (line, columns): (String, Vec<&str>)) -> Stored {
 pub fn stored(call: &str, counts: [usize; 7]) -> Vec<Stored> {
     let mut found = Vec::new();
     for ((file, fastq), count) in TABLES.into_iter().zip(counts) {
-        found.extend(rows(file, call, count).into_iter().map(|row| parsed(fastq, row)));
+        found.extend(rows(file, call, count).into_iter().map(|row| parsed(Some(fastq), row)));
     }
     found
 }
 
 /// The stored loads, so many of them.
 pub fn stored_loads(count: usize) -> Vec<Stored> {
-    rows(LOADS, "load", count).into_iter().map(|row| parsed(FASTA, row)).collect()
+    rows(LOADS, "load", count).into_iter().map(|row| parsed(None, row)).collect()
 }
 
 /// The call and the book answer as stored, and leave the stored table. Stored calls have no answer list: it is long
@@ -80,7 +80,8 @@ pub fn check_stored_call(call: Call, stored: &Stored) {
     let ground = table_ground(&stored.settings, false, stored.table.len());
     let counts = ground.map_or(&[][..], |classes| &stored.table[..classes]);
     let mut book = Book::starting(&stored.settings, counts);
-    let answer = check_call(call, &mut book, &mut table, stored.fastq, &stored.file, 5);
+    let fastq = stored.fastq.expect("a sequence file");
+    let answer = check_call(call, &mut book, &mut table, fastq, &stored.file, 5);
     assert_eq!(answer.map(|numbers| numbers.to_vec()), stored.outcome, "{}", stored.line);
     assert_eq!(table.slice(), stored.after, "{}", stored.line);
 }

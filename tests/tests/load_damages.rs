@@ -1,7 +1,7 @@
-//! Damaged listings beside the second loader (document 02, K7): every damage of one byte, of one line and of
-//! two lines to a small listing, and drawn damages to drawn listings, with the answer and every place of the
-//! table, which is longer than the classes and filled with a pattern. Each loop tells that it reached every
-//! outcome.
+//! Damaged listings beside the second loader (document 02, K7): small listings with every damage of one byte
+//! and with lines lost, doubled or moved, drawn listings with drawn damages, and bytes with no plan. Compared
+//! are the answer and every place of the table, which is longer than the classes and filled with a pattern.
+//! Each loop tells which outcomes it reached, and how often at least.
 
 use kmer_tests::book::class_count;
 use kmer_tests::draw::*;
@@ -52,7 +52,8 @@ fn small_listings() -> [(Settings, &'static [u8]); 3] {
     ]
 }
 
-/// Every byte lost, changed to every other, and every byte put in at every place.
+/// Every byte lost, changed to every other, and every byte put in at every place; the text cut at every
+/// place.
 #[test]
 fn one_byte_damaged() {
     let mut outcomes = Outcomes::default();
@@ -75,7 +76,8 @@ fn one_byte_damaged() {
     outcomes.check(&[(0, 9 + 5), (20, 100_000), (21, 5_000), (22, 500)]);
 }
 
-/// Every line lost, twice, and put in at every place; every two lines swapped.
+/// Every line lost, and put in once more before every line; every two lines lost or swapped; stretches of
+/// lines lost or doubled.
 #[test]
 fn lines_moved() {
     let mut outcomes = Outcomes::default();
@@ -137,10 +139,10 @@ fn drawn_damages_of_dna_and_rna() {
     outcomes.check(&[(0, 500), (20, 4000), (21, 500), (22, 2500)]);
 }
 
-/// Some hundred lines of which one is damaged: the damage is found at its offset, however far the lines
-/// before it go.
+/// Some hundred lines of which a few at most are damaged: the first line at fault is found at its offset,
+/// however far the lines before it go.
 #[test]
-fn one_damage_in_a_longer_listing() {
+fn damages_in_a_longer_listing() {
     let mut random = Random::new(76);
     let mut outcomes = Outcomes::default();
     for (letters, k, mirror) in

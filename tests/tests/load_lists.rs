@@ -90,12 +90,13 @@ impl List {
     }
 }
 
-/// A listing for a load: one that was kept, one of a drawn table, at times with a count that is nearly full,
-/// or a damaged one; with the files that are inside after it.
-fn drawn_text(random: &mut Random, list: &List) -> (Vec<u8>, Vec<Given>) {
+/// Loads a listing: one that was kept, with the files that were inside then, one of a drawn table, at times
+/// with a count that is nearly full, or a damaged one. Gives the name of what was done, with the answer.
+fn load_drawn(random: &mut Random, list: &mut List) -> (&'static str, Result<(), Refusal>) {
     let settings = &list.book.settings;
-    if let Some(kept) = list.kept.get(random.below(list.kept.len() as u64 * 2 + 1) as usize) {
-        return kept.clone();
+    let kept = random.below(list.kept.len() as u64 * 2 + 1) as usize;
+    if let Some((text, inside)) = list.kept.get(kept).cloned() {
+        return ("load kept", list.load(&text, &inside));
     }
     let (mut counts, mut text) = drawn_listing(random, settings, 3);
     if random.below(3) == 0 {
@@ -103,10 +104,11 @@ fn drawn_text(random: &mut Random, list: &List) -> (Vec<u8>, Vec<Given>) {
         counts[place] = u32::MAX - random.below(200) as u32;
         text = listing_of(settings, &counts);
     }
-    match random.below(2) {
-        0 => (text, Vec::new()),
-        _ => (damaged_listing(random, settings, &text), Vec::new()),
+    if random.below(2) == 0 {
+        return ("load", list.load(&text, &[]));
     }
+    text = damaged_listing(random, settings, &text);
+    ("load damaged", list.load(&text, &[]))
 }
 
 /// What a list did, and how often it was accepted (0) or refused, by number.
@@ -128,10 +130,7 @@ fn drawn_given(random: &mut Random, list: &List, inside: bool, damaged: bool) ->
 /// The next step of a list: a load, a listing that is kept, an add or a withdrawal.
 fn step(random: &mut Random, list: &mut List, outcomes: &mut Outcomes) {
     let (what, answer) = match random.below(16) {
-        0..=2 => {
-            let (text, inside) = drawn_text(random, list);
-            ("load", list.load(&text, &inside))
-        }
+        0..=2 => load_drawn(random, list),
         3 => {
             list.keep();
             ("keep", Ok(()))
@@ -153,6 +152,38 @@ fn step(random: &mut Random, list: &mut List, outcomes: &mut Outcomes) {
     *outcomes.entry((what, number)).or_default() += 1;
 }
 
+/// The outcomes that there are, and how often at least: the lists are worth their name only where all kinds
+/// of calls are in them. Only a listing that was damaged is ever refused.
+const LEAST: [(&str, u64, usize); 27] = [
+    ("load", 0, 500),
+    ("load damaged", 0, 50),
+    ("load damaged", 20, 200),
+    ("load damaged", 21, 50),
+    ("load damaged", 22, 150),
+    ("load kept", 0, 500),
+    ("keep", 0, 500),
+    ("add", 0, 1000),
+    ("add", 10, 50),
+    ("add", 11, 50),
+    ("add", 12, 100),
+    ("add FASTQ", 0, 1000),
+    ("add FASTQ", 10, 20),
+    ("add FASTQ", 12, 100),
+    ("add FASTQ", 15, 50),
+    ("add FASTQ", 16, 50),
+    ("add FASTQ", 17, 5),
+    ("withdraw", 0, 500),
+    ("withdraw", 10, 50),
+    ("withdraw", 11, 50),
+    ("withdraw", 18, 500),
+    ("withdraw FASTQ", 0, 500),
+    ("withdraw FASTQ", 10, 20),
+    ("withdraw FASTQ", 15, 50),
+    ("withdraw FASTQ", 16, 50),
+    ("withdraw FASTQ", 17, 5),
+    ("withdraw FASTQ", 18, 500),
+];
+
 /// Over every size that is small enough, from a cleared table; a table is loaded several times.
 #[test]
 fn lists_over_every_size() {
@@ -166,23 +197,9 @@ fn lists_over_every_size() {
             list.check();
         }
     }
-    let at_least = |what: &str, numbers: &[u64], times: usize| {
-        for &number in numbers {
-            let found = outcomes.iter().find(|((name, found), _)| *name == what && *found == number);
-            assert!(found.is_some_and(|(_, &count)| count >= times), "{what}, {number}: {outcomes:?}");
-        }
-    };
-    // The lists are worth their name only where all kinds of calls are in them.
-    at_least("load", &[0, 20, 21, 22], 50);
-    for (add, withdraw) in [("add", "withdraw"), ("add FASTQ", "withdraw FASTQ")] {
-        at_least(add, &[0], 500);
-        at_least(withdraw, &[0, 18], 200);
-        at_least(add, &[12], 50);
-    }
-    at_least("add", &[10, 11], 10);
-    at_least("withdraw", &[10, 11], 10);
-    at_least("add FASTQ", &[15, 16], 10);
-    at_least("withdraw FASTQ", &[15, 16], 10);
+    let least: Outcomes = LEAST.into_iter().map(|(what, number, times)| ((what, number), times)).collect();
+    assert!(outcomes.keys().eq(least.keys()), "{outcomes:?}");
+    assert!(least.iter().all(|(outcome, times)| outcomes[outcome] >= *times), "{outcomes:?}");
 }
 
 /// "Ecologists keep last year's listing and want to add this year's files to it": some files, the listing,

@@ -256,7 +256,8 @@ fn stored_withdrawals() {
     for stored in stored("withdraw", [0, 0, 0, 0, 0, 140, 100]) {
         check_stored_call(Call::Withdraw, &stored);
         let number = stored.outcome.map_or_else(|refusal| refusal.number, |_| 0);
-        *outcomes[stored.fastq as usize].entry(number).or_insert(0) += 1;
+        let fastq = stored.fastq.expect("a sequence file");
+        *outcomes[fastq as usize].entry(number).or_insert(0) += 1;
     }
     let fasta = [(0, 68), (1, 8), (2, 1), (6, 4), (7, 31), (10, 4), (18, 24)];
     let fastq =

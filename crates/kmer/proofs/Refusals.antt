@@ -1,4 +1,4 @@
--- What the calls that return P rest on: the number of a refusal is small, and so is the P of each call, so that one number holds both; and the
+-- What the calls that return P rest on: the number of a refusal is small, and so is the P of each call but `kmer_load`, so that one number holds both; and the
 -- answer and buffer of such a call, from those of the call below it. How large each P is follows from the definitions of the calls' grounds.
 use mathlib.Core.Path.{_≡_, refl, ap, _∙_, subst⁻¹}
 use mathlib.Core.Bool.{Bool}

@@ -13,7 +13,7 @@ ghost use Rattle.encoding.specs.Calls.{coding, readGround, wordBytes, mirrorGro
 ghost use Rattle.kmer.specs.Returned.{returned, returnedWithPlace, returnedUpTo, ReturnsPlaces};
 ghost use Rattle.kmer.specs.Needs.{PlaceFits};
 ghost use Rattle.listing.specs.Listing.{listing, listingGround};
-ghost use Rattle.loading.specs.Loading.{loadGround, loadedCounts};
+ghost use Rattle.kmer.specs.Loads.{LoadsInto};
 ghost use Rattle.laws.specs.Text.{bytes};
 ghost use Rattle.laws.specs.Windows.{windows};
 ghost use Rattle.sequence.specs.Sequences.{sequenceGround, sequenceCodes};
@@ -34,7 +34,7 @@ fn refused(f: Refusal) -> u64
     9223372036854775808 + settings::number_of(f)
 }
 
-// 2^63 plus P * 256 plus the number; every P is below 2^32.
+// 2^63 plus P * 256 plus the number, of a P below 2^32, as the P of every call but `kmer_load` is.
 fn refused_at(f: Refusal) -> u64
     requires { ⌜ groundOf f .1 < 2 ^ 32 ⌝ }
     ensures { λ r. ⌜ r ≡ returnedWithPlace (Refused (groundOf f)) ⌝ }
@@ -281,9 +281,7 @@ pub extern "C" fn kmer_load(
     text: &[u8],
 ) -> u64
     ensures { λ r.
-        ⌜ ReturnsPlaces returnedUpTo (loadGround (now (letters .entry)) k mirror (length (now (table .entry))) (now (text .entry)))
-        (classCount (now (letters .entry)) k mirror) (loadedCounts (now (letters .entry)) k mirror (now (text .entry)))
-        (now (table .entry)) r (now (table .exit)) ⌝ }
+        ⌜ LoadsInto (now (letters .entry)) k mirror (now (text .entry)) (now (table .entry)) r (now (table .exit)) ⌝ }
 {
     match loader::load(letters, k, mirror, table, text) {
         Filling::Filled(n) => n as u64,

@@ -1,4 +1,4 @@
--- One line as the functions judge it: the texts that they write to compare with it (`total-held`, `survey-held`), the word that they read in it (`word-found`),
+-- One line as the functions judge it: the texts that they write to compare with it (`total-held`, `survey-held`), the word that they read in it (`ranks-read`, `code-found`),
 -- and each ground at its test. From the laws of shapes and words of the crate loading.
 use mathlib.Core.Path.{_≡_, refl, sym, ap, subst⁻¹, _∙_}
 use mathlib.Core.Bool.{Bool, true, false, and-false}

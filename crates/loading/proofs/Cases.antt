@@ -22,7 +22,7 @@ use Rattle.listing.specs.Listing.{totalLine}
 use Rattle.loading.specs.Shapes.{allDigits, isNumber, ofLetters, isCountLine, isTotalLine, isClassesEnd, formPosition, formEnd, classesLast, isSurveyLine}
 use Rattle.loading.specs.Loading.{goodCount, nextAfter, lineFault, loadFault, loadGround, loadedFrom, loadedCounts}
 
--- The ground for refusing a text, and its counts, under ACGT, 2, complement, into a table of ten places. A case that unfolds one computes with all that
+-- The ground for refusing a text, with a table of so many places, and its counts, under ACGT, 2, complement. A case that unfolds one computes with all that
 -- its `unfolding` line names.
 unfoldable groundFor : (room : ℕ) → List ℕ → Option Ground
 unfolding isCapital isIn differentCapitals goodLetters capitalOf placeFrom readsUAsT readAs isOdd halfUp classes badSize settingsGround
@@ -48,8 +48,8 @@ Loaded text = groundFor 10 (behind text) ≡ none
 abbrev Refused : String → Ground → Type 0
 Refused text g = groundFor 10 (behind text) ≡ some g
 
-abbrev Line : String → Ground → Type 0
-Line text g = groundFor 10 (bytes text) ≡ some g
+abbrev RefusedText : String → Ground → Type 0
+RefusedText text g = groundFor 10 (bytes text) ≡ some g
 
 -- Listings, and their counts. (The highest count with its total is not computed: `decimal` of a high number is too deep. Only the total is missed.)
 good : Loaded "(count CG 1)\n(count GC 1)\n(count AG 2)\n(count AC 2)\n(total 6)\n"
@@ -68,7 +68,7 @@ short-table = refl
 
 -- 20: a line "is missing": P is the text's length.
 missing-line :
-    Line "" (20, 0)
+    RefusedText "" (20, 0)
     × Refused "" (20, 63)
     × Refused "(count CG 1)\n" (20, 76)
 unfolding groundFor
@@ -76,7 +76,7 @@ missing-line = (refl, refl, refl)
 
 -- 20: a line without LF has no shape: P is its offset.
 no-lf :
-    Line "(survey (letters ACGT) (k 2) (mirror complement) (classes 10))" (20, 0)
+    RefusedText "(survey (letters ACGT) (k 2) (mirror complement) (classes 10))" (20, 0)
     × Refused "(count CG 1)" (20, 63)
     × Refused "(count CG 1)\n(total 1)" (20, 76)
     × Refused "(count CG 1)\n(total 1)\r\n" (20, 76)
@@ -85,8 +85,8 @@ no-lf = (refl, refl, refl, refl)
 
 -- 20: a line "stands where another kind or none belongs".
 no-place :
-    Line "(count CG 1)\n(total 1)\n" (20, 0)
-    × Line "(total 0)\n" (20, 0)
+    RefusedText "(count CG 1)\n(total 1)\n" (20, 0)
+    × RefusedText "(total 0)\n" (20, 0)
     × Refused "(survey (letters ACGT) (k 2) (mirror complement) (classes 10))\n(total 0)\n" (20, 63)
     × Refused "(total 0)\n(total 0)\n" (20, 73)
     × Refused "(total 0)\n\n" (20, 73)
@@ -113,16 +113,16 @@ no-shape = (refl, refl, refl, refl, refl, refl, refl, refl, refl, refl, refl)
 
 -- 20 and 21: the survey line. Another order, no classes, a k with a leading zero have no shape; other settings or classes, of any length, have.
 survey-line :
-    Line "(survey (k 2) (letters ACGT) (mirror complement) (classes 10))\n(total 0)\n" (20, 0)
-    × Line "(survey (letters ACGT) (k 2) (mirror complement))\n(total 0)\n" (20, 0)
-    × Line "(survey (letters ACGT) (k 02) (mirror complement) (classes 10))\n(total 0)\n" (20, 0)
-    × Line "(survey (letters ACGT) (k 2) (mirror complement) (classes 010))\n(total 0)\n" (20, 0)
-    × Line "(survey (letters ACGT) (k 2) (mirror complement) (classes 10))\r\n(total 0)\n" (20, 0)
-    × Line "(survey (letters ACGT) (k 3) (mirror complement) (classes 32))\n(total 0)\n" (21, 0)
-    × Line "(survey (letters ACGT) (k 2) (mirror complement) (classes 11))\n(total 0)\n" (21, 0)
-    × Line "(survey (letters ACGT) (k 2) (mirror complement) (classes 100000000000000000000000000010))\n(total 0)\n" (21, 0)
-    × Line "(survey (letters TGCA) (k 2) (mirror complement) (classes 10))\n(total 0)\n" (21, 0)
-    × Line "(survey (letters acgt) (k 2) (mirror foo) (classes 0))\n" (21, 0)
+    RefusedText "(survey (k 2) (letters ACGT) (mirror complement) (classes 10))\n(total 0)\n" (20, 0)
+    × RefusedText "(survey (letters ACGT) (k 2) (mirror complement))\n(total 0)\n" (20, 0)
+    × RefusedText "(survey (letters ACGT) (k 02) (mirror complement) (classes 10))\n(total 0)\n" (20, 0)
+    × RefusedText "(survey (letters ACGT) (k 2) (mirror complement) (classes 010))\n(total 0)\n" (20, 0)
+    × RefusedText "(survey (letters ACGT) (k 2) (mirror complement) (classes 10))\r\n(total 0)\n" (20, 0)
+    × RefusedText "(survey (letters ACGT) (k 3) (mirror complement) (classes 32))\n(total 0)\n" (21, 0)
+    × RefusedText "(survey (letters ACGT) (k 2) (mirror complement) (classes 11))\n(total 0)\n" (21, 0)
+    × RefusedText "(survey (letters ACGT) (k 2) (mirror complement) (classes 100000000000000000000000000010))\n(total 0)\n" (21, 0)
+    × RefusedText "(survey (letters TGCA) (k 2) (mirror complement) (classes 10))\n(total 0)\n" (21, 0)
+    × RefusedText "(survey (letters acgt) (k 2) (mirror foo) (classes 0))\n" (21, 0)
 unfolding groundFor
 survey-line = (refl, refl, refl, refl, refl, refl, refl, refl, refl, refl)
 
@@ -144,6 +144,6 @@ bad-count = (refl, refl, refl, refl, refl, refl, refl, refl, refl)
 first-wins :
     Refused "(count CG 0)\nx\n" (22, 63)
     × Refused "x\n(count CG 0)\n" (20, 63)
-    × Line "(survey (letters ACGT) (k 3) (mirror complement) (classes 32))\nx" (21, 0)
+    × RefusedText "(survey (letters ACGT) (k 3) (mirror complement) (classes 32))\nx" (21, 0)
 unfolding groundFor
 first-wins = (refl, refl, refl)

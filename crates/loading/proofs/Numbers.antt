@@ -1,11 +1,12 @@
 -- Numbers in decimal: a text of digits without a leading zero is the decimal of its value (`number-is-decimal`), and the decimal of a number is such a text
--- with that value (`decimal-is-number`). By the digits, from the laws of decimals of the texts.
+-- with that value (`decimal-is-number`). By the digits, from the laws of decimals of the texts and survey's law of digits without a leading zero.
 use mathlib.Core.Path.{_≡_, refl, sym, ap, _∙_}
 use mathlib.Core.Bool.{Bool, true, false, not, _&&_, _||_, and-eq-true-iff, false≢true}
-use mathlib.Core.List.{List, [], _∷_, _++_, append-assoc, append-nil}
+use mathlib.Core.List.{List, [], _∷_, _++_}
 use Prim.Native.Nat.{ℕ, zero, suc, _+_, _-_, _*_, _/_, _%_, _≤_, _<_}
 use native.Mathlib.Omega.{arith}
 use native.Mathlib.Decide.{decLt}
+use lib.ListN.{length}
 use lib.Dec.{leb, eqb}
 use borrow.Author.Tests.{leb-true, le-leb, eqb-false, ne-eqb, not-true}
 use Rattle.laws.specs.Each.{Each}
@@ -14,6 +15,7 @@ use Rattle.settings.specs.Settings.{isIn}
 use Rattle.survey.specs.Grammar.{Digit, spelt}
 use Rattle.texts.specs.Decimals.{decimal}
 use Rattle.texts.proofs.Decimals.{one-digit, more-digits}
+use Rattle.survey.proofs.OneLine.{spelt-first}
 use Rattle.loading.specs.Shapes.{isDigit, allDigits, isNone, isNumber}
 
 -- ---- the tests
@@ -39,37 +41,18 @@ digits-no-lf (d ∷ ds) a = rw (ne-eqb d 10 (λ e. omega arith)) (digits-no-lf d
 
 -- ---- from the text to the number
 
--- One digit more behind a number other than 0.
-one-more : (v d : ℕ) → 1 ≤ v → Digit d → decimal (v * 10 + (d - 48)) ≡ decimal v ++ (d ∷ [])
-one-more v d h g =
-    let front : (v * 10 + (d - 48)) / 10 ≡ v = omega arith in
-    let last : 48 + (v * 10 + (d - 48)) % 10 ≡ d = omega arith in
-    more-digits (v * 10 + (d - 48)) (omega arith) ∙ rw (front, last)
-
-more-spelt : (v : ℕ) (ds : List ℕ) → 1 ≤ v → Each Digit ds → decimal (spelt v ds) ≡ decimal v ++ ds
-unfolding spelt
-more-spelt v [] h a = sym (append-nil (decimal v))
-more-spelt v (d ∷ ds) h a =
-    more-spelt (v * 10 + (d - 48)) ds (omega arith) (a .1) ∙ rw (one-more v d h (a .0)) (append-assoc (decimal v) (d ∷ []) ds)
-
 -- A text that passes the test of a number is the decimal of what it spells.
 pub number-is-decimal : (ds : List ℕ) → isNumber ds ≡ true → ds ≡ decimal (spelt 0 ds)
-unfolding isNumber spelt
+unfolding isNumber
 number-is-decimal [] e = absurd (false≢true e)
 number-is-decimal (d ∷ ds) e =
     let first = and-eq-true-iff (isDigit d) (allDigits ds && (isNone ds || not (eqb d 48))) .0 e in
     let rest = and-eq-true-iff (allDigits ds) (isNone ds || not (eqb d 48)) .0 (first .1) in
-    let zero-first : 0 * 10 + (d - 48) ≡ d - 48 = omega arith in
-    rw zero-first (go ds (digit-is d (first .0)) (digits-are ds (rest .0)) (rest .1))
+    sym (spelt-first d ds (digit-is d (first .0)) (digits-are ds (rest .0)) (lead ds (rest .1)))
   where
-    single : Digit d → decimal (d - 48) ≡ d ∷ []
-    single g = let e : 48 + (d - 48) % 10 ≡ d = omega arith in one-digit (d - 48) (omega arith) ∙ rw e
-
-    go : (xs : List ℕ) → Digit d → Each Digit xs → (isNone xs || not (eqb d 48)) ≡ true → d ∷ xs ≡ decimal (spelt (d - 48) xs)
-    go [] g a z = sym (single g)
-    go (x ∷ xs) g a z =
-        let led = eqb-false d 48 (not-true (eqb d 48) z) in
-        sym (more-spelt (d - 48) (x ∷ xs) (omega arith) a ∙ rw (single g))
+    lead : (xs : List ℕ) → (isNone xs || not (eqb d 48)) ≡ true → d ≡ 48 → length (d ∷ xs) ≡ 1
+    lead [] z same = refl
+    lead (x ∷ xs) z same = absurd (eqb-false d 48 (not-true (eqb d 48) z) same)
 
 -- ---- from the number to the text
 

@@ -1,7 +1,8 @@
--- The line of a class and the total: as we print them each is one line and has its shape, and a line with the shape of a class's line is made of its parts
--- (`count-parts`). From the laws of numbers in decimal.
+-- The line of a class and the total: as we print them each is one line and has its shape, and just the lines that we print for some word and number have it
+-- (`count-shaped`, `total-shaped`). From the laws of numbers in decimal.
 use mathlib.Core.Path.{_≡_, refl, ap, _∙_}
 use mathlib.Core.Bool.{true, false, _&&_, and-eq-true-iff}
+use mathlib.Core.Logic.{_↔_}
 use mathlib.Core.List.{List, _++_, append-assoc}
 use Prim.Native.Nat.{ℕ, _+_, _-_}
 use native.Mathlib.Omega.{arith}
@@ -17,6 +18,7 @@ use Rattle.tally.specs.Book.{sameWord}
 use Rattle.tally.proofs.WordLists.{same-word, word-same}
 use Rattle.listing.specs.Listing.{countLine, totalLine}
 use Rattle.loading.specs.Shapes.{sameText, inner, isNumber, ofLetters, wordIn, digitsIn, countShape, isCountLine, isTotalLine}
+use Rattle.loading.specs.Claims.{CountShape, TotalShape}
 use Rattle.loading.proofs.Lines.{Line, past}
 use Rattle.loading.proofs.Numbers.{number-is-decimal, decimal-is-number, decimal-no-lf}
 
@@ -65,6 +67,16 @@ count-parts letters k l e =
       is = word-same l (countShape (wordIn k l) (digitsIn k l)) (a .0) ∙ ap (countShape (wordIn k l)) (number-is-decimal (digitsIn k l) (c .1));
     }
 
+-- Just the lines of words of k letters of the settings and of numbers have the shape.
+pub count-shaped : (letters : List ℕ) (k : ℕ) (l : List ℕ) → (isCountLine letters k l ≡ true) ↔ CountShape letters k l
+unfolding countLine
+count-shaped letters k l = (
+  λ e.
+      let P = count-parts letters k l e in
+      record { word = wordIn k l; n = spelt 0 (digitsIn k l); long = P .word-long; letters-of = P .letters-of; line = P .is },
+  λ S. rw (S .line) (count-shape k (S .word) (decimal (S .n)) (S .long) letters (S .letters-of) (decimal-is-number (S .n) .0)),
+)
+
 pub count-one-line : (word : List ℕ) (n : ℕ) → isIn 10 word ≡ false → Line (countLine word n)
 unfolding countLine isIn
 count-one-line word n e =
@@ -78,7 +90,23 @@ count-one-line word n e =
 
 pub total-shape : (n : ℕ) → isTotalLine (totalLine n) ≡ true
 unfolding isTotalLine totalLine
-total-shape n = rw (inner-is (bytes "(total ") (decimal n) (bytes ")\n") 7 2 refl refl, same-word (bytes "(total " ++ (decimal n ++ bytes ")\n")), decimal-is-number n .0)
+total-shape n =
+    let l = bytes "(total " ++ (decimal n ++ bytes ")\n") in
+    rw (inner-is (bytes "(total ") (decimal n) (bytes ")\n") 7 2 refl refl, same-word l, decimal-is-number n .0)
+
+-- Just the totals of numbers have the shape.
+pub total-shaped : (l : List ℕ) → (isTotalLine l ≡ true) ↔ TotalShape l
+unfolding isTotalLine totalLine
+total-shaped l = (
+  λ e.
+      let d = inner 7 2 l in
+      let h = and-eq-true-iff (sameText l (bytes "(total " ++ (d ++ bytes ")\n"))) (isNumber d) .0 e in
+      record {
+        n = spelt 0 d;
+        line = word-same l _ (h .0) ∙ ap (λ (x : List ℕ). bytes "(total " ++ (x ++ bytes ")\n")) (number-is-decimal d (h .1));
+      },
+  λ T. rw (T .line) (total-shape (T .n)),
+)
 
 pub total-one-line : (n : ℕ) → Line (totalLine n)
 unfolding totalLine isIn

@@ -35,6 +35,29 @@ unfolding unlessAt
 passes n at true e = refl
 passes n at false e = absurd (let z : _≡_ {A = ℕ} 0 1 = cc in omega arith)
 
+module _ (letters : List ℕ) (k m : ℕ) where
+  -- The total, as it is printed, is passed as the last line, and sets nothing.
+  pub total-passed : (low s at : ℕ) → loadFault letters k m (CountOrTotal low s) at (totalLine s ∷ []) ≡ none
+  unfolding loadFault lineFault nextAfter unlessAt
+  total-passed low s at = rw (total-shape s, same-word (totalLine s))
+
+  pub total-sets-nothing : (s : ℕ) (cs : List ℕ) → loadedFrom letters k m cs (totalLine s ∷ []) ≡ cs
+  unfolding loadedFrom
+  total-sets-nothing s cs = rw (total-shape s)
+
+  -- Where a total is passed, it is that of the sum, and no line follows.
+  pub total-read : (low s at : ℕ) (l : List ℕ) (ls : List (List ℕ)) → isTotalLine l ≡ true → loadFault letters k m (CountOrTotal low s) at (l ∷ ls) ≡ none
+      → (l ≡ totalLine s) × (ls ≡ [])
+  unfolding loadFault lineFault nextAfter
+  total-read low s at l ls t e =
+      let f = rw t at e in
+      let own = passes 22 at (sameText l (totalLine s)) (first-none (groundAt 22 (unlessAt (sameText l (totalLine s)) at)) _ f) in
+      (word-same l (totalLine s) own, go ls (later-none (groundAt 22 (unlessAt (sameText l (totalLine s)) at)) _ f))
+    where
+      go : (xs : List (List ℕ)) → loadFault letters k m Nothing (at + length l) xs ≡ none → xs ≡ []
+      go [] h = refl
+      go (x ∷ xs) h = absurd (let z : _≡_ {A = ℕ} 0 1 = cc in omega arith)
+
 module _ (letters : List ℕ) (k m : ℕ) (good : settingsGround letters k m ≡ none) where
   -- ---- a line as it is printed
 
@@ -80,31 +103,9 @@ module _ (letters : List ℕ) (k m : ℕ) (good : settingsGround letters k m ≡
     unfolding loadedFrom
     count-set cs = rw (P .no-total, P .code, P .count)
 
-  -- The total is passed as the last line, and sets nothing.
-  pub total-passed : (low s at : ℕ) → loadFault letters k m (CountOrTotal low s) at (totalLine s ∷ []) ≡ none
-  unfolding loadFault lineFault nextAfter unlessAt
-  total-passed low s at = rw (total-shape s, same-word (totalLine s))
-
-  pub total-sets-nothing : (s : ℕ) (cs : List ℕ) → loadedFrom letters k m cs (totalLine s ∷ []) ≡ cs
-  unfolding loadedFrom
-  total-sets-nothing s cs = rw (total-shape s)
-
   -- ---- a line that passes
 
-  -- It is the total, and no line follows.
-  pub total-read : (low s at : ℕ) (l : List ℕ) (ls : List (List ℕ)) → isTotalLine l ≡ true → loadFault letters k m (CountOrTotal low s) at (l ∷ ls) ≡ none
-      → (l ≡ totalLine s) × (ls ≡ [])
-  unfolding loadFault lineFault nextAfter
-  total-read low s at l ls t e =
-      let f = rw t at e in
-      let own = passes 22 at (sameText l (totalLine s)) (first-none (groundAt 22 (unlessAt (sameText l (totalLine s)) at)) _ f) in
-      (word-same l (totalLine s) own, go ls (later-none (groundAt 22 (unlessAt (sameText l (totalLine s)) at)) _ f))
-    where
-      go : (xs : List (List ℕ)) → loadFault letters k m Nothing (at + length l) xs ≡ none → xs ≡ []
-      go [] h = refl
-      go (x ∷ xs) h = absurd (let z : _≡_ {A = ℕ} 0 1 = cc in omega arith)
-
-  -- Or it is the line of a class with a higher code.
+  -- It is the line of a class with a higher code.
   pub record CountRead (low s at : ℕ) (l : List ℕ) (ls : List (List ℕ)) : Type 0 where
     pub is : l ≡ countLine (wordBytes letters k m (codeIn letters k m l)) (countIn k l)
     pub shape : isCountLine letters k l ≡ true

@@ -1,33 +1,36 @@
--- The survey line's shape: the lines that `isSurveyLine` finds are just those of the grammar with the number of classes last (`survey-shaped`), and the survey
--- line that we print is one (`survey-shape`). From survey's laws of three forms in a row and of the line that we print.
-use mathlib.Core.Path.{_≡_, refl, sym, _∙_}
+-- The survey line's shape: the lines that `isSurveyLine` finds are just those of the grammar with the number of classes last (`survey-shaped`), the survey line
+-- that we print is one (`survey-shape`), and one is that line exactly where it has these settings and their number of classes (`survey-same`). From survey's laws of three forms in a row and of the line that we print.
+use mathlib.Core.Path.{_≡_, refl, sym, ap, _∙_}
 use mathlib.Core.Bool.{true, false, _&&_, and-eq-true-iff, false≢true}
 use mathlib.Core.Logic.{_↔_}
 use mathlib.Core.Option.{none}
-use mathlib.Core.List.{List, [], _∷_, _++_, append-assoc, append-nil}
+use mathlib.Core.List.{List, [], _∷_, _++_, append-assoc, append-nil, append-cancel-left, append-cancel-right}
 use Prim.Native.Nat.{ℕ, zero, suc, _+_}
+use native.Mathlib.Omega.{arith}
 use lib.ListN.{take, drop}
 use lib.Dec.{eqb}
 use Rattle.laws.specs.Text.{bytes}
 use Rattle.laws.proofs.Tests.{by-test}
 use Rattle.settings.specs.Settings.{isIn, settingsGround, settingsOf}
+use Rattle.settings.proofs.SettingsGrounds.{good-settings}
 use Rattle.texts.specs.Decimals.{decimal}
 use Rattle.survey.specs.declared.Name.the-variants.{Letters, K, Mirror}
 use Rattle.survey.specs.declared.Form.{Form}
 use Rattle.survey.specs.declared.Form.the-variants.{Of, NoForm}
 use Rattle.survey.specs.Forms.{form, settingsForms, unclosed, lineOf}
 use Rattle.survey.specs.Line.{mirrorName, printedForms, surveyLine}
-use Rattle.survey.specs.Grammar.{LettersText, KText, MirrorText}
+use Rattle.survey.specs.Grammar.{LettersText, KText, MirrorText, spelt}
 use Rattle.survey.specs.Reading.{startsWith, formAt, nextForm}
 use Rattle.survey.proofs.TextLaws.{starts-at}
 use Rattle.survey.proofs.FormLaws.{opening, flat, flat-forms, flat-of, FormRead, FormGood, form-good}
-use Rattle.survey.proofs.LineThere.{row-there}
+use Rattle.survey.proofs.LineThere.{row-there, one-row}
+use Rattle.survey.proofs.OneLine.{k-spelt, mirror-named}
 use Rattle.survey.proofs.Written.{values-good, printed-line}
 use Rattle.tally.proofs.WordLists.{same-word, word-same}
 use Rattle.loading.specs.Shapes.{sameText, inner, isNumber, isClassesEnd, formPosition, formEnd, classesLast, isSurveyLine}
 use Rattle.loading.specs.Claims.{SurveyShape}
 use Rattle.loading.proofs.Lines.{Line, past}
-use Rattle.loading.proofs.Numbers.{decimal-is-number, decimal-no-lf}
+use Rattle.loading.proofs.Numbers.{number-is-decimal, decimal-is-number, decimal-no-lf}
 use Rattle.loading.proofs.Words.{letters-no-lf}
 use Rattle.loading.proofs.Shapes.{inner-is}
 
@@ -153,8 +156,8 @@ module _ (letters : List ℕ) (k m : ℕ) (good : settingsGround letters k m ≡
   pub survey-shape : isSurveyLine (surveyLine letters k m) ≡ true
   survey-shape =
       let P = values-good letters k m good in
-      survey-there (surveyLine letters k m) (decimal (settingsOf letters k m .classes)) (P .letters-good) (P .k-good) (P .mirror-good) (decimal-is-number (settingsOf letters k m .classes) .0)
-      (printed-line letters k m)
+      let n = settingsOf letters k m .classes in
+      survey-there (surveyLine letters k m) (decimal n) (P .letters-good) (P .k-good) (P .mirror-good) (decimal-is-number n .0) (printed-line letters k m)
 
   pub survey-one-line : Line (surveyLine letters k m)
   unfolding surveyLine isIn
@@ -171,3 +174,41 @@ module _ (letters : List ℕ) (k m : ℕ) (good : settingsGround letters k m ≡
               past 10 (decimal (settingsOf letters k m .classes)) _ (decimal-no-lf (settingsOf letters k m .classes)),
             ));
       }
+
+  -- 21, "when the survey line differs from the settings or their number of classes": a line of the shape is the line that is printed under the settings, byte by
+  -- byte, exactly where its letters, k, mirror and number of classes are theirs.
+  pub survey-same : (l : List ℕ) (S : SurveyShape l)
+      → (l ≡ surveyLine letters k m) ↔ ((S .letters ≡ letters) × (S .k ≡ k) × (S .mirror ≡ m) × (spelt 0 (S .digits) ≡ settingsOf letters k m .classes))
+  survey-same l S = (there, back)
+    where
+      n : ℕ
+      n = settingsOf letters k m .classes
+
+      k-text : S .k ≡ k → S .kText ≡ decimal k
+      k-text e = k-spelt (S .kText) (S .k-good) ∙ ap decimal e
+
+      mirror-text : S .mirror ≡ m → S .mirrorText ≡ mirrorName m
+      mirror-text e = mirror-named (S .mirror-good .number) (omega (arith, e, good-settings letters k m good .low)) ∙ ap mirrorName e
+
+      there : l ≡ surveyLine letters k m
+          → (S .letters ≡ letters) × (S .k ≡ k) × (S .mirror ≡ m) × (spelt 0 (S .digits) ≡ n)
+      there e =
+          let P = values-good letters k m good in
+          let own = S .line ∙ line-parts (S .letters) (S .kText) (S .mirrorText) (S .digits) in
+          let printed = e ∙ printed-line letters k m in
+          let (a, b, c) = one-row _ _ (S .letters-good) (S .k-good) (S .mirror-good) own (P .letters-good) (P .k-good) (P .mirror-good) printed in
+          let after : List ℕ → List ℕ = λ d. bytes " (classes " ++ (d ++ bytes "))\n") in
+          let front : unclosed (settingsForms (S .letters) (S .kText) (S .mirrorText)) ≡ unclosed (printedForms letters k m) =
+          rw (a, k-text b, mirror-text c) in
+          let same : unclosed (printedForms letters k m) ++ after (S .digits) ≡ unclosed (printedForms letters k m) ++ after (decimal n) =
+          ap (λ (x : List ℕ). x ++ after (S .digits)) (sym front) ∙ sym own ∙ printed in
+          let digits : S .digits ≡ decimal n =
+          append-cancel-right (S .digits) (decimal n) (bytes "))\n")
+          (append-cancel-left (bytes " (classes ") _ _ (append-cancel-left (unclosed (printedForms letters k m)) _ _ same)) in
+          (a, b, c, ap (spelt 0) digits ∙ decimal-is-number n .1)
+
+      back : (S .letters ≡ letters) × (S .k ≡ k) × (S .mirror ≡ m) × (spelt 0 (S .digits) ≡ n) → l ≡ surveyLine letters k m
+      back h =
+          let digits : S .digits ≡ decimal n = number-is-decimal (S .digits) (S .number) ∙ ap decimal (h .3) in
+          S .line ∙ line-parts (S .letters) (S .kText) (S .mirrorText) (S .digits)
+          ∙ rw (h .0, k-text (h .1), mirror-text (h .2), digits) (sym (printed-line letters k m))

@@ -1,5 +1,5 @@
 -- Document 02, K7: "Writing and then loading gives the same counts; loading and then writing gives the same bytes. After a load, every list of adds and
--- withdrawals starts from the loaded counts." (`loads-what-is-written`, `writes-what-is-loaded`, `kept-from-loaded`); and the texts that are loaded are just the
+-- withdrawals starts from the loaded counts." (`loads-what-is-written`, `writes-what-is-loaded`, and of the calls `loads-what-was-listed`, `lists-what-was-loaded`; `kept-from-loaded`); and the texts that are loaded are just the
 -- listings of tables (`loads-just-the-listings`). By induction over the counts and over the lines, from the steps of one line.
 use mathlib.Core.Path.{_≡_, refl, sym, ap, ap₂, subst, _∙_}
 use mathlib.Core.Bool.{Bool, true, false, cond}
@@ -8,12 +8,13 @@ use mathlib.Core.Option.{none}
 use mathlib.Core.List.{List, [], _∷_, _++_, append-assoc, append-nil}
 use Prim.Native.Nat.{ℕ, zero, suc, _+_, _-_, _≤_, _<_}
 use native.Mathlib.Omega.{arith}
-use lib.ListN.{length, drop, set, replicate, length-append, length-set, length-drop, length-replicate, replicate-append-replicate, List·getD-append}
+use lib.ListN.{length, take, drop, set, replicate, length-append, length-set, length-drop, length-replicate, replicate-append-replicate, List·getD-append}
 use lib.Seq.{append-snoc, set-at, drop-at, length-take-le}
+use borrow.Author.Tests.{le-ltb}
 use Rattle.laws.proofs.Buffers.{front-is, front-fits}
 use Rattle.settings.specs.Grounds.{Outcome, given, groundAt, _orElse_}
 use Rattle.settings.specs.Settings.{settingsGround}
-use Rattle.settings.proofs.Outcomes.{first-none, later-none}
+use Rattle.settings.proofs.Outcomes.{first-none, later-none, passed}
 use Rattle.encoding.specs.Calls.{wordBytes}
 use Rattle.fasta.specs.declared.Numbers.{Numbers}
 use Rattle.fastq.specs.Fastq.{unlessAt}
@@ -27,7 +28,7 @@ use Rattle.tally.proofs.Classes.{place-below}
 use Rattle.tally.proofs.Clearing.{settings-good, places-enough}
 use Rattle.tally.proofs.DemandThree.{kept}
 use Rattle.tally.proofs.WordLists.{same-word, word-same}
-use Rattle.listing.specs.Listing.{countLine, classLine, countLines, totalLine, listingOf, listing}
+use Rattle.listing.specs.Listing.{countLine, classLine, countLines, totalLine, listingOf, listing, listingGround, Lists}
 use Rattle.listing.proofs.Lines.{counted-line}
 use Rattle.listing.proofs.Lengths.{SmallCounts}
 use Rattle.loading.specs.Shapes.{sameText, isTotalLine, isSurveyLine}
@@ -50,10 +51,10 @@ module _ (word : ℕ → List ℕ) (cs : List ℕ) where
   no-lines zero q = ap (λ (i : ℕ). countLines word i cs) (omega arith)
   no-lines (suc j) q = no-lines j (suc q) ∙ ap (λ (i : ℕ). countLines word i cs) (omega arith)
 
-  no-sum : (j : ℕ) → sum (zeros j ++ cs) ≡ sum cs
-  unfolding sum
-  no-sum zero = refl
-  no-sum (suc j) = omega (arith, no-sum j)
+no-sum : (cs : List ℕ) (j : ℕ) → sum (zeros j ++ cs) ≡ sum cs
+unfolding sum
+no-sum cs zero = refl
+no-sum cs (suc j) = omega (arith, no-sum cs j)
 
 -- Small counts behind zeros are small, and so is one more count in front.
 small-cons : (n : ℕ) (cs : List ℕ) → n < 4294967296 → SmallCounts cs → SmallCounts (n ∷ cs)
@@ -94,8 +95,8 @@ module _ (letters : List ℕ) (k m : ℕ) where
         let none-more : s + 0 ≡ s = omega arith in
         let one = lines-last (totalLine s) (total-one-line s) in
         record {
-          no-fault = rw (none-more, one) (total-passed letters k m good low s at);
-          sets = rw (none-more, one) (total-sets-nothing letters k m good s (u ++ []));
+          no-fault = rw (none-more, one) (total-passed letters k m low s at);
+          sets = rw (none-more, one) (total-sets-nothing letters k m s (u ++ []));
         }
     taken low q s at u (zero ∷ cs) rises whole long small =
         let T = taken low (suc q) s at (u ++ (0 ∷ [])) cs (omega arith) (omega arith) (omega (arith, length-append u (0 ∷ []))) (λ i. small (suc i)) in
@@ -144,9 +145,9 @@ module _ (letters : List ℕ) (k m : ℕ) where
             → ((low′ s′ at′ : ℕ) → low′ ≤ classCount letters k m → loadFault letters k m (CountOrTotal low′ s′) at′ ls ≡ none → Rest low′ s′ ls)
             → Rest low s (l ∷ ls)
         go true t later =
-            let (is, last) = total-read letters k m good low s at l ls t e in
+            let (is, last) = total-read letters k m low s at l ls t e in
             let n = classCount letters k m - low in
-            let none-more : s + sum (zeros n) ≡ s = omega (arith, ap sum (append-nil (zeros n)), no-sum (wordBytes letters k m) [] n) in
+            let none-more : s + sum (zeros n) ≡ s = omega (arith, ap sum (append-nil (zeros n)), no-sum [] n) in
             let no-line : countLines (wordBytes letters k m) low (zeros n) ≡ [] =
             ap (countLines (wordBytes letters k m) low) (sym (append-nil (zeros n))) ∙ no-lines (wordBytes letters k m) [] n low in
             record {
@@ -165,7 +166,7 @@ module _ (letters : List ℕ) (k m : ℕ) where
             let size : length (zeros j ++ (n ∷ R .rest)) ≡ j + suc (length (R .rest)) =
             length-append (zeros j) (n ∷ R .rest) ∙ omega (arith, length-replicate {A = ℕ} j 0) in
             let there : low + j ≡ q = omega (arith, C .rises) in
-            let total : s + sum (zeros j ++ (n ∷ R .rest)) ≡ s + n + sum (R .rest) = omega (arith, no-sum (wordBytes letters k m) (n ∷ R .rest) j) in
+            let total : s + sum (zeros j ++ (n ∷ R .rest)) ≡ s + n + sum (R .rest) = omega (arith, no-sum (n ∷ R .rest) j) in
             record {
               rest = zeros j ++ (n ∷ R .rest);
               long = omega (arith, size, there, R .long);
@@ -318,7 +319,7 @@ module _ (letters : List ℕ) (k m : ℕ) (text : List ℕ) {t₀ t : List ℕ} 
       → Kept letters k m (loadedBook letters k m text) t calls answers t′
   kept-from-loaded calls = kept letters k m good-settings-here (loadedBook letters k m text) loaded-agrees calls
 
--- "Writing and then loading gives the same counts", of the calls: t is listed, and its listing is loaded into u₀, which has room for the classes.
+-- "Writing and then loading gives the same counts": the listing of t is loaded into u₀, which has room for the classes.
 pub loads-what-is-written : (letters : List ℕ) (k m : ℕ) (t : List ℕ) {u₀ u : List ℕ} {answer : Outcome ℕ} → clearGround letters k m (length t) ≡ none
     → clearGround letters k m (length u₀) ≡ none
     → SmallCounts (counts letters k m t)
@@ -327,6 +328,37 @@ pub loads-what-is-written : (letters : List ℕ) (k m : ℕ) (t : List ℕ) {u�
 loads-what-is-written letters k m t {u₀} here there small load =
     let (no-ground, same) = written-is-loaded letters k m t (length u₀) here there small in
     (load .answers ∙ rw no-ground, counts-loaded letters k m (listing letters k m t) no-ground load ∙ same)
+
+-- The same where the text is what a listing wrote: t is listed into a buffer, and what was written there is loaded into u₀.
+pub loads-what-was-listed : (letters : List ℕ) (k m : ℕ) (t : List ℕ) {old new u₀ u : List ℕ} {n : ℕ} {answer : Outcome ℕ} → SmallCounts (counts letters k m t)
+    → Lists letters k m t old (given n) new
+    → clearGround letters k m (length u₀) ≡ none
+    → Loads letters k m (take n new) u₀ answer u
+    → (answer ≡ given (classCount letters k m)) × (counts letters k m u ≡ counts letters k m t)
+unfolding listingGround
+loads-what-was-listed letters k m t {old} {new} {u₀} {u} {n} {answer} small list there load =
+    let P = passed (length (listing letters k m t)) (listingGround letters k m t (length old)) (list .answers) in
+    let here = first-none (clearGround letters k m (length t)) _ (P .none-applies) in
+    let written : new ≡ listing letters k m t ++ drop (length (listing letters k m t)) old = list .leaves ∙ rw (P .none-applies) in
+    let whole = front-is (listing letters k m t) _ written (sym (P .value)) in
+    loads-what-is-written letters k m t here there small (subst (λ (x : List ℕ). Loads letters k m x u₀ answer u) whole load)
+
+-- "loading and then writing gives the same bytes", of the calls: a text is loaded into t, and t is listed into a buffer that has room for the text.
+pub lists-what-was-loaded : (letters : List ℕ) (k m : ℕ) (text : List ℕ) {t₀ t old new : List ℕ} {n : ℕ} {answer : Outcome ℕ}
+    → Loads letters k m text t₀ (given n) t
+    → length text ≤ length old
+    → Lists letters k m t old answer new
+    → (answer ≡ given (length text)) × (take (length text) new ≡ text)
+unfolding listingGround
+lists-what-was-loaded letters k m text {t₀} {t} {old} {new} load room list =
+    let no-ground = passed (classCount letters k m) (loadGround letters k m (length t₀) text) (load .answers) .none-applies in
+    let same = writes-what-is-loaded letters k m text no-ground load in
+    let open-table : clearGround letters k m (length t) ≡ none = rw (loaded-as-long letters k m text no-ground load) (cleared letters k m text no-ground load) in
+    let no-refusal : listingGround letters k m t (length old) ≡ none = rw (open-table, same, le-ltb (length old) (length text) room) in
+    let written : new ≡ listing letters k m t ++ drop (length (listing letters k m t)) old = list .leaves ∙ rw no-refusal in (
+      list .answers ∙ rw (no-refusal, same),
+      front-is (listing letters k m t) _ written (ap length same) ∙ same,
+    )
 
 -- The texts that are loaded are just the listings of tables: of counts of all classes, each a 32-bit number.
 pub loads-just-the-listings : (letters : List ℕ) (k m room : ℕ) (text : List ℕ) → clearGround letters k m room ≡ none

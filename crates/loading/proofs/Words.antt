@@ -59,7 +59,7 @@ found n b (l ∷ ls) i = go (eqb l b) refl i (found (suc n) b ls)
     go true f g ih = (0, ap (λ (x : ℕ). some x) (omega arith), eqb-true l b f)
     go false f g ih = let (p, e, h) = ih g in (suc p, e ∙ ap (λ (x : ℕ). some x) (omega arith), h)
 
--- Each of different letters is found at its own place.
+-- The letter at a place is among the letters.
 in-at : (ls : List ℕ) (i : ℕ) → i < length ls → isIn (getD ls i 0) ls ≡ true
 unfolding isIn
 in-at [] i h = absurd (omega arith)
@@ -70,6 +70,7 @@ in-at (l ∷ ls) (suc i) h = go (eqb l (getD ls i 0)) (in-at ls i (omega arith))
     go true e = refl
     go false e = e
 
+-- Each of different letters is found at its own place.
 own-place : (n : ℕ) (ls : List ℕ) (i : ℕ) → differentCapitals ls ≡ true → i < length ls → placeFrom n (getD ls i 0) ls ≡ some (n + i)
 unfolding placeFrom differentCapitals
 own-place n [] i e h = absurd (omega arith)

@@ -39,8 +39,8 @@ codeIn letters k m l = placeOf letters k m (ranksIn letters k l)
 abbrev pub countIn : (k : ℕ) → List ℕ → ℕ
 countIn k l = spelt 0 (digitsIn k l)
 
--- 22: "when a word is not canonical, its code does not rise, a count is not 1 to 4,294,967,295": here, that none of these is so. The code of the last line
--- of a class is one less than `low`.
+-- 22: "when a word is not canonical, its code does not rise, a count is not 1 to 4,294,967,295": here, that none of these is so. `low` is one above the code of
+-- the last line of a class, 0 where there is none.
 unfoldable pub goodCount : (letters : List ℕ) (k mirror low : ℕ) → List ℕ → Bool
 goodCount letters k m low l =
     canonicalIn letters k m l && (leb low (codeIn letters k m l) && (leb 1 (countIn k l) && leb (countIn k l) 4294967295))

@@ -1,4 +1,4 @@
--- Document 02, K7: the shapes of a listing's lines. A line l has its LF. It is compared as a whole with the shape that its parts make; what is not the shape of
+-- Document 02, K7: the shapes of a listing's lines. A line l has its LF, if there is one. It is compared as a whole with the shape that its parts make; what is not the shape of
 -- a survey line, of the line of a class or of a total "is none of the shapes".
 use Prim.Native.Nat.{ℕ, _+_, _-_}
 use mathlib.Core.Bool.{Bool, true, false, not, _&&_, _||_}

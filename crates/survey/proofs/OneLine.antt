@@ -31,7 +31,7 @@ spelt-on v h [] E = sym (append-nil (decimal v))
 spelt-on v h (d ∷ digits) E =
     spelt-on (v * 10 + (d - 48)) (omega arith) digits (E .1) ∙ rw (one-more v d h (E .0)) (append-assoc (decimal v) (d ∷ []) digits)
 
-spelt-first : (a : ℕ) (digits : List ℕ) → Digit a → Each Digit digits → (a ≡ 48 → length (a ∷ digits) ≡ 1)
+pub spelt-first : (a : ℕ) (digits : List ℕ) → Digit a → Each Digit digits → (a ≡ 48 → length (a ∷ digits) ≡ 1)
     → decimal (spelt 0 (a ∷ digits)) ≡ a ∷ digits
 unfolding spelt
 spelt-first a digits D E lead = go digits E lead
@@ -46,13 +46,13 @@ spelt-first a digits D E lead = go digits E lead
     go [] E lead = alone
     go (d ∷ digits) E lead = let led : a ≢ 48 = λ z. omega (arith, lead z) in spelt-on v (omega arith) (d ∷ digits) E ∙ rw alone
 
-k-spelt : (text : List ℕ) {k : ℕ} → KText text k → text ≡ decimal k
+pub k-spelt : (text : List ℕ) {k : ℕ} → KText text k → text ≡ decimal k
 k-spelt [] K = absurd (omega (arith, K .some))
 k-spelt (a ∷ digits) K = sym (rw (K .value) (spelt-first a digits (K .each .0) (K .each .1) (K .no-leading-zero)))
 
 -- ---- the line
 
-mirror-named : {text : List ℕ} {mirror : ℕ} → MirrorNumber text mirror → mirror ≤ 1 → text ≡ mirrorName mirror
+pub mirror-named : {text : List ℕ} {mirror : ℕ} → MirrorNumber text mirror → mirror ≤ 1 → text ≡ mirrorName mirror
 mirror-named reversal h = refl
 mirror-named complement h = refl
 mirror-named (another p q) h = absurd (omega arith)

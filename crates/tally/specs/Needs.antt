@@ -1,4 +1,4 @@
--- What the laws of the table, and functions of the crate counting, speak of; no sentence of document 01 rests on it.
+-- What the laws of the table, and functions of the crates counts and counting, speak of; no sentence of document 01 rests on it.
 use Prim.Native.Nat.{ℕ, _<_}
 
 -- q is below n.

@@ -1,6 +1,7 @@
 //! How many classes have each count, as bars: one for each count, or for ranges of counts of equal width.
 
 use std::collections::BTreeMap;
+use std::io::{self, Write};
 
 /// The classes with a count from `from` to `to`, or from `from` on.
 pub struct Bar {
@@ -85,17 +86,17 @@ fn drawn(classes: u64, highest: u64) -> String {
     "█".repeat(eighths / 8) + rest
 }
 
-/// One line a bar: count, classes, bar.
-pub fn text(bars: &[Bar]) -> String {
-    let labels: Vec<String> = bars.iter().map(Bar::label).collect();
-    let wide = labels.iter().map(String::len).max().unwrap_or(0).max("count".len());
+/// Writes one line a bar: count, classes, bar. With --each there may be millions, so that no text is made of
+/// them all.
+pub fn write(bars: &[Bar], to: &mut impl Write) -> io::Result<()> {
+    let wide = bars.iter().map(|bar| bar.label().len()).max().unwrap_or(0).max("count".len());
     let highest = bars.iter().map(|bar| bar.classes).max().unwrap_or(0);
     let numbers = highest.to_string().len().max("classes".len());
-    let mut text = format!("{:>wide$}  {:>numbers$}\n", "count", "classes");
-    for (bar, label) in bars.iter().zip(labels) {
-        let line = format!("{label:>wide$}  {:>numbers$}  {}", bar.classes, drawn(bar.classes, highest));
-        text += line.trim_end();
-        text.push('\n');
+    writeln!(to, "{:>wide$}  {:>numbers$}", "count", "classes")?;
+    for bar in bars {
+        let (label, drawn) = (bar.label(), drawn(bar.classes, highest));
+        let line = format!("{label:>wide$}  {:>numbers$}  {drawn}", bar.classes);
+        writeln!(to, "{}", line.trim_end())?;
     }
-    text
+    Ok(())
 }

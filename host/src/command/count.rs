@@ -68,7 +68,7 @@ impl Run {
 fn start(arguments: &Arguments, given: Given, buffer: &mut Vec<u8>) -> Result<Table, Failure> {
     let Some(operand) = arguments.value("from") else {
         let settings = given.or(survey::by_default());
-        return Table::new(&settings).map_err(|refusal| survey::refused(&settings, refusal));
+        return Table::new(&settings, |refusal| survey::advised(&settings, refusal)).map_err(Failure::Said);
     };
     let table = listing::load(operand, given, buffer)?;
     listing::say_loaded(operand, &table);

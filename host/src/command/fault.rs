@@ -140,7 +140,9 @@ impl Fault<'_> {
     /// What to do where it is a listing.
     fn of_a_listing(&self) -> Option<&'static str> {
         listing::looks_like_one(self.file).then_some(match self.task {
-            Task::Add => "it looks like a listing: put --from before it to start from its counts",
+            Task::Add => {
+                "it looks like a listing: give it with --from, or add several up with wontirje merge first"
+            }
             Task::Withdraw => "it looks like a listing: only sequence files are withdrawn",
         })
     }

@@ -32,19 +32,20 @@ pub const COUNT: &str = "\
 wontirje count [--letters ACGT] [--k 11] [--mirror complement] [--kind KIND] [--from LISTING] [--output FILE]
                [--strict] [--no-listing] FILE... [--withdraw FILE]...
 
-Clears a table, adds each file in order, withdraws those of --withdraw, and prints the listing: the survey
-line with the number of classes, a line for each class with its count, and the total. - is standard input. A
-file whose first byte is @ is taken for FASTQ, any other for FASTA; both may be given together. Of FASTQ, four
-lines a record, only the sequence line counts. On standard error is a line for each file: its records,
-letters, foreign letters (not in --letters; U is read as T where they have T and no U), edge letters (too near
-a run's end to begin a word) and windows (words counted or withdrawn); or why it was refused, where, and what
-to do. A refused file changes no count and does not stop the others.
+Clears a table, or loads a listing into it (--from), adds each file in order, withdraws those of --withdraw,
+and prints the listing: the survey line with the number of classes, a line for each class with its count, and
+the total. - is standard input. A file whose first byte is @ is taken for FASTQ, any other for FASTA; both may
+be given together. Of FASTQ, four lines a record, only the sequence line counts. On standard error is a line
+for each file: its records, letters, foreign letters (not in --letters; U is read as T where they have T and
+no U), edge letters (too near a run's end to begin a word) and windows (words counted or withdrawn); or why it
+was refused, where, and what to do. A refused file changes no count and does not stop the others.
 
   --kind KIND     fasta or fastq: take all files for this kind, whatever their first byte is
   --from LISTING  start from the counts of a listing instead of from 0, as to add this year's files to last
                   year's. What is not given of letters, k and mirror is the listing's; what is given must be
-                  the same. A listing that is refused or not read ends the run. With --withdraw there need be
-                  no file to count
+                  the same. A listing that is refused or not read ends the run. It does not remember its
+                  files: one that is in it already is counted again. With --withdraw there need be no file to
+                  count
   --withdraw FILE when all files are counted, take this one out again: 1 from its class for each window. One
                   file each time, in the order given (a further name after it is a file to count). Refused
                   with 18 where some class has a smaller count than the file has windows of it. Files are not
@@ -116,7 +117,7 @@ wontirje histogram [--bars 40] [--each] [--svg FILE] LISTING
 Prints how many classes of a listing have each count, with bars; - is standard input. Classes without a
 count are in no bar. Where the highest count is above --bars, a bar may stand for several counts, and the
 last one for all above. A listing is taken as wontirje count prints it, byte for byte; any other is refused,
-with the place and what to do, and so is one whose first line lacks (classes N), as it was printed before.
+with the place and what to do, and so is an older one, whose first line lacks (classes N).
 
   --bars N     at most N bars, 2 to 200
   --each       print a line for each count that some class has, however many

@@ -4,13 +4,14 @@ use crate::arguments::{Arguments, Options, Takes};
 use crate::bars::{self, Bar};
 use crate::failure::{Failure, Outcome};
 use crate::listing::load;
-use crate::output::{new_file, print, to_new_file};
+use crate::output::{new_file, to_new_file, to_stdout};
 use crate::report::name;
 use crate::survey::Given;
 use crate::svg;
 use crate::table::Table;
 use std::collections::BTreeMap;
 use std::io::Write;
+use std::process::ExitCode;
 use wontirje::Settings;
 
 pub const OPTIONS: Options = &[("bars", Takes::Value), ("each", Takes::Nothing), ("svg", Takes::Value)];
@@ -56,5 +57,9 @@ pub fn run(arguments: &Arguments) -> Outcome {
         to_new_file(path, &mut |to| to.write_all(chart.as_bytes()))?;
     }
     let shown: Vec<Bar> = if arguments.has("each") { bars::each(&spectrum) } else { grouped };
-    print(&format!("{headline}\n{}", bars::text(&shown)))
+    to_stdout(ExitCode::SUCCESS, &mut |to| {
+        writeln!(to, "{headline}")?;
+        bars::write(&shown, to)
+    })?;
+    Ok(ExitCode::SUCCESS)
 }

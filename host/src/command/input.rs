@@ -44,16 +44,27 @@ pub fn opened(operand: &OsStr) -> io::Result<(Box<dyn Read>, u64)> {
     Ok((Box::new(file), length))
 }
 
-/// Reads on, behind what the buffer holds, until it holds `most` bytes or there are no more.
+/// Reads on, behind what the buffer holds, until it holds `most` bytes or there are no more. Where the length
+/// is known and not 0, room is made for it at once, with a byte to spare, so that the buffer need not grow to
+/// find the end. No read has to make room: one that lacks memory for it could only end the process.
 pub fn read_on(
     file: &mut impl Read,
+    length: u64,
     buffer: &mut Vec<u8>,
     most: u64,
     progress: &mut Progress,
 ) -> io::Result<()> {
+    if length > 0 {
+        let whole = most.min(length.saturating_add(1)) as usize;
+        buffer.try_reserve_exact(whole.saturating_sub(buffer.len()))?;
+    }
     while (buffer.len() as u64) < most {
         let piece = PIECE.min(most - buffer.len() as u64);
-        if file.by_ref().take(piece).read_to_end(buffer)? == 0 {
+        if buffer.len() == buffer.capacity() {
+            buffer.try_reserve(piece as usize)?;
+        }
+        let room = piece.min((buffer.capacity() - buffer.len()) as u64);
+        if file.by_ref().take(room).read_to_end(buffer)? == 0 {
             break;
         }
         progress.reading(buffer.len());
@@ -67,9 +78,7 @@ pub fn read_on(
 pub fn read(operand: &OsStr, buffer: &mut Vec<u8>, progress: &mut Progress) -> io::Result<()> {
     buffer.clear();
     let (mut file, length) = opened(operand)?;
-    let most = MOST_BYTES as u64 + 1;
-    buffer.reserve_exact(length.min(most) as usize);
-    read_on(&mut file, buffer, most, progress)
+    read_on(&mut file, length, buffer, MOST_BYTES as u64 + 1, progress)
 }
 
 /// A line without its end, LF or CR LF.

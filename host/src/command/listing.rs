@@ -1,17 +1,18 @@
-//! Loads a listing into a table. Its first line proposes the settings, and the library judges the whole text
-//! under them: nothing else is read out of a listing here.
+//! Loads a listing into a table. Its first line, in which the library finds a survey line's shape, proposes
+//! the settings, and the library judges the whole text under them: nothing else is read out of a listing
+//! here.
 
 use crate::arguments::number;
 use crate::failure::{reason, Failure};
 use crate::input::{opened, read_on};
-use crate::listing_fault::{self, ListingFault};
+use crate::listing_fault::{self, is_after_the_total, ListingFault};
 use crate::progress::Progress;
 use crate::report;
 use crate::survey::Given;
 use crate::table::Table;
 use std::ffi::OsStr;
 use std::io::{self, Read};
-use wontirje::{Mirror, Settings};
+use wontirje::{Mirror, Refusal, Settings};
 
 /// The first line must end within so many bytes: that of a listing has at most 83.
 pub const FIRST: u64 = 256;
@@ -55,13 +56,16 @@ impl Forms {
     }
 }
 
-/// Whether a file begins as a listing does.
+/// Whether a file begins as a listing does: an older one has no number of classes, but its counts or its
+/// total follow the survey line.
 pub fn looks_like_one(file: &[u8]) -> bool {
-    file.starts_with(b"(survey ") && Forms::of(file).classes.is_some()
+    let second = || file.split(|&byte| byte == b'\n').nth(1).unwrap_or_default();
+    let has_counts = || [&b"(count "[..], b"(total "].iter().any(|start| second().starts_with(start));
+    file.starts_with(b"(survey ") && (Forms::of(file).classes.is_some() || has_counts())
 }
 
-/// The most bytes that a listing of so many classes has: 83 for the survey line, 20 besides the word for each
-/// class, 28 for the total.
+/// A number of bytes that no listing of so many classes exceeds: 83 for the survey line, 20 besides the word
+/// for each class, 28 for the total.
 fn most_bytes(settings: &Settings, classes: usize) -> u64 {
     111 + (20 + settings.k as u64) * classes as u64
 }
@@ -96,9 +100,19 @@ impl Text<'_> {
 
     /// Reads on until there are so many bytes, or no more.
     fn read_to(&mut self, most: u64, progress: &mut Progress) -> io::Result<()> {
-        let more = self.length.min(most).saturating_sub(self.bytes.len() as u64);
-        self.bytes.try_reserve_exact(more as usize)?;
-        read_on(&mut self.from, self.bytes, most, progress)
+        read_on(&mut self.from, self.length, self.bytes, most, progress)
+    }
+
+    /// The first line must have the shape of a survey line, which is the same under all settings: these are
+    /// some, whatever the text's own are, and for another line there need be no table.
+    fn check_first_shape(&self, forms: &Forms) -> Result<(), String> {
+        let settings = Settings::dna(1);
+        match settings.load(&mut [0; 2], self.bytes) {
+            Err(refusal @ Refusal { number: 20, place: 0 }) => {
+                Err(ListingFault { refusal, text: self.bytes, settings, forms, first: None }.to_string())
+            }
+            _ => Ok(()),
+        }
     }
 
     /// Whether a line that begins at this place has its end among the bytes that were read.
@@ -106,9 +120,16 @@ impl Text<'_> {
         self.bytes.iter().skip(place as usize).any(|&byte| byte == b'\n')
     }
 
-    /// Loads the listing into a table, whose settings may be those of a first listing with this name. No more
-    /// is read than a listing of these settings can have, and one byte. Of a longer text the library judges
-    /// that part: what it says of a whole line holds of the whole text.
+    /// Whether a refusal at this place is one of the whole text: its line has its end, or follows the total,
+    /// where none belongs.
+    fn is_certain(&self, place: u64) -> bool {
+        self.has_line_end(place) || is_after_the_total(&self.bytes[..self.bytes.len().min(place as usize)])
+    }
+
+    /// Loads the listing into a table, whose settings may be those of a first listing with this name. Where
+    /// the first line is refused, nothing more is read; else no more than a listing of these settings can
+    /// have, and one byte. Of a longer text the library judges that part: what it says of a whole line, or of
+    /// what follows the total, holds of the whole text.
     fn load_into(
         mut self,
         table: &mut Table,
@@ -118,12 +139,15 @@ impl Text<'_> {
     ) -> Result<(), String> {
         let (settings, counts) = table.parts();
         let most = most_bytes(&settings, counts.len()).max(FIRST);
+        if let Err(refusal @ Refusal { place: 0, .. }) = settings.load(counts, self.bytes) {
+            return Err(ListingFault { refusal, text: self.bytes, settings, forms, first }.to_string());
+        }
         self.read_to(most + 1, progress).map_err(unread)?;
         progress.working("loading", self.bytes.len());
         let whole = self.bytes.len() as u64 <= most;
         match settings.load(counts, self.bytes) {
             Ok(_) if whole => Ok(()),
-            Err(refusal) if whole || self.has_line_end(refusal.place) => {
+            Err(refusal) if whole || self.is_certain(refusal.place) => {
                 Err(ListingFault { refusal, text: self.bytes, settings, forms, first }.to_string())
             }
             _ => Err(listing_fault::of_the_length(&settings, most)),
@@ -140,15 +164,18 @@ fn named<T>(operand: &OsStr, work: impl FnOnce(&mut Progress) -> Result<T, Strin
     done.map_err(|reason| Failure::said(format!("{name}: {reason}")))
 }
 
-/// Loads a listing into a new table. Its settings are those given, and else the listing's own; where its
-/// first line proposes none, any will do, since the library then refuses the line.
+/// Loads a listing into a new table. Its settings are those given, and else the listing's own. A line of a
+/// survey line's shape has letters and k; where the name of its mirror is none, either mirror will do, since
+/// the line differs from both.
 pub fn load(operand: &OsStr, given: Given, buffer: &mut Vec<u8>) -> Result<Table, Failure> {
     named(operand, |progress| {
         let text = Text::begun(operand, buffer, progress)?;
         let forms = Forms::of(text.bytes);
-        let settings = given.or(forms.proposed().or(Settings::dna(1)));
-        let refused = |refusal| listing_fault::of_the_settings(&settings, refusal, &given);
-        let mut table = Table::new(&settings).map_err(refused)?;
+        text.check_first_shape(&forms)?;
+        let own = forms.proposed().or(Settings::dna(1));
+        let settings = given.or(own);
+        let refused = |refusal| listing_fault::of_the_settings(&settings, refusal, &given, &own);
+        let mut table = Table::new(&settings, refused)?;
         text.load_into(&mut table, &forms, None, progress)?;
         Ok(table)
     })

@@ -12,6 +12,8 @@ use wontirje::{Mirror, Refusal, Settings};
 const AGAIN: &str = "copy it again, or count its files again";
 const NO_LISTING: &str = "no survey line, so this is no listing";
 const AS_PRINTED: &str = "give a listing as wontirje count prints it";
+const CR_ALONE: &str = "its lines end in CR alone";
+const CR_TO_LF: &str = "make them end in LF, as tr '\\r' '\\n' does";
 
 /// The settings, by the names of their forms and options.
 const NAMES: [&str; 3] = ["letters", "k", "mirror"];
@@ -28,9 +30,22 @@ fn damaged(what: impl Into<String>, how: &str) -> Said {
     said(what, format!("{how}: {AGAIN}"))
 }
 
+/// Whether the bytes have these others among them, one behind the other.
+fn contains(bytes: &[u8], what: &[u8]) -> bool {
+    bytes.windows(what.len()).any(|part| part == what)
+}
+
+/// Whether a first line is several lines of a listing that end in CR alone.
+fn ends_lines_in_cr(line: &[u8]) -> bool {
+    line.starts_with(b"(survey ") && contains(line, b")\r(")
+}
+
 /// A first line that is longer than any listing's.
 pub fn of_the_first_line(text: &[u8]) -> String {
-    let advice = advice_on_the_start(text).unwrap_or(AS_PRINTED);
+    let advice = match ends_lines_in_cr(text) {
+        true => format!("{CR_ALONE}: {CR_TO_LF}"),
+        false => advice_on_the_start(text).unwrap_or(AS_PRINTED).to_string(),
+    };
     format!("its first line does not end within {FIRST} bytes, so this is no listing; {advice}")
 }
 
@@ -39,13 +54,30 @@ pub fn of_the_length(settings: &Settings, most: u64) -> String {
     format!("more than {most} bytes, which no listing has ({}); {AS_PRINTED}", described(settings))
 }
 
-/// Settings that no table has, and what of them was given.
-pub fn of_the_settings(settings: &Settings, refusal: Refusal, given: &Given) -> String {
-    let advice = match &given.options()[..] {
-        [] => AGAIN.to_string(),
-        options => format!("leave {} out to take the listing's own", options.join(" and ")),
+/// Settings that no table has, what of them was given, and the listing's own: where no table has these
+/// either, it does not help to leave an option out.
+pub fn of_the_settings(settings: &Settings, refusal: Refusal, given: &Given, own: &Settings) -> String {
+    let advice = match own.table_places() {
+        Ok(_) => format!("leave {} out to take the listing's own", given.options().join(" and ")),
+        Err(_) => AGAIN.to_string(),
     };
     format!("{}; no listing has these settings: {advice}", survey::refusal(settings, refusal))
+}
+
+/// Whether what comes next follows a total, where these lines are before it.
+pub fn is_after_the_total(before: &[u8]) -> bool {
+    let last = before.split_inclusive(|&byte| byte == b'\n').next_back();
+    last.is_some_and(|line| line.starts_with(b"(total "))
+}
+
+/// Whether a line without its end has the shape of a total.
+fn is_total(line: &[u8]) -> bool {
+    let digits = line.strip_prefix(b"(total ").and_then(|rest| rest.strip_suffix(b")"));
+    match digits.unwrap_or_default() {
+        b"0" => true,
+        [b'1'..=b'9', others @ ..] => others.iter().all(u8::is_ascii_digit),
+        _ => false,
+    }
 }
 
 /// A listing that the library refused under these settings, and what its first line proposed.
@@ -64,23 +96,21 @@ impl ListingFault<'_> {
         &self.text[..self.text.len().min(self.refusal.place as usize)]
     }
 
-    /// The line at fault with its end, if it has one; empty where it is missing.
-    fn line(&self) -> &[u8] {
-        let rest = &self.text[self.before().len()..];
-        rest.split_inclusive(|&byte| byte == b'\n').next().unwrap_or_default()
+    /// The line at fault and all that follows it, as far as it was read.
+    fn rest(&self) -> &[u8] {
+        &self.text[self.before().len()..]
     }
 
-    /// Whether the line at fault follows a total.
-    fn follows_the_total(&self) -> bool {
-        let before = self.before().split_inclusive(|&byte| byte == b'\n').next_back();
-        before.is_some_and(|line| line.starts_with(b"(total "))
+    /// The line at fault with its end, if it has one; empty where it is missing.
+    fn line(&self) -> &[u8] {
+        self.rest().split_inclusive(|&byte| byte == b'\n').next().unwrap_or_default()
     }
 
     /// The line's end where it is not the one that a listing has.
     fn of_the_end(&self) -> Option<Said> {
         let line = self.line();
         match line.strip_suffix(b"\n") {
-            None if line.starts_with(b"(total ") && line.ends_with(b")") => {
+            None if is_total(line) => {
                 Some(said("the last line does not end in LF", "put the line end behind it"))
             }
             None => Some(damaged("the last line has no end", "the listing is cut off")),
@@ -96,7 +126,7 @@ impl ListingFault<'_> {
         let Given { letters: Some(letters), k: Some(k), mirror: Some(mirror) } = self.forms.proposed() else {
             return None;
         };
-        let classes = Settings { letters, k, mirror }.classes().ok()?;
+        let classes = Settings { letters, k, mirror }.table_places().ok()?;
         Some([
             format!("(letters {})", String::from_utf8_lossy(letters)),
             format!("(k {k})"),
@@ -134,10 +164,17 @@ impl ListingFault<'_> {
     fn of_the_first_shape(&self) -> Said {
         match self.line() {
             b"" => damaged("the survey line is missing", "the listing is empty"),
-            line if !line.starts_with(b"(survey ") => {
-                said(NO_LISTING, advice_on_the_start(line).unwrap_or(AS_PRINTED))
+            line if ends_lines_in_cr(line) => said(CR_ALONE, CR_TO_LF),
+            line if line.starts_with(b"(survey ") => {
+                self.of_the_end().unwrap_or_else(|| self.of_the_survey_line())
             }
-            _ => self.of_the_end().unwrap_or_else(|| self.of_the_survey_line()),
+            line => match advice_on_the_start(line) {
+                Some(advice) => said(NO_LISTING, advice),
+                None if contains(self.text, b"\n(survey ") => {
+                    said("the survey line is not the first line", "take out what stands before it")
+                }
+                None => said(NO_LISTING, AS_PRINTED),
+            },
         }
     }
 
@@ -147,7 +184,7 @@ impl ListingFault<'_> {
         if line.starts_with(b"(file (") {
             return said("the counter program's (file ..) line follows the total", "take that line out");
         }
-        if line.starts_with(b"(survey ") {
+        if line.starts_with(b"(survey ") || contains(self.rest(), b"\n(survey ") {
             let advice = "part them into a file each, which wontirje merge adds up";
             return said("another listing follows the total", advice);
         }
@@ -162,7 +199,7 @@ impl ListingFault<'_> {
         if self.line().is_empty() {
             return damaged("the total is missing", "the listing is cut off");
         }
-        if self.follows_the_total() {
+        if is_after_the_total(self.before()) {
             return self.of_a_further_line();
         }
         self.of_the_end().unwrap_or_else(|| {
@@ -194,7 +231,10 @@ impl ListingFault<'_> {
             _ if differing.is_empty() => self.of_the_classes(&own[3]),
             None => said(
                 format!("{has}, the command line {}", list("--", &right)),
-                "leave out what differs, or count the listing's files again with it",
+                match self.forms.proposed().or(self.settings).table_places() {
+                    Ok(_) => "leave out what differs, or count the listing's files again with it",
+                    Err(_) => "no table has the listing's own: count its files again",
+                },
             ),
             Some(name) => said(
                 format!("{has}, that of {name} {}", list("", &right)),

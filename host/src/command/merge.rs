@@ -42,7 +42,7 @@ fn sum(first: &OsStr, others: &[OsString]) -> Result<Table, Failure> {
     let mut buffer = Vec::new();
     let mut sum = load(first, Given::default(), &mut buffer)?;
     say_loaded(first, &sum);
-    let mut table = Table::new(&sum.settings()).map_err(|refusal| Failure::said(refusal.to_string()))?;
+    let mut table = Table::new(&sum.settings(), |refusal| refusal.to_string()).map_err(Failure::Said)?;
     for other in others {
         load_further(other, &report::name(first), &mut table, &mut buffer)?;
         say_loaded(other, &table);

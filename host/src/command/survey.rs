@@ -1,4 +1,5 @@
-//! The settings from the command line: ACGT, k 11 and complement where nothing else is given.
+//! The settings from the command line: ACGT, k 11 and complement where neither an option nor a listing
+//! (`--from`) gives others.
 
 use crate::arguments::{Arguments, Options, Takes};
 use crate::failure::Failure;
@@ -74,8 +75,8 @@ pub fn refusal(settings: &Settings, refusal: Refusal) -> String {
     format!("refused {}: {what} ({})", refusal.number, described(settings))
 }
 
-/// Settings that the library refuses, with what to do.
-pub fn refused(settings: &Settings, refused: Refusal) -> Failure {
+/// What is wrong with settings that options gave, and what to do.
+pub fn advised(settings: &Settings, refused: Refusal) -> String {
     let advice = match refused.number {
         1 => "give --letters in capitals, each once, as in --letters ACGT",
         4 => "give a k from 1 to 31 for 4 letters (62 for 2, 39 for 3, 26 for 5, 15 for 16)",
@@ -85,5 +86,10 @@ pub fn refused(settings: &Settings, refused: Refusal) -> Failure {
         }
         _ => "see wontirje --help",
     };
-    Failure::said(format!("{}; {advice}", refusal(settings, refused)))
+    format!("{}; {advice}", refusal(settings, refused))
+}
+
+/// The failure of a command for settings that the library refuses.
+pub fn refused(settings: &Settings, refused: Refusal) -> Failure {
+    Failure::Said(advised(settings, refused))
 }

@@ -2,6 +2,7 @@
 
 use crate::failure::Failure;
 use crate::output;
+use crate::survey::described;
 use std::path::Path;
 use std::process::ExitCode;
 use wontirje::{Mirror, Refusal, Settings};
@@ -15,10 +16,16 @@ pub struct Table {
 }
 
 impl Table {
-    /// A table in which nothing is counted.
-    pub fn new(settings: &Settings) -> Result<Table, Refusal> {
-        let mut counts = vec![0; settings.table_places()?];
-        settings.clear(&mut counts)?;
+    /// A table in which nothing is counted; else why there is none. What is said of settings that the library
+    /// refuses depends on where they are from.
+    pub fn new(settings: &Settings, refused: impl Fn(Refusal) -> String) -> Result<Table, String> {
+        let places = settings.table_places().map_err(&refused)?;
+        let mut counts = Vec::new();
+        counts.try_reserve_exact(places).map_err(|_| {
+            format!("no table: out of memory ({} bytes for {})", 4 * places, described(settings))
+        })?;
+        counts.resize(places, 0);
+        settings.clear(&mut counts).map_err(&refused)?;
         let Settings { letters, k, mirror } = *settings;
         Ok(Table { letters: letters.to_vec(), k, mirror, counts })
     }

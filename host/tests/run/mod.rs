@@ -109,6 +109,12 @@ impl Folder {
         path
     }
 
+    /// Runs the command in it, so that the names of its files are short: with the first arguments, which a
+    /// test may have for all its runs, and others, and with these bytes on standard input.
+    pub fn run(&self, first: &[&str], others: &[impl AsRef<OsStr>], input: &[u8]) -> Run {
+        run_as(Command::new(WONTIRJE).current_dir(&self.0).args(first).args(others), input)
+    }
+
     /// The names in it, in order.
     pub fn names(&self) -> Vec<String> {
         let entries = fs::read_dir(&self.0).expect("the folder");
