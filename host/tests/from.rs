@@ -5,7 +5,8 @@
 mod run;
 
 use kmer_tests::draw::{write_drawn, Random};
-use kmer_tests::settings::{Settings, COMPLEMENT, REVERSAL};
+use kmer_tests::settings::{Settings, COMPLEMENT};
+use kmer_tests::tables::some_settings;
 use run::{drawn_of_either_kind, options, run, run_as, Folder, Run, WONTIRJE};
 use run::{EMPTY, EXAMPLE, LISTING, NUMBERS};
 use std::ffi::{OsStr, OsString};
@@ -76,16 +77,8 @@ fn this_years_file_is_added_to_last_years_listing() {
 fn drawn_years() {
     let mut random = Random::new(211);
     let mut refused = 0;
-    for (letters, k, mirror) in [
-        (&b"ACGT"[..], 3, COMPLEMENT),
-        (b"ACGT", 8, COMPLEMENT),
-        (b"TGCA", 5, REVERSAL),
-        (b"ACXGT", 3, COMPLEMENT),
-        (b"ACEFGHKLPS", 4, REVERSAL),
-        (b"AB", 12, COMPLEMENT),
-    ] {
-        let settings = Settings::new(letters, k, mirror);
-        for _ in 0..12 {
+    for settings in some_settings() {
+        for _ in 0..8 {
             let place = Place::new();
             for name in ["a", "b", "c", "d"] {
                 place.0.file(name, &drawn_of_either_kind(&mut random, &settings, 1500).1);

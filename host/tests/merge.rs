@@ -3,7 +3,8 @@
 mod run;
 
 use kmer_tests::draw::Random;
-use kmer_tests::settings::{Settings, COMPLEMENT, REVERSAL};
+use kmer_tests::settings::Settings;
+use kmer_tests::tables::some_settings;
 use run::{drawn_of_either_kind, options, whole_listing, Folder, Run, EMPTY, LISTING};
 use std::ffi::{OsStr, OsString};
 use std::fs;
@@ -108,16 +109,8 @@ fn parts_of_a_count() {
     let mut random = Random::new(221);
     let (mut refused, mut counted) = (0, 0);
     let names = ["a", "b", "c", "d", "e"];
-    for (letters, k, mirror) in [
-        (&b"ACGT"[..], 3, COMPLEMENT),
-        (b"ACGT", 9, COMPLEMENT),
-        (b"TGCA", 5, REVERSAL),
-        (b"ACXGT", 4, COMPLEMENT),
-        (b"ACEFGHKLPS", 4, REVERSAL),
-        (b"AB", 13, COMPLEMENT),
-    ] {
-        let settings = Settings::new(letters, k, mirror);
-        for _ in 0..8 {
+    for settings in some_settings() {
+        for _ in 0..6 {
             let place = Place::new();
             for name in names {
                 place.0.file(name, &drawn_of_either_kind(&mut random, &settings, 1500).1);

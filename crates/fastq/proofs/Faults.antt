@@ -13,14 +13,15 @@ use Rattle.lines.specs.Needs.{joined}
 use Rattle.lines.proofs.Lines.{joined-lines}
 use Rattle.lines.proofs.Texts.{text-short}
 use Rattle.settings.specs.Grounds.{Ground, groundAt, _orElse_}
-use Rattle.settings.proofs.FirstGround.{Has, none-has, place-has, then-has}
+use Rattle.settings.proofs.FirstGround.{Has, none-has, some-has, place-has, then-has}
 use Rattle.fasta.specs.File.{isLetter}
 use Rattle.fastq.specs.Fastq.{isThere, unlessAt, firstFailing, isQuality, recordFault, fastqFault}
 
-unless-at : (t : Bool) (at p : ℕ) → unlessAt t at ≡ some p → at ≡ p
+-- What a ground with a P of at most n has, the ground of a test has that fails at such a place.
+pub unless-has : (Q : Ground → Type 0) {n : ℕ} (i : ℕ) → ((p : ℕ) → p ≤ n → Q (i, p)) → (t : Bool) (at : ℕ) → at ≤ n → Has Q (groundAt i (unlessAt t at))
 unfolding unlessAt
-unless-at true at p e = absurd (let z : _≡_ {A = ℕ} 0 1 = cc in omega arith)
-unless-at false at p e = cc
+unless-has Q i q true at h = none-has Q
+unless-has Q i q false at h = some-has Q (i, at) (q at h)
 
 failing-below : (test : ℕ → Bool) (at : ℕ) (l : List ℕ) (p : ℕ) → firstFailing test at l ≡ some p → p < at + length l
 unfolding firstFailing
@@ -34,9 +35,6 @@ failing-below test at (b ∷ l) p e = go (test b) e (failing-below test (suc at)
 
 module _ (Q : Ground → Type 0) (n : ℕ) (bad-record : (p : ℕ) → p ≤ n → Q (15, p)) (stray : (p : ℕ) → p < n → Q (10, p))
     (quality-length : (p : ℕ) → p ≤ n → Q (16, p)) (quality-byte : (p : ℕ) → p < n → Q (17, p)) where
-  unless-has : (i : ℕ) → ((p : ℕ) → p ≤ n → Q (i, p)) → (t : Bool) (at : ℕ) → at ≤ n → Has Q (groundAt i (unlessAt t at))
-  unless-has i q t at h = place-has Q i (unlessAt t at) (λ p e. q p (omega (arith, unless-at t at p e)))
-
   failing-has : (i : ℕ) → ((p : ℕ) → p < n → Q (i, p)) → (test : ℕ → Bool) (at : ℕ) (l : List ℕ) → at + length l ≤ n
       → Has Q (groundAt i (firstFailing test at (textOf l)))
   failing-has i q test at l h =
@@ -54,11 +52,11 @@ module _ (Q : Ground → Type 0) (n : ℕ) (bad-record : (p : ℕ) → p ≤ n �
       let g4 = groundAt 10 (firstFailing isLetter second (textOf s)) in
       let g5 = groundAt 16 (unlessAt (eqb (length (textOf q)) (length (textOf s))) fourth) in
       let g6 = groundAt 17 (firstFailing isQuality fourth (textOf q)) in
-      then-has Q g1 (g2 orElse g3 orElse g4 orElse g5 orElse g6) (unless-has 15 bad-record (firstByteIs 64 h) at (omega arith))
-      (λ _. then-has Q g2 (g3 orElse g4 orElse g5 orElse g6) (unless-has 15 bad-record (firstByteIs 43 p) third (omega arith))
-      (λ _. then-has Q g3 (g4 orElse g5 orElse g6) (unless-has 15 bad-record (isThere q) fourth (omega arith))
+      then-has Q g1 (g2 orElse g3 orElse g4 orElse g5 orElse g6) (unless-has Q 15 bad-record (firstByteIs 64 h) at (omega arith))
+      (λ _. then-has Q g2 (g3 orElse g4 orElse g5 orElse g6) (unless-has Q 15 bad-record (firstByteIs 43 p) third (omega arith))
+      (λ _. then-has Q g3 (g4 orElse g5 orElse g6) (unless-has Q 15 bad-record (isThere q) fourth (omega arith))
       (λ _. then-has Q g4 (g5 orElse g6) (failing-has 10 stray isLetter second s (omega arith))
-      (λ _. then-has Q g5 g6 (unless-has 16 quality-length (eqb (length (textOf q)) (length (textOf s))) fourth (omega arith))
+      (λ _. then-has Q g5 g6 (unless-has Q 16 quality-length (eqb (length (textOf q)) (length (textOf s))) fourth (omega arith))
       (λ _. failing-has 17 quality-byte isQuality fourth q (omega arith))))))
 
   lines-has : (at : ℕ) (ls : List (List ℕ)) → at + length (joined ls) ≤ n → Has Q (fastqFault at ls)

@@ -7,13 +7,11 @@ use Prim.Native.Nat.{ℕ, _+_, _<_, _≤_}
 use lib.ListN.{length, drop, getD}
 use lib.Dec.{eqb, leb}
 use Rattle.lines.specs.Needs.{firstLine}
-use Rattle.settings.specs.Grounds.{Ground, groundOf, groundAt, _orElse_}
+use Rattle.settings.specs.Grounds.{Ground, groundAt, _orElse_}
 use Rattle.fasta.specs.File.{isLetter}
 use Rattle.fastq.specs.Fastq.{unlessAt, firstFailing, isQuality, recordFault}
 use Rattle.files.specs.declared.faults.Place.{Place}
 use Rattle.files.specs.declared.faults.Place.the-variants.{Nowhere, At}
-use Rattle.files.specs.declared.faults.Finding.{Finding}
-use Rattle.files.specs.declared.faults.Finding.the-variants.{Clean, Faulty}
 use Rattle.files.specs.declared.faults.Ranges.{Ranges}
 
 -- ---- bytes between two places
@@ -32,11 +30,6 @@ pub record All (test : ℕ → Bool) (file : List ℕ) (i e : ℕ) : Type 0 wher
   pub bytes : (j : ℕ) → i ≤ j → j < e → test (getD file j 0) ≡ true
 
 -- ---- records
-
--- A finding as the ground that it names.
-abbrev pub ofFinding : Finding → Option Ground
-ofFinding Clean = none
-ofFinding (Faulty f) = some (groundOf f)
 
 -- Grounds 16 and 17 of a quality text at an offset, for a sequence text of n bytes.
 unfoldable pub qualityGround : (n at : ℕ) → List ℕ → Option Ground

@@ -1,24 +1,20 @@
 // The first ground for refusing a FASTQ file: record by record, each from the places of its four lines. Searches for the end of a line and for a byte that
 // may not stand in a text take 16 bytes at a time.
+use settings::Finding;
 use settings::Refusal;
 ghost use mathlib.Core.Path.{_≡_};
 ghost use mathlib.Core.Bool.{true};
 ghost use Prim.Native.Nat.{_+_, _-_, _≤_};
 ghost use lib.ListN.{length, take, drop};
+ghost use Rattle.settings.specs.Needs.{ofFinding};
 ghost use Rattle.lines.specs.Lines.{lines};
 ghost use Rattle.fastq.specs.Fastq.{firstFailing, fastqFault};
-ghost use Rattle.files.specs.Needs.{ofPlace, ofFinding, inRanges, All, textGround, qualityGround, LinesAt, recordAt};
+ghost use Rattle.files.specs.Needs.{ofPlace, inRanges, All, textGround, qualityGround, LinesAt, recordAt};
 
 // The first place where a test of bytes fails, if there is one.
 enum Place {
     Nowhere,
     At(usize),
-}
-
-// What is found of a file or a record: no fault, or the first one.
-pub enum Finding {
-    Clean,
-    Faulty(Refusal),
 }
 
 // Two ranges of bytes, their ends included.

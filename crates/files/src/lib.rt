@@ -3,8 +3,8 @@ mod faults; // the grounds for refusing a FASTQ file
 
 use fasta::Answer;
 use fasta::Mode;
-use faults::Finding;
 use settings::Checked;
+use settings::Finding;
 use settings::Refusal;
 ghost use mathlib.Core.Path.{_≡_};
 ghost use Prim.Native.Nat.{_≤_};

@@ -1,8 +1,9 @@
--- The lines of a text: from a place on, line by line (`lines-next`); where a line ends, as `after_line` steps to it (`line-behind`); and all of them, which
--- joined are the text (`joined-lines`), and of which the last alone may lack its LF (`lines-good`). By induction over the text.
+-- The lines of a text: from a place on, line by line (`lines-next`); where a line ends, as `after_line` steps to it (`line-behind`); all of them, which
+-- joined are the text (`joined-lines`), and of which the last alone may lack its LF (`lines-good`); and a line in front of a text (`lines-of`). By induction
+-- over the text and over the line.
 use mathlib.Core.Path.{_≡_, refl, sym, ap, _∙_}
 use mathlib.Core.Bool.{Bool, true, false, cond}
-use mathlib.Core.List.{List, [], _∷_}
+use mathlib.Core.List.{List, [], _∷_, _++_, append-nil}
 use Prim.Native.Nat.{ℕ, zero, suc, _+_, _-_, _≤_, _<_}
 use native.Mathlib.Numerals.{add-one}
 use native.Mathlib.Omega.{arith}
@@ -204,3 +205,13 @@ lines-good (b ∷ bs) = go (eqb b 10) refl (lines-good bs)
     go : (t : Bool) → eqb b 10 ≡ t → Lines (lines bs) → Lines (cond t ((b ∷ []) ∷ lines bs) (onFirst b (lines bs)))
     go true e L = let same : b ≡ 10 = eqb-true b 10 e in rw same (then lf L)
     go false e L = open-onFirst b (lines bs) (eqb-false b 10 e) L
+
+-- A line that ends in LF, in front of a text, is the first of the lines, and the text gives the others; alone it is the only one.
+pub lines-of : {l : List ℕ} → Ended l → (rest : List ℕ) → lines (l ++ rest) ≡ l ∷ lines rest
+unfolding lines onFirst
+lines-of lf rest = refl
+lines-of (more {b} ne E) rest = rw (ne-eqb b 10 ne, lines-of E rest)
+
+pub lines-last : {l : List ℕ} → Ended l → lines l ≡ l ∷ []
+unfolding lines
+lines-last {l} E = ap lines (sym (append-nil l)) ∙ lines-of E []

@@ -1,28 +1,29 @@
 -- One line as the functions judge it: the texts that they write to compare with it (`total-held`, `survey-held`), the word that they read in it (`ranks-read`, `code-found`),
 -- and each ground at its test. From the laws of shapes and words of the crate loading.
-use mathlib.Core.Path.{_≡_, refl, sym, ap, subst⁻¹, _∙_}
+use mathlib.Core.Path.{_≡_, refl, sym, ap, subst, _∙_}
 use mathlib.Core.Bool.{Bool, true, false, and-false}
 use mathlib.Core.Option.{none}
-use mathlib.Core.List.{List, [], _∷_, _++_}
-use Prim.Native.Nat.{ℕ, zero, suc, _+_, _-_, _≤_, _<_, min}
+use mathlib.Core.List.{List, _++_}
+use Prim.Native.Nat.{ℕ, suc, _+_, _-_, _≤_, _<_, min}
 use native.Mathlib.Omega.{arith}
-use lib.ListN.{length, take, drop, getD, length-append, length-drop}
+use lib.ListN.{length, take, drop, length-append, length-drop}
 use lib.Seq.{take-at, length-take-le}
 use lib.Dec.{leb}
 use borrow.Author.Tests.{le-leb, lt-leb}
 use Rattle.laws.specs.Text.{bytes}
 use Rattle.settings.specs.declared.Refusal.the-variants.{BadLine, OtherSettings, BadCount}
-use Rattle.laws.proofs.Buffers.{front-is, front-fits, front-length}
 use Rattle.laws.proofs.Lists.{length-take}
 use Rattle.settings.specs.Limits.{Limits}
-use Rattle.settings.specs.RankTables.{RankTable}
+use Rattle.settings.specs.RankTables.{RankTable, rankByTable}
 use Rattle.settings.specs.Settings.{mirrorOf}
 use Rattle.settings.proofs.SettingsGrounds.{good-settings}
 use Rattle.encoding.specs.Words.{Mirror, mirror as mirrorWord, plain}
 use Rattle.encoding.specs.Codes.{code}
 use Rattle.encoding.specs.Calls.{ranksOf}
-use Rattle.words.specs.Needs.{FitWord, ranksByTable}
-use Rattle.words.proofs.LetterLoops.{ranks-below, length-ranksOf, ranks-by-table}
+use Rattle.words.specs.Needs.{FitWord, ranksBy}
+use Rattle.words.proofs.LetterLoops.{length-ranksOf}
+use Rattle.words.proofs.RanksByTable.{Bytes, take-bytes, drop-bytes, ranks-by-table}
+use Rattle.words.proofs.TwoWords.{OwnArray, as-own, own-is, own-fits, own-length, own-word}
 use Rattle.texts.specs.Decimals.{decimal}
 use Rattle.texts.specs.Needs.{Puts, top}
 use Rattle.texts.proofs.Decimals.{decimal-length}
@@ -77,36 +78,23 @@ word-part k l = let n : 7 + k - 7 ≡ k = omega arith in ap (λ (x : ℕ). take 
 pub length-take-to : (n : ℕ) (l : List ℕ) → length (take n l) ≤ n
 length-take-to n l = omega (arith, length-take n l)
 
--- The first places of an array hold the ranks of its word, as they were looked up.
+-- The first places of an array hold the ranks of its word, of k letters.
 pub record WordRanks (letters : List ℕ) (k : ℕ) (l own : List ℕ) : Type 0 where
-  pub within : Limits (length letters) k
-  pub rest : List ℕ
-  pub holds : own ≡ ranksIn letters k l ++ rest
+  pub array : OwnArray letters (wordIn k l) own
   pub long : length (wordIn k l) ≡ k
 
--- Bytes of a part of a line are bytes.
-take-bytes : (n : ℕ) (l : List ℕ) → ((i : ℕ) → getD l i 0 < 256) → (i : ℕ) → getD (take n l) i 0 < 256
-take-bytes zero l h i = omega arith
-take-bytes (suc n) [] h i = omega arith
-take-bytes (suc n) (b ∷ l) h zero = h 0
-take-bytes (suc n) (b ∷ l) h (suc i) = take-bytes n l (λ j. h (suc j)) i
-
-drop-bytes : (n : ℕ) (l : List ℕ) → ((i : ℕ) → getD l i 0 < 256) → (i : ℕ) → getD (drop n l) i 0 < 256
-drop-bytes zero l h i = h i
-drop-bytes (suc n) [] h i = omega arith
-drop-bytes (suc n) (b ∷ l) h i = drop-bytes n l (λ j. h (suc j)) i
-
-pub ranks-read : {letters table : List ℕ} (k : ℕ) (l : List ℕ) {own : List ℕ} (rest : List ℕ) → Limits (length letters) k → RankTable letters table
-    → ((i : ℕ) → getD l i 0 < 256) → 7 + k ≤ length l → own ≡ ranksByTable table (take (7 + k - 7) (drop 7 l)) ++ rest
+-- They were looked up.
+pub ranks-read : {letters table : List ℕ} (k : ℕ) (l : List ℕ) {own : List ℕ} (rest : List ℕ) → Limits (length letters) k → RankTable letters table → Bytes l
+    → 7 + k ≤ length l
+    → own ≡ ranksBy (rankByTable table) (take (7 + k - 7) (drop 7 l)) ++ rest
     → WordRanks letters k l own
-ranks-read {letters} k l rest lim T each h e =
+ranks-read {letters} k l rest lim T B h e =
     let word = take (7 + k - 7) (drop 7 l) in
-    let looked-up = ranks-by-table T word (take-bytes (7 + k - 7) (drop 7 l) (drop-bytes 7 l each)) in
+    let looked-up = ranks-by-table T word (take-bytes (7 + k - 7) (drop 7 l) (drop-bytes 7 l B)) in
+    let long = length-take-le k (drop 7 l) (omega (arith, length-drop 7 l)) in
     record {
-      within = lim;
-      rest = rest;
-      holds = e ∙ ap (λ (w : List ℕ). w ++ rest) (looked-up ∙ ap (ranksOf letters) (word-part k l));
-      long = length-take-le k (drop 7 l) (omega (arith, length-drop 7 l));
+      array = as-own letters (wordIn k l) (rw long lim) _ rest (e ∙ ap (λ (w : List ℕ). w ++ rest) (looked-up ∙ ap (ranksOf letters) (word-part k l)));
+      long = long;
     }
 
 module _ {letters : List ℕ} {k : ℕ} {l own : List ℕ} (R : WordRanks letters k l own) where
@@ -114,22 +102,16 @@ module _ {letters : List ℕ} {k : ℕ} {l own : List ℕ} (R : WordRanks letter
   size = length-ranksOf letters (wordIn k l) ∙ R .long
 
   ranks-are : take k own ≡ ranksIn letters k l
-  ranks-are = front-is (ranksIn letters k l) (R .rest) (R .holds) size
+  ranks-are = subst (λ (n : ℕ). take n own ≡ ranksIn letters k l) (R .long) (own-is (R .array))
 
   pub ranks-fit : k ≤ length own
-  ranks-fit = front-fits (ranksIn letters k l) (R .rest) (R .holds) size
+  ranks-fit = subst (λ (n : ℕ). n ≤ length own) (R .long) (own-fits (R .array))
 
   pub ranks-length : length (take k own) ≡ k
-  ranks-length = front-length (ranksIn letters k l) (R .rest) (R .holds) size
+  ranks-length = subst (λ (n : ℕ). length (take n own) ≡ n) (R .long) (own-length (R .array))
 
   pub ranks-word : FitWord (length letters) (take k own)
-  ranks-word =
-      subst⁻¹ (FitWord (length letters)) ranks-are
-      (record {
-        two = R .within .two;
-        ranks = ranks-below letters (wordIn k l) (omega (arith, R .within .two));
-        small = rw size (R .within .small);
-      })
+  ranks-word = subst (λ (n : ℕ). FitWord (length letters) (take n own)) (R .long) (own-word (R .array))
 
   -- What is found of them is the line's.
   module _ (mirror : ℕ) {m : Mirror} (m-is : m ≡ mirrorOf mirror) where

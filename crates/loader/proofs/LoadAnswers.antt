@@ -1,16 +1,16 @@
 -- What a load answers and leaves, from its steps: the text's first ground or the counts set from zeros (`text-refused`, `counts-set`), in the first places of a
 -- table (`loaded`); and the grounds before the text's at each test. From the laws of a clearing's grounds and the definitions of loading.
 use mathlib.Core.Path.{_≡_, sym, ap, _∙_}
-use mathlib.Core.Option.{Option, none, some}
+use mathlib.Core.Option.{none, some}
 use mathlib.Core.List.{List, [], _++_, append-nil}
 use Prim.Native.Nat.{ℕ, _<_, _≤_}
 use native.Mathlib.Omega.{arith}
-use lib.ListN.{length, take, drop, replicate, length-replicate, drop-of-length-le, take-append-drop}
+use lib.ListN.{length, take, drop, replicate, length-replicate, drop-of-length-le}
 use lib.Seq.{length-take-le}
 use Rattle.settings.specs.declared.Settings.{Settings}
-use Rattle.settings.specs.Grounds.{Ground, Outcome, given, refused, outcome, Overwrites}
+use Rattle.settings.specs.Grounds.{Ground, Outcome, given, refused, outcome}
 use Rattle.settings.specs.Settings.{settingsGround, settingsOf}
-use Rattle.settings.proofs.Outcomes.{kept-by, set-by}
+use Rattle.settings.proofs.Outcomes.{kept-by, set-by, prefix-overwritten}
 use Rattle.settings.proofs.SettingsGrounds.{known}
 use Rattle.lines.specs.Lines.{lines}
 use Rattle.tally.specs.Table.{classCount}
@@ -47,19 +47,6 @@ module _ (letters : List ℕ) (k m : ℕ) (text counts : List ℕ) where
         rw size (set-by (textFault letters k m text) (classCount letters k m) (loadedCounts letters k m text) counts counts′ clean is)
 
 -- ---- in the first places of a table
-
--- What overwrites the first n places of a buffer, with n places, overwrites the buffer.
-prefix-overwritten : (g : Option Ground) (n : ℕ) (places t : List ℕ) {answer : Outcome ℕ} {new : List ℕ} → length places ≡ n → n ≤ length t
-    → Overwrites g n places (take n t) answer new → Overwrites g n places t answer (new ++ drop n t)
-prefix-overwritten none n places t {new = new} size long O =
-    let all : length (take n t) ≤ length places = omega (arith, length-take-le n t long) in
-    let nothing-left : drop (length places) (take n t) ≡ [] = drop-of-length-le (take n t) all in
-    record {
-      answers = O .answers;
-      leaves = ap (λ (l : List ℕ). l ++ drop n t) (O .leaves ∙ ap (λ (l : List ℕ). places ++ l) nothing-left ∙ append-nil places) ∙ rw size;
-    }
-prefix-overwritten (some f) n places t size long O =
-    record { answers = O .answers; leaves = ap (λ (l : List ℕ). l ++ drop n t) (O .leaves) ∙ take-append-drop n t }
 
 -- The first places of a table, one a class, are counts that may be loaded.
 pub for-table : (letters : List ℕ) (k m : ℕ) (t : List ℕ) (st : Settings) → given st ≡ outcome (settingsGround letters k m) (settingsOf letters k m)

@@ -1,11 +1,11 @@
 -- What functions ask of each other; no sentence of document 02 rests on it.
 use mathlib.Core.Path.{_≡_}
 use mathlib.Core.Bool.{true, false}
-use mathlib.Core.Option.{Option, none, some}
+use mathlib.Core.Option.{none, some}
 use mathlib.Core.List.{List}
 use Prim.Native.Nat.{ℕ, _*_, _≤_}
 use lib.ListN.{length}
-use Rattle.settings.specs.Grounds.{Ground, groundOf, Outcome, Overwrites}
+use Rattle.settings.specs.Grounds.{groundOf, Outcome, Overwrites}
 use Rattle.settings.specs.Settings.{settingsGround}
 use Rattle.tally.specs.Table.{classCount}
 use Rattle.loading.specs.Shapes.{isCountLine, isTotalLine}
@@ -14,8 +14,6 @@ use Rattle.loading.specs.declared.Next.the-variants.{Survey, CountOrTotal, Noth
 use Rattle.loading.specs.Loading.{nextAfter, lineFault, textFault, loadedCounts}
 use Rattle.loader.specs.declared.Step.{Step}
 use Rattle.loader.specs.declared.Step.the-variants.{On, Fault}
-use Rattle.loader.specs.declared.Verdict.{Verdict}
-use Rattle.loader.specs.declared.Verdict.the-variants.{Clean, Faulty}
 
 -- Good settings with few enough classes for a table.
 pub record ForTable (letters : List ℕ) (k mirror : ℕ) : Type 0 where
@@ -37,11 +35,6 @@ pub record ClassLine (letters : List ℕ) (k : ℕ) (l : List ℕ) : Type 0 wher
 abbrev pub StepIs : (letters : List ℕ) (k mirror : ℕ) → Next → (at : ℕ) → List ℕ → Step → Type 0
 StepIs letters k m next at l (On after) = (lineFault letters k m next at l ≡ none) × (after ≡ nextAfter letters k m next l) × Bounded after
 StepIs letters k m next at l (Fault f) = lineFault letters k m next at l ≡ some (groundOf f)
-
--- A verdict as the ground that it names.
-abbrev pub ofVerdict : Verdict → Option Ground
-ofVerdict Clean = none
-ofVerdict (Faulty f) = some (groundOf f)
 
 -- A text without a ground, and counts of all classes.
 pub record SetsCounts (text letters : List ℕ) (k mirror : ℕ) (counts : List ℕ) : Type 0 where

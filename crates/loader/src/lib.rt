@@ -5,15 +5,17 @@ mod judge; // one line of a listing
 use loading::Next;
 use settings::Checked;
 use settings::Filling;
+use settings::Finding;
 use settings::Refusal;
 ghost use mathlib.Core.Path.{_≡_};
 ghost use lib.ListN.{length, drop};
 ghost use Rattle.lines.specs.Lines.{lines};
 ghost use Rattle.settings.specs.Grounds.{ofFilling};
+ghost use Rattle.settings.specs.Needs.{ofFinding};
 ghost use Rattle.settings.specs.RankTables.{RankTable};
 ghost use Rattle.tally.specs.Table.{classCount};
 ghost use Rattle.loading.specs.Loading.{missing, textFault, loadedFrom, Loads};
-ghost use Rattle.loader.specs.Needs.{ForTable, ofVerdict, SetsCounts, LoadsCounts};
+ghost use Rattle.loader.specs.Needs.{ForTable, SetsCounts, LoadsCounts};
 
 // What a line is judged to be: passed, with what belongs after it; or at fault.
 pub enum Step {
@@ -21,20 +23,14 @@ pub enum Step {
     Fault(Refusal),
 }
 
-// What a text is judged to be: a listing; or at fault, by its first ground.
-pub enum Verdict {
-    Clean,
-    Faulty(Refusal),
-}
-
 // The text's end, where a line may be missing.
-fn at_end(next: Next, at: usize) -> Verdict
-    ensures { λ r. ⌜ ofVerdict r ≡ missing next at ⌝ }
+fn at_end(next: Next, at: usize) -> Finding
+    ensures { λ r. ⌜ ofFinding r ≡ missing next at ⌝ }
 {
     match next {
-        Next::Survey => Verdict::Faulty(Refusal::BadLine(at)),
-        Next::CountOrTotal(_, _) => Verdict::Faulty(Refusal::BadLine(at)),
-        Next::Nothing => Verdict::Clean,
+        Next::Survey => Finding::Faulty(Refusal::BadLine(at)),
+        Next::CountOrTotal(_, _) => Finding::Faulty(Refusal::BadLine(at)),
+        Next::Nothing => Finding::Clean,
     }
 }
 
@@ -46,9 +42,9 @@ fn text_fault(
     k: usize,
     mirror: u64,
     classes: usize,
-) -> Verdict
+) -> Finding
     requires { ⌜ ForTable (now letters) k mirror × (classes ≡ classCount (now letters) k mirror) × RankTable (now letters) (now ranks) ⌝ }
-    ensures { λ r. ⌜ ofVerdict r ≡ textFault (now (letters .entry)) k mirror (now (text .entry)) ⌝ }
+    ensures { λ r. ⌜ ofFinding r ≡ textFault (now (letters .entry)) k mirror (now (text .entry)) ⌝ }
 {
     let mut next = Next::Survey;
     let mut at: usize = 0;
@@ -56,7 +52,7 @@ fn text_fault(
         let to = lines::after_line(text, at);
         let line = &text[at..to];
         match judge::judge_line(line, at, letters, ranks, k, mirror, classes, next) {
-            Step::Fault(f) => return Verdict::Faulty(f),
+            Step::Fault(f) => return Finding::Faulty(f),
             Step::On(after) => next = after,
         }
         at = to;
@@ -101,8 +97,8 @@ fn load_counts(letters: &[u8], k: usize, mirror: u64, counts: &mut [u32], text: 
     let n = counts.len();
     let ranks = settings::rank_table(letters);
     match text_fault(text, letters, &ranks, k, mirror, n) {
-        Verdict::Faulty(f) => Filling::Unfilled(f),
-        Verdict::Clean => {
+        Finding::Faulty(f) => Filling::Unfilled(f),
+        Finding::Clean => {
             counts::set_zero(counts, n);
             set_counts(text, letters, &ranks, k, mirror, counts);
             Filling::Filled(n)

@@ -11,7 +11,7 @@ use Rattle.encoding.specs.Words.{mirrorRank, mirror, plain, canonical}
 use Rattle.encoding.specs.Codes.{pairRank, digits, differingPair, shift, oddShift, codeOfCanonical, code}
 use Rattle.encoding.specs.Calls.{ranksOf}
 use Rattle.survey.specs.Grammar.{spelt}
-use Rattle.survey.specs.Reading.{startsWith, stretch, valueByte, sized, mirrorNumber, numberOf, formOf, formFrom, formAt, nextForm}
+use Rattle.survey.specs.Reading.{startsWith, stretch, valueByte, sized, mirrorNumber, numberOf, formOf, formFrom, formAt, nextForm, inOrder}
 use Rattle.tally.specs.Table.{tooMany, clearGround}
 use Rattle.tally.specs.Book.{sameWord}
 use Rattle.texts.specs.Decimals.{decimalFrom, decimal}
@@ -19,7 +19,7 @@ use Rattle.lines.specs.Lines.{onFirst, lines}
 use Rattle.fastq.specs.Fastq.{unlessAt}
 use Rattle.survey.specs.Line.{surveyLine}
 use Rattle.listing.specs.Listing.{totalLine}
-use Rattle.loading.specs.Shapes.{allDigits, isNumber, ofLetters, isCountLine, isTotalLine, isClassesEnd, formPosition, formEnd, classesLast, isSurveyLine}
+use Rattle.loading.specs.Shapes.{allDigits, isNumber, ofLetters, isCountLine, isTotalLine, isClassesEnd, classesLast, isSurveyLine}
 use Rattle.loading.specs.Loading.{goodCount, nextAfter, lineFault, loadFault, loadGround, loadedFrom, loadedCounts}
 
 -- The ground for refusing a text, with a table of so many places, and its counts, under ACGT, 2, complement. A case that unfolds one computes with all that
@@ -28,7 +28,7 @@ unfoldable groundFor : (room : ℕ) → List ℕ → Option Ground
 unfolding isCapital isIn differentCapitals goodLetters capitalOf placeFrom readsUAsT readAs isOdd halfUp classes badSize settingsGround
     mirrorRank mirror plain canonical pairRank digits differingPair shift oddShift codeOfCanonical code ranksOf spelt
     startsWith stretch valueByte sized mirrorNumber numberOf formOf formFrom formAt nextForm tooMany clearGround sameWord decimalFrom decimal totalLine
-    onFirst lines unlessAt allDigits isNumber ofLetters isCountLine isTotalLine isClassesEnd formPosition formEnd classesLast isSurveyLine surveyLine
+    onFirst lines unlessAt allDigits isNumber ofLetters isCountLine isTotalLine isClassesEnd inOrder classesLast isSurveyLine surveyLine
     goodCount nextAfter lineFault loadFault loadGround
 groundFor room text = loadGround (bytes "ACGT") 2 1 room text
 

@@ -1,7 +1,6 @@
 -- What a refused load tells: its number is one of 1, 2, 4, 6, 7, 20, 21 and 22 (`load-numbers`), and the P of 20, 21 and 22 is at most the text's length
 -- (`load-place`). From the definitions of a load's grounds, line by line (`text-has`).
 use mathlib.Core.Path.{refl, ap}
-use mathlib.Core.Bool.{Bool, true, false}
 use mathlib.Core.List.{List, [], _∷_}
 use Prim.Native.Nat.{ℕ, _+_, _≤_}
 use native.Mathlib.Omega.{arith}
@@ -14,6 +13,7 @@ use Rattle.lines.specs.Lines.{lines}
 use Rattle.lines.specs.Needs.{joined}
 use Rattle.lines.proofs.Lines.{joined-lines}
 use Rattle.fastq.specs.Fastq.{unlessAt}
+use Rattle.fastq.proofs.Faults.{unless-has}
 use Rattle.survey.specs.Line.{surveyLine}
 use Rattle.tally.specs.Table.{clearGround}
 use Rattle.tally.proofs.RefusalNumbers.{clearNumbers, clear-numbers}
@@ -24,20 +24,15 @@ use Rattle.loading.specs.Loading.{goodCount, Next, Survey, CountOrTotal,
 -- What each ground of a text of n bytes has, its first ground has.
 module _ (letters : List ℕ) (k m : ℕ) (Q : Ground → Type 0) (n : ℕ) (bad-line : (p : ℕ) → p ≤ n → Q (20, p)) (other-settings : (p : ℕ) → p ≤ n → Q (21, p))
     (bad-count : (p : ℕ) → p ≤ n → Q (22, p)) where
-  unless-has : (i : ℕ) → ((p : ℕ) → p ≤ n → Q (i, p)) → (t : Bool) (at : ℕ) → at ≤ n → Has Q (groundAt i (unlessAt t at))
-  unfolding unlessAt
-  unless-has i q true at h = none-has Q
-  unless-has i q false at h = some-has Q (i, at) (q at h)
-
   line-has : (next : Next) (at : ℕ) (l : List ℕ) → at ≤ n → Has Q (lineFault letters k m next at l)
   unfolding lineFault
   line-has Survey at l h =
-      then-has Q (groundAt 20 (unlessAt (isSurveyLine l) at)) _ (unless-has 20 bad-line (isSurveyLine l) at h)
-      (λ _. unless-has 21 other-settings (sameText l (surveyLine letters k m)) at h)
+      then-has Q (groundAt 20 (unlessAt (isSurveyLine l) at)) _ (unless-has Q 20 bad-line (isSurveyLine l) at h)
+      (λ _. unless-has Q 21 other-settings (sameText l (surveyLine letters k m)) at h)
   line-has (CountOrTotal low sum) at l h =
-      by-test (Has Q) (isTotalLine l) (λ _. unless-has 22 bad-count (sameText l (totalLine sum)) at h)
-      (λ _. then-has Q (groundAt 20 (unlessAt (isCountLine letters k l) at)) _ (unless-has 20 bad-line (isCountLine letters k l) at h)
-      (λ _. unless-has 22 bad-count (goodCount letters k m low l) at h))
+      by-test (Has Q) (isTotalLine l) (λ _. unless-has Q 22 bad-count (sameText l (totalLine sum)) at h)
+      (λ _. then-has Q (groundAt 20 (unlessAt (isCountLine letters k l) at)) _ (unless-has Q 20 bad-line (isCountLine letters k l) at h)
+      (λ _. unless-has Q 22 bad-count (goodCount letters k m low l) at h))
   line-has Nothing at l h = some-has Q (20, at) (bad-line at h)
 
   missing-has : (next : Next) (at : ℕ) → at ≤ n → Has Q (missing next at)

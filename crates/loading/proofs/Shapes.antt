@@ -1,6 +1,6 @@
 -- The line of a class and the total: as we print them each is one line and has its shape, and just the lines that we print for some word and number have it
 -- (`count-shaped`, `total-shaped`). From the laws of numbers in decimal.
-use mathlib.Core.Path.{_≡_, refl, ap, _∙_}
+use mathlib.Core.Path.{_≡_, refl, ap, subst, _∙_}
 use mathlib.Core.Bool.{true, false, _&&_, and-eq-true-iff}
 use mathlib.Core.Logic.{_↔_}
 use mathlib.Core.List.{List, _++_, append-assoc}
@@ -12,6 +12,7 @@ use lib.Dec.{eqb}
 use borrow.Author.Tests.{eqb-true, eq-eqb}
 use Rattle.laws.specs.Text.{bytes}
 use Rattle.settings.specs.Settings.{isIn}
+use Rattle.lines.proofs.Lines.{Ended}
 use Rattle.texts.specs.Decimals.{decimal}
 use Rattle.survey.specs.Grammar.{spelt}
 use Rattle.tally.specs.Book.{sameWord}
@@ -19,7 +20,7 @@ use Rattle.tally.proofs.WordLists.{same-word, word-same}
 use Rattle.listing.specs.Listing.{countLine, totalLine}
 use Rattle.loading.specs.Shapes.{sameText, inner, isNumber, ofLetters, wordIn, digitsIn, countShape, isCountLine, isTotalLine}
 use Rattle.loading.specs.Claims.{CountShape, TotalShape}
-use Rattle.loading.proofs.Lines.{Line, past}
+use Rattle.loading.proofs.Lines.{ended-by, past}
 use Rattle.loading.proofs.Numbers.{number-is-decimal, decimal-is-number, decimal-no-lf}
 
 -- What stands between a front and a back of these lengths.
@@ -77,14 +78,12 @@ count-shaped letters k l = (
   λ S. rw (S .line) (count-shape k (S .word) (decimal (S .n)) (S .long) letters (S .letters-of) (decimal-is-number (S .n) .0)),
 )
 
-pub count-one-line : (word : List ℕ) (n : ℕ) → isIn 10 word ≡ false → Line (countLine word n)
+pub count-one-line : (word : List ℕ) (n : ℕ) → isIn 10 word ≡ false → Ended (countLine word n)
 unfolding countLine isIn
 count-one-line word n e =
-    record {
-      front = bytes "(count " ++ (word ++ (bytes " " ++ (decimal n ++ bytes ")")));
-      is = simp append-assoc;
-      no-lf = rw (past 10 word (bytes " " ++ (decimal n ++ bytes ")")) e, past 10 (decimal n) (bytes ")") (decimal-no-lf n));
-    }
+    let front = bytes "(count " ++ (word ++ (bytes " " ++ (decimal n ++ bytes ")"))) in
+    let is : front ++ bytes "\n" ≡ countShape word (decimal n) = simp append-assoc in
+    subst Ended is (ended-by front (rw (past 10 word (bytes " " ++ (decimal n ++ bytes ")")) e, past 10 (decimal n) (bytes ")") (decimal-no-lf n))))
 
 -- ---- the last line
 
@@ -108,11 +107,9 @@ total-shaped l = (
   λ T. rw (T .line) (total-shape (T .n)),
 )
 
-pub total-one-line : (n : ℕ) → Line (totalLine n)
+pub total-one-line : (n : ℕ) → Ended (totalLine n)
 unfolding totalLine isIn
 total-one-line n =
-    record {
-      front = bytes "(total " ++ (decimal n ++ bytes ")");
-      is = simp append-assoc;
-      no-lf = rw (past 10 (decimal n) (bytes ")") (decimal-no-lf n));
-    }
+    let front = bytes "(total " ++ (decimal n ++ bytes ")") in
+    let is : front ++ bytes "\n" ≡ bytes "(total " ++ (decimal n ++ bytes ")\n") = simp append-assoc in
+    subst Ended is (ended-by front (rw (past 10 (decimal n) (bytes ")") (decimal-no-lf n))))

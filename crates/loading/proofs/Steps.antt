@@ -21,10 +21,10 @@ use Rattle.tally.proofs.Classes.{place-below}
 use Rattle.tally.proofs.WordLists.{same-word, word-same}
 use Rattle.texts.specs.Decimals.{decimal}
 use Rattle.listing.specs.Listing.{countLine, totalLine}
+use Rattle.lines.proofs.Lines.{Ended}
 use Rattle.fastq.specs.Fastq.{unlessAt}
 use Rattle.loading.specs.Shapes.{sameText, wordIn, countShape, isCountLine, isTotalLine}
 use Rattle.loading.specs.Loading.{ranksIn, codeIn, countIn, goodCount, CountOrTotal, Nothing, nextAfter, lineFault, loadFault, loadedFrom}
-use Rattle.loading.proofs.Lines.{Line}
 use Rattle.loading.proofs.Numbers.{decimal-is-number}
 use Rattle.loading.proofs.Words.{word-is, canonical-text, text-canonical}
 use Rattle.loading.proofs.Shapes.{word-in, digits-in, count-shape, count-no-total, count-parts, count-one-line, total-shape}
@@ -68,7 +68,7 @@ module _ (letters : List ℕ) (k m : ℕ) (good : settingsGround letters k m ≡
     pub passed : goodCount letters k m low l ≡ true
     pub code : codeIn letters k m l ≡ q
     pub count : countIn k l ≡ n
-    pub one-line : Line l
+    pub one-line : Ended l
 
   pub printed-count : (low q n : ℕ) → low ≤ q → q < classCount letters k m → 1 ≤ n → n ≤ 4294967295
       → PrintedCount low q n (countLine (wordBytes letters k m q) n)

@@ -8,28 +8,29 @@ use mathlib.Core.List.{List, [], _∷_, _++_, append-assoc, append-nil, append-c
 use Prim.Native.Nat.{ℕ, zero, suc, _+_}
 use native.Mathlib.Omega.{arith}
 use lib.ListN.{take, drop}
-use lib.Dec.{eqb}
 use Rattle.laws.specs.Text.{bytes}
 use Rattle.laws.proofs.Tests.{by-test}
 use Rattle.settings.specs.Settings.{isIn, settingsGround, settingsOf}
 use Rattle.settings.proofs.SettingsGrounds.{good-settings}
+use Rattle.lines.proofs.Lines.{Ended}
 use Rattle.texts.specs.Decimals.{decimal}
+use Rattle.survey.specs.declared.Name.{Name}
 use Rattle.survey.specs.declared.Name.the-variants.{Letters, K, Mirror}
 use Rattle.survey.specs.declared.Form.{Form}
 use Rattle.survey.specs.declared.Form.the-variants.{Of, NoForm}
 use Rattle.survey.specs.Forms.{form, settingsForms, unclosed, lineOf}
 use Rattle.survey.specs.Line.{mirrorName, printedForms, surveyLine}
 use Rattle.survey.specs.Grammar.{LettersText, KText, MirrorText, spelt}
-use Rattle.survey.specs.Reading.{startsWith, formAt, nextForm}
+use Rattle.survey.specs.Reading.{startsWith, formAt, nextForm, inOrder}
 use Rattle.survey.proofs.TextLaws.{starts-at}
 use Rattle.survey.proofs.FormLaws.{opening, flat, flat-forms, flat-of, FormRead, FormGood, form-good}
 use Rattle.survey.proofs.LineThere.{row-there, one-row}
 use Rattle.survey.proofs.OneLine.{k-spelt, mirror-named}
 use Rattle.survey.proofs.Written.{values-good, printed-line}
 use Rattle.tally.proofs.WordLists.{same-word, word-same}
-use Rattle.loading.specs.Shapes.{sameText, inner, isNumber, isClassesEnd, formPosition, formEnd, classesLast, isSurveyLine}
+use Rattle.loading.specs.Shapes.{sameText, inner, isNumber, isClassesEnd, classesLast, isSurveyLine}
 use Rattle.loading.specs.Claims.{SurveyShape}
-use Rattle.loading.proofs.Lines.{Line, past}
+use Rattle.loading.proofs.Lines.{ended-by, past}
 use Rattle.loading.proofs.Numbers.{number-is-decimal, decimal-is-number, decimal-no-lf}
 use Rattle.loading.proofs.Words.{letters-no-lf}
 use Rattle.loading.proofs.Shapes.{inner-is}
@@ -57,7 +58,7 @@ survey-there : (l digits : List ℕ) {letters kText mirrorText : List ℕ} {k mi
     → isNumber digits ≡ true
     → l ≡ unclosed (settingsForms letters kText mirrorText) ++ (bytes " (classes " ++ (digits ++ bytes "))\n"))
     → isSurveyLine l ≡ true
-unfolding isSurveyLine classesLast formPosition formEnd startsWith
+unfolding isSurveyLine classesLast inOrder startsWith
 survey-there l digits good-letters good-k good-mirror n e =
     let r = row-there l Letters K Mirror (good-letters, refl) good-k good-mirror e in
     let started : startsWith (bytes "(survey ") l ≡ true = rw e in
@@ -76,17 +77,20 @@ shape-found l S =
 
 -- ---- to the grammar
 
--- Form by form, as they are read.
+-- Form by form, as they are read; of the 27 rows of three names one is in order.
 module _ (l : List ℕ) (opened : startsWith (bytes "(survey ") l ≡ true) where
-  third-read : {f n v g m w : ℕ} → FormRead l 8 Letters f n v → startsWith (bytes ") ") (drop (f + n) l) ≡ true → FormRead l (f + n + 2) K g m w
-      → startsWith (bytes ") ") (drop (g + m) l) ≡ true → (c : Form) → FormGood l (g + m + 2) c
-      → (eqb (formPosition c) 3 && isClassesEnd (drop (formEnd c) l)) ≡ true
+  row-read : (a b c : Name) {f n v g m w h o x : ℕ} → FormRead l 8 a f n v → startsWith (bytes ") ") (drop (f + n) l) ≡ true → FormRead l (f + n + 2) b g m w
+      → startsWith (bytes ") ") (drop (g + m) l) ≡ true → FormRead l (g + m + 2) c h o x
+      → (inOrder a b c && isClassesEnd (drop (h + o) l)) ≡ true
       → SurveyShape l
-  unfolding formPosition formEnd
-  third-read A p B q NoForm C e = absurd (false≢true e)
-  third-read A p B q (Of Letters h o x) C e = absurd (false≢true e)
-  third-read A p B q (Of K h o x) C e = absurd (false≢true e)
-  third-read {f} {n} {v} {g} {m} {w} A p B q (Of Mirror h o x) C e =
+  unfolding inOrder
+  row-read K b c A p B q C e = absurd (false≢true e)
+  row-read Mirror b c A p B q C e = absurd (false≢true e)
+  row-read Letters Letters c A p B q C e = absurd (false≢true e)
+  row-read Letters Mirror c A p B q C e = absurd (false≢true e)
+  row-read Letters K Letters A p B q C e = absurd (false≢true e)
+  row-read Letters K K A p B q C e = absurd (false≢true e)
+  row-read Letters K Mirror {f} {n} {v} {g} {m} {w} {h} {o} {x} A p B q C e =
       let P = starts-at _ l (f + n) p in
       let Q = starts-at _ l (g + m) q in
       let (end, number) = classes-read (drop (h + o) l) e in
@@ -111,27 +115,28 @@ module _ (l : List ℕ) (opened : startsWith (bytes "(survey ") l ≡ true) wher
             ∙ sym (line-parts (take n (drop f l)) (take m (drop g l)) (take o (drop h l)) digits);
       }
 
-  second-read : {f n v : ℕ} → FormRead l 8 Letters f n v → startsWith (bytes ") ") (drop (f + n) l) ≡ true → (b : Form) → FormGood l (f + n + 2) b
-      → (eqb (formPosition b) 2 && (eqb (formPosition (nextForm l b)) 3 && isClassesEnd (drop (formEnd (nextForm l b)) l))) ≡ true
+  third-read : {a b : Name} {f n v g m w : ℕ} → FormRead l 8 a f n v → startsWith (bytes ") ") (drop (f + n) l) ≡ true → FormRead l (f + n + 2) b g m w
+      → startsWith (bytes ") ") (drop (g + m) l) ≡ true → (c : Form) → FormGood l (g + m + 2) c
+      → classesLast l (Of a f n v) (Of b g m w) c ≡ true
       → SurveyShape l
-  unfolding formPosition nextForm
+  unfolding classesLast
+  third-read A p B q NoForm C e = absurd (false≢true e)
+  third-read {a} {b} A p B q (Of c h o x) C e = row-read a b c A p B q C e
+
+  second-read : {a : Name} {f n v : ℕ} → FormRead l 8 a f n v → startsWith (bytes ") ") (drop (f + n) l) ≡ true → (b : Form) → FormGood l (f + n + 2) b
+      → classesLast l (Of a f n v) b (nextForm l b) ≡ true
+      → SurveyShape l
+  unfolding classesLast nextForm
   second-read A p NoForm B e = absurd (false≢true e)
-  second-read A p (Of Letters g m w) B e = absurd (false≢true e)
-  second-read A p (Of Mirror g m w) B e = absurd (false≢true e)
-  second-read A p (Of K g m w) B e =
-      by-test (λ (c : Form). (eqb (formPosition c) 3 && isClassesEnd (drop (formEnd c) l)) ≡ true → SurveyShape l)
-      (startsWith (bytes ") ") (drop (g + m) l))
+  second-read {a} {f} {n} {v} A p (Of b g m w) B e =
+      by-test (λ (c : Form). classesLast l (Of a f n v) (Of b g m w) c ≡ true → SurveyShape l) (startsWith (bytes ") ") (drop (g + m) l))
       (λ q. third-read A p B q (formAt l (g + m + 2)) (form-good l (g + m + 2))) (λ q x. absurd (false≢true x)) e
 
   first-read : (a : Form) → FormGood l 8 a → classesLast l a (nextForm l a) (nextForm l (nextForm l a)) ≡ true → SurveyShape l
-  unfolding classesLast formPosition nextForm
+  unfolding classesLast nextForm
   first-read NoForm A e = absurd (false≢true e)
-  first-read (Of K f n v) A e = absurd (false≢true e)
-  first-read (Of Mirror f n v) A e = absurd (false≢true e)
-  first-read (Of Letters f n v) A e =
-      by-test
-      (λ (b : Form). (eqb (formPosition b) 2 && (eqb (formPosition (nextForm l b)) 3 && isClassesEnd (drop (formEnd (nextForm l b)) l))) ≡ true → SurveyShape l)
-      (startsWith (bytes ") ") (drop (f + n) l))
+  first-read (Of a f n v) A e =
+      by-test (λ (b : Form). classesLast l (Of a f n v) b (nextForm l b) ≡ true → SurveyShape l) (startsWith (bytes ") ") (drop (f + n) l))
       (λ p. second-read A p (formAt l (f + n + 2)) (form-good l (f + n + 2))) (λ p x. absurd (false≢true x)) e
 
 shape-read : (l : List ℕ) → isSurveyLine l ≡ true → SurveyShape l
@@ -159,21 +164,18 @@ module _ (letters : List ℕ) (k m : ℕ) (good : settingsGround letters k m ≡
       let n = settingsOf letters k m .classes in
       survey-there (surveyLine letters k m) (decimal n) (P .letters-good) (P .k-good) (P .mirror-good) (decimal-is-number n .0) (printed-line letters k m)
 
-  pub survey-one-line : Line (surveyLine letters k m)
+  pub survey-one-line : Ended (surveyLine letters k m)
   unfolding surveyLine isIn
   survey-one-line =
-      record {
-        front = lineOf (printedForms letters k m ++ (form (bytes "classes") (decimal (settingsOf letters k m .classes)) ∷ []));
-        is = refl;
-        no-lf =
-            simp (append-assoc, append-nil)
-            (rw (
-              past 10 letters _ (letters-no-lf letters k m good),
-              past 10 (decimal k) _ (decimal-no-lf k),
-              past 10 (mirrorName m) _ (mirror-no-lf m),
-              past 10 (decimal (settingsOf letters k m .classes)) _ (decimal-no-lf (settingsOf letters k m .classes)),
-            ));
-      }
+      let n = settingsOf letters k m .classes in
+      ended-by (lineOf (printedForms letters k m ++ (form (bytes "classes") (decimal n) ∷ [])))
+      (simp (append-assoc, append-nil)
+      (rw (
+        past 10 letters _ (letters-no-lf letters k m good),
+        past 10 (decimal k) _ (decimal-no-lf k),
+        past 10 (mirrorName m) _ (mirror-no-lf m),
+        past 10 (decimal n) _ (decimal-no-lf n),
+      )))
 
   -- 21, "when the survey line differs from the settings or their number of classes": a line of the shape is the line that is printed under the settings, byte by
   -- byte, exactly where its letters, k, mirror and number of classes are theirs.

@@ -20,7 +20,7 @@ use Rattle.fasta.specs.declared.Numbers.{Numbers}
 use Rattle.fastq.specs.Fastq.{unlessAt}
 use Rattle.lines.specs.Lines.{lines}
 use Rattle.lines.specs.Needs.{joined}
-use Rattle.lines.proofs.Lines.{joined-lines}
+use Rattle.lines.proofs.Lines.{lines-of, lines-last, joined-lines}
 use Rattle.survey.specs.Line.{surveyLine}
 use Rattle.tally.specs.Table.{classCount, placeOf, clearGround, Call}
 use Rattle.tally.specs.Demand.{sum, counts, Agrees, TableCalls, Kept}
@@ -34,7 +34,6 @@ use Rattle.listing.proofs.Lengths.{SmallCounts}
 use Rattle.loading.specs.Shapes.{sameText, isTotalLine, isSurveyLine}
 use Rattle.loading.specs.Loading.{codeIn, countIn, Survey, CountOrTotal, nextAfter, lineFault, loadFault, loadGround, loadedFrom, loadedCounts, loadedBook, Loads}
 use Rattle.loading.specs.Claims.{ListingOfCounts}
-use Rattle.loading.proofs.Lines.{lines-of, lines-last}
 use Rattle.loading.proofs.Shapes.{total-one-line}
 use Rattle.loading.proofs.SurveyShapes.{survey-shape, survey-one-line}
 use Rattle.loading.proofs.Steps.{passes, printed-count, count-passed, count-set, total-passed, total-sets-nothing, total-read, count-read}
@@ -93,7 +92,7 @@ module _ (letters : List ℕ) (k m : ℕ) where
     unfolding countLines sum
     taken low q s at u [] rises whole long small =
         let none-more : s + 0 ≡ s = omega arith in
-        let one = lines-last (totalLine s) (total-one-line s) in
+        let one = lines-last (total-one-line s) in
         record {
           no-fault = rw (none-more, one) (total-passed letters k m low s at);
           sets = rw (none-more, one) (total-sets-nothing letters k m s (u ++ []));
@@ -114,7 +113,7 @@ module _ (letters : List ℕ) (k m : ℕ) where
         let one : lines (textFrom q s (suc n ∷ cs)) ≡ l ∷ lines (textFrom (suc q) (s + suc n) cs) =
         ap lines (append-assoc l (countLines (wordBytes letters k m) (suc q) cs) (totalLine (s + (suc n + sum cs)))
         ∙ ap (λ (x : ℕ). l ++ (countLines (wordBytes letters k m) (suc q) cs ++ totalLine x)) same)
-        ∙ lines-of l (textFrom (suc q) (s + suc n) cs) (P .one-line) in
+        ∙ lines-of (P .one-line) (textFrom (suc q) (s + suc n) cs) in
         record {
           no-fault = ap (loadFault letters k m (CountOrTotal low s) at) one ∙ count-passed letters k m good P _ s at ∙ T .no-fault;
           sets =
@@ -207,7 +206,7 @@ module _ (letters : List ℕ) (k m : ℕ) where
     listing-loads cs long small =
         let T = taken 0 0 0 (0 + length (surveyLine letters k m)) [] cs (omega arith) (omega arith) refl small in
         let none-before : 0 + sum cs ≡ sum cs = omega arith in
-        let one = lines-of (surveyLine letters k m) (countLines (wordBytes letters k m) 0 cs ++ totalLine (sum cs)) (survey-one-line letters k m good) in
+        let one = lines-of (survey-one-line letters k m good) (countLines (wordBytes letters k m) 0 cs ++ totalLine (sum cs)) in
         (rw one (survey-passed _ ∙ rw none-before at (T .no-fault)), rw (one, ← long) (rw none-before at (T .sets)))
 
     -- A text that is passed is the listing of its counts, which are small.

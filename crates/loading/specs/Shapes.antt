@@ -7,10 +7,9 @@ use lib.ListN.{length, take, drop}
 use lib.Dec.{leb, eqb}
 use Rattle.laws.specs.Text.{bytes}
 use Rattle.settings.specs.Settings.{isIn}
-use Rattle.survey.specs.declared.Name.the-variants.{Letters, K, Mirror}
 use Rattle.survey.specs.declared.Form.{Form}
 use Rattle.survey.specs.declared.Form.the-variants.{Of, NoForm}
-use Rattle.survey.specs.Reading.{startsWith, formAt, nextForm}
+use Rattle.survey.specs.Reading.{startsWith, formAt, nextForm, inOrder}
 use Rattle.tally.specs.Book.{sameWord}
 
 -- Whether two texts are the same, byte by byte: the test by which words are the same.
@@ -79,21 +78,13 @@ isTotalLine l = numberBetween (bytes "(total ") (bytes ")\n") l
 unfoldable pub isClassesEnd : List ℕ → Bool
 isClassesEnd u = numberBetween (bytes ") (classes ") (bytes "))\n") u
 
--- The position of a form that was read among letters, k and mirror, from 1; 0 for no form.
-unfoldable pub formPosition : Form → ℕ
-formPosition NoForm = 0
-formPosition (Of Letters from len number) = 1
-formPosition (Of K from len number) = 2
-formPosition (Of Mirror from len number) = 3
-
--- The place behind a form's value.
-unfoldable pub formEnd : Form → ℕ
-formEnd NoForm = 0
-formEnd (Of name from len number) = from + len
-
--- Three forms that were read from a line are letters, k and mirror, and behind them the line ends with its classes.
+-- Three forms that were read from a line are letters, k and mirror in this order, and behind them the line ends with its classes.
 unfoldable pub classesLast : (l : List ℕ) (a b c : Form) → Bool
-classesLast l a b c = eqb (formPosition a) 1 && (eqb (formPosition b) 2 && (eqb (formPosition c) 3 && isClassesEnd (drop (formEnd c) l)))
+classesLast l NoForm b c = false
+classesLast l (Of a from len number) NoForm c = false
+classesLast l (Of a from len number) (Of b from₁ len₁ k) NoForm = false
+classesLast l (Of a from len number) (Of b from₁ len₁ k) (Of c from₂ len₂ mirror) =
+    inOrder a b c && isClassesEnd (drop (from₂ + len₂) l)
 
 -- "the survey line is of the form the program reads, classes last": the three forms in order, read as the program reads them, and then (classes 10). Its
 -- settings need not be good ones. What such a line is made of, `SurveyShape` (Claims) says.

@@ -19,7 +19,8 @@ use Rattle.kernels.specs.Windows.{windowCodes}
 use Rattle.sequence.specs.Sequences.{noCode, isRank}
 use Rattle.settings.specs.RankTables.{rankByTable}
 use Rattle.kernels.specs.Needs.{part, Fills}
-use Rattle.sequence.specs.Needs.{ranksBy, allRanked, codeBy, Run, Blanked}
+use Rattle.words.specs.Needs.{ranksBy}
+use Rattle.sequence.specs.Needs.{allRanked, codeBy, Run, Blanked}
 use Rattle.kernels.proofs.Windows.{window-at, length-codes}
 use Rattle.kernels.proofs.Parts.{length-part}
 use Rattle.sequence.proofs.RankTables.{as-none, as-itself, length-ranks-by}

@@ -15,7 +15,8 @@ use Rattle.laws.specs.Windows.{windows}
 use Rattle.kernels.specs.Windows.{windowCodes}
 use Rattle.settings.specs.RankTables.{rankByTable}
 use Rattle.kernels.specs.Needs.{part, Fills}
-use Rattle.sequence.specs.Needs.{ranksBy, allRanked, codeBy, Blanked}
+use Rattle.words.specs.Needs.{ranksBy}
+use Rattle.sequence.specs.Needs.{allRanked, codeBy, Blanked}
 use Rattle.kernels.proofs.Windows.{windows-take, windows-drop, length-codes}
 use Rattle.kernels.proofs.Parts.{length-part}
 use Rattle.sequence.proofs.RankTables.{length-ranks-by}

@@ -1,59 +1,23 @@
--- Ranks as bytes and the table of all bytes' ranks: it stands for the settings' ranks in the numbers of all windows of bytes.
+-- The table of all bytes' ranks stands for the settings' ranks in the numbers of all windows of bytes (`codes-by-table`). From the laws of ranks by a table of
+-- words.
 use mathlib.Core.Path.{_≡_, ap, refl, ap₂}
 use mathlib.Core.Bool.{Bool, cond, true, false, _&&_}
-use mathlib.Core.Option.{Option}
 use mathlib.Core.List.{List, map, [], _∷_}
 use Prim.Native.Nat.{ℕ, _<_, suc}
 use native.Mathlib.Omega.{arith}
 use lib.Dec.{leb}
-use lib.ListN.{length, length-map, getD, take, length-take}
-use lib.Seq.{getD-take}
-use Rattle.laws.proofs.Lists.{getD-map-in}
-use Rattle.encoding.specs.Calls.{rankOrZero, ranksOf}
+use lib.ListN.{length, take}
+use Rattle.encoding.specs.Calls.{rankOrZero}
+use Rattle.words.specs.Needs.{ranksBy}
 use Rattle.words.proofs.LetterLoops.{or-zero-below}
+pub use Rattle.words.proofs.RanksByTable.{length-ranks-by, ranks-by-at, Bytes, tail-bytes, take-bytes, same-first, ranks-by-table}
 use Rattle.encoding.specs.Words.{Ranks}
 pub use Rattle.settings.proofs.RankTables.{as-none, as-itself}
-use Rattle.settings.specs.RankTables.{asRank, RankTable, RanksBelow, rankByTable}
-use Rattle.settings.specs.Settings.{rankIn, mirrorOf}
+use Rattle.settings.specs.RankTables.{RankTable, RanksBelow, rankByTable}
+use Rattle.settings.specs.Settings.{mirrorOf}
 use Rattle.laws.specs.Windows.{windows}
-use Rattle.sequence.specs.Needs.{ranksBy, allRanked, codeBy}
+use Rattle.sequence.specs.Needs.{allRanked, codeBy}
 use Rattle.sequence.specs.Sequences.{allLetters, isRank, codeOrNone, sequenceCodes}
-
--- ---- a rank as a byte
-
--- The rank that stands for a byte in a list of ranks.
-module _ (x : ℕ) where
-  pub zero-none : x ≡ 255 → 0 ≡ rankOrZero (asRank x)
-  zero-none e = rw (as-none x e)
-
-  pub zero-itself : (x ≡ 255 → ⊥) → x ≡ rankOrZero (asRank x)
-  zero-itself e = rw (as-itself x e)
-
-pub length-ranks-by : (rank : ℕ → Option ℕ) (bytes : List ℕ) → length (ranksBy rank bytes) ≡ length bytes
-unfolding ranksBy
-length-ranks-by rank bytes = length-map bytes (λ (b : ℕ). rankOrZero (rank b))
-
-pub ranks-by-at : (rank : ℕ → Option ℕ) (bytes : List ℕ) (i : ℕ) → i < length bytes → getD (ranksBy rank bytes) i 0 ≡ rankOrZero (rank (getD bytes i 0))
-unfolding ranksBy
-ranks-by-at rank bytes i h = getD-map-in (λ (b : ℕ). rankOrZero (rank b)) bytes i h
-
--- ---- what is worked out by the table
-
--- All bytes of a list are below 256.
-pub record Bytes (bytes : List ℕ) : Type 0 where
-  pub below : (i : ℕ) → i < length bytes → getD bytes i 0 < 256
-
-tail-bytes : {b : ℕ} {bs : List ℕ} → Bytes (b ∷ bs) → Bytes bs
-tail-bytes B = record { below = λ i h. B .below (suc i) (omega arith) }
-
-take-bytes : (n : ℕ) (w : List ℕ) → Bytes w → Bytes (take n w)
-take-bytes n w B =
-    record {
-      below = λ i h.
-          let l = length-take n w in
-          let g : i < n = omega arith in
-          rw (getD-take n w i 0 g) (B .below i (omega arith));
-    }
 
 -- Two functions that agree on words of bytes give the windows of bytes the same numbers.
 same-codes : (f g : List ℕ → ℕ) (k : ℕ) → ((word : List ℕ) → Bytes word → f word ≡ g word) → (bytes : List ℕ) → Bytes bytes
@@ -78,22 +42,14 @@ module _ {s : ℕ} {table : List ℕ} (T : RanksBelow s table) (some-s : 0 < s) 
   ranks-below (b ∷ bs) B = (rank-below b (B .below 0 (omega arith)), ranks-below bs (tail-bytes B))
 
 module _ {letters table : List ℕ} (T : RankTable letters table) where
-  same-first : {b : ℕ} {bs : List ℕ} → Bytes (b ∷ bs) → rankByTable table b ≡ rankIn letters b
-  same-first {b} B = T .same b (B .below 0 (omega arith))
-
-  ranks-by-table : (bytes : List ℕ) → Bytes bytes → ranksBy (rankByTable table) bytes ≡ ranksOf letters bytes
-  unfolding ranksBy ranksOf
-  ranks-by-table [] B = refl
-  ranks-by-table (b ∷ bs) B = ap₂ (λ (x : ℕ) (xs : List ℕ). x ∷ xs) (ap rankOrZero (same-first B)) (ranks-by-table bs (tail-bytes B))
-
   letters-by-table : (bytes : List ℕ) → Bytes bytes → allRanked (rankByTable table) bytes ≡ allLetters letters bytes
   unfolding allRanked allLetters
   letters-by-table [] B = refl
-  letters-by-table (b ∷ bs) B = ap₂ (λ (x y : Bool). x && y) (ap isRank (same-first B)) (letters-by-table bs (tail-bytes B))
+  letters-by-table (b ∷ bs) B = ap₂ (λ (x y : Bool). x && y) (ap isRank (same-first T B)) (letters-by-table bs (tail-bytes B))
 
   code-by-table : (k mir : ℕ) (word : List ℕ) → Bytes word → codeBy (rankByTable table) (length letters) (mirrorOf mir) k word ≡ codeOrNone letters k mir word
   unfolding codeBy codeOrNone
-  code-by-table k mir word B = rw (letters-by-table word B, ranks-by-table word B)
+  code-by-table k mir word B = rw (letters-by-table word B, ranks-by-table T word B)
 
   -- The numbers of all windows.
   pub codes-by-table : (k mir : ℕ) (bytes : List ℕ) → Bytes bytes

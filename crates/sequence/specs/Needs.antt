@@ -2,21 +2,17 @@
 -- the ranks and codes of bytes by a table of ranks, and the windows with a byte that is no letter.
 use mathlib.Core.Path.{_≡_}
 use mathlib.Core.Bool.{Bool, true, false, cond, _&&_}
-use mathlib.Core.List.{List, [], _∷_, map}
+use mathlib.Core.List.{List, [], _∷_}
 use mathlib.Core.Option.{Option}
 use Prim.Native.Nat.{ℕ, _+_, _<_, _≤_}
 use lib.ListN.{length, getD}
 use Rattle.settings.specs.RankTables.{rankByTable}
 use Rattle.encoding.specs.Words.{Mirror}
 use Rattle.encoding.specs.Codes.{code}
-use Rattle.encoding.specs.Calls.{rankOrZero}
-use Rattle.words.specs.Needs.{part}
+use Rattle.words.specs.Needs.{part, ranksBy}
 use Rattle.sequence.specs.Sequences.{noCode, isRank}
 
--- The ranks of bytes by a function that gives each byte's rank, 0 for a byte that has none.
-unfoldable pub ranksBy : (ℕ → Option ℕ) → List ℕ → List ℕ
-ranksBy rank bytes = map (λ (b : ℕ). rankOrZero (rank b)) bytes
-
+-- Whether a function that gives each byte's rank has one for every byte.
 unfoldable pub allRanked : (ℕ → Option ℕ) → List ℕ → Bool
 allRanked rank [] = true
 allRanked rank (b ∷ bs) = isRank (rank b) && allRanked rank bs

@@ -6,7 +6,8 @@ ghost use lib.ListN.{length, getD};
 ghost use Rattle.encoding.specs.Calls.{rankOrZero};
 ghost use Rattle.sequence.specs.Sequences.{isRank};
 ghost use Rattle.settings.specs.RankTables.{asRank, rankByTable};
-ghost use Rattle.sequence.specs.Needs.{ranksBy, allRanked, Run, Blanked};
+ghost use Rattle.words.specs.Needs.{ranksBy};
+ghost use Rattle.sequence.specs.Needs.{allRanked, Run, Blanked};
 
 // The table's entry for a byte: its rank, or 255 for a byte that is no letter of the settings.
 fn table_at(table: &[u8; 256], b: u8) -> u8

@@ -1,15 +1,16 @@
 -- How answers with grounds compose: a refusal stands whatever grounds come after it, and what is given means that no ground applies.
 -- A refused call leaves its buffer as it was. From the definitions of specs/Grounds.antt alone.
-use mathlib.Core.Path.{_≡_, refl}
+use mathlib.Core.Path.{_≡_, refl, ap, _∙_}
 use mathlib.Core.Bool.{Bool, false, true, cond}
 use mathlib.Core.Option.{Option, none, some}
-use mathlib.Core.List.{List, _++_}
+use mathlib.Core.List.{List, [], _++_, append-nil}
 use Prim.Native.Nat.{ℕ, _≤_}
 use native.Mathlib.Omega.{arith}
-use lib.ListN.{drop, length}
+use lib.ListN.{drop, length, take, drop-of-length-le, take-append-drop}
+use lib.Seq.{length-take-le}
 use lib.Dec.{ltb}
 use borrow.Author.Tests.{ltb-false}
-use Rattle.settings.specs.Grounds.{refused, Ground, outcome, _orElse_, given, ground, groundAt, tooShort, unlessRefused, Overwrites}
+use Rattle.settings.specs.Grounds.{refused, Ground, Outcome, outcome, _orElse_, given, ground, groundAt, tooShort, unlessRefused, Overwrites}
 
 -- The grounds of a call that is refused.
 pub refused-is : {A : Type 0} (f : Ground) (a : A) (g : Option Ground) → refused f ≡ outcome g a → g ≡ some f
@@ -96,3 +97,16 @@ module _ (g : Option Ground) (count : ℕ) (places old : List ℕ) where
 pub kept-on : {A : Type 0} (f : Ground) (a : A) (g later : Option Ground) (count : ℕ) (places old : List ℕ) → refused f ≡ outcome g a
     → Overwrites (g orElse later) count places old (refused f) old
 kept-on f a g later count places old e = kept-by (g orElse later) count places old f (rw (refused-is f a g e))
+
+-- What overwrites the first n places of a buffer, with n places, overwrites the buffer.
+pub prefix-overwritten : (g : Option Ground) (n : ℕ) (places t : List ℕ) {answer : Outcome ℕ} {new : List ℕ} → length places ≡ n → n ≤ length t
+    → Overwrites g n places (take n t) answer new → Overwrites g n places t answer (new ++ drop n t)
+prefix-overwritten none n places t {new = new} size long O =
+    let all : length (take n t) ≤ length places = omega (arith, length-take-le n t long) in
+    let nothing-left : drop (length places) (take n t) ≡ [] = drop-of-length-le (take n t) all in
+    record {
+      answers = O .answers;
+      leaves = ap (λ (l : List ℕ). l ++ drop n t) (O .leaves ∙ ap (λ (l : List ℕ). places ++ l) nothing-left ∙ append-nil places) ∙ rw size;
+    }
+prefix-overwritten (some f) n places t size long O =
+    record { answers = O .answers; leaves = ap (λ (l : List ℕ). l ++ drop n t) (O .leaves) ∙ take-append-drop n t }

@@ -44,6 +44,12 @@ pub enum Filling {
     Unfilled(Refusal),
 }
 
+// What is found of a text, or of a part of it, that is searched for faults: none, or the first one.
+pub enum Finding {
+    Clean,
+    Faulty(Refusal),
+}
+
 // The number of a refusal.
 pub fn number_of(f: Refusal) -> u64
     ensures { λ r. ⌜ r ≡ groundOf f .0 ⌝ }

@@ -1,34 +1,29 @@
 -- Shapes as the functions test them: by a front, a back and what stands between them (`framed-parts`), the line of a class by its space, word and number
 -- besides, the survey line by its three forms and its end. From the definitions of the shapes.
 use mathlib.Core.Path.{_≡_, refl, sym, ap, _∙_}
-use mathlib.Core.Bool.{Bool, true, false, _&&_, and-false, true≢false}
+use mathlib.Core.Bool.{Bool, true, false, _&&_, and-assoc, true≢false}
 use mathlib.Core.List.{List, [], _∷_, _++_, append-assoc}
 use Prim.Native.Nat.{ℕ, suc, _+_, _-_, _≤_, _<_}
 use native.Mathlib.Omega.{arith}
 use lib.ListN.{length, take, drop, getD, length-append, length-drop, take-append-drop}
 use lib.Seq.{take-all, take-add, drop-drop, drop-cons, getD-at, length-take-le}
 use lib.Dec.{eqb}
-use borrow.Author.Tests.{eq-eqb, ne-eqb}
+use borrow.Author.Tests.{eq-eqb}
 use mathlib.Mathlib.Data.Bool.Basic.{eq-false-of-not-eq-true}
 use Rattle.laws.specs.Text.{bytes}
 use Rattle.survey.specs.Grammar.{spelt}
 use Rattle.survey.specs.Reading.{startsWith, formAt, nextForm}
 use Rattle.survey.specs.Needs.{Within}
 use Rattle.survey.specs.declared.Form.{Form}
-use Rattle.survey.specs.declared.Form.the-variants.{Of, NoForm}
 use Rattle.survey.proofs.FormLaws.{form-within, next-within}
 use Rattle.texts.specs.Decimals.{decimal}
 use Rattle.listing.specs.Listing.{countLine}
 use Rattle.shapes.specs.Needs.{framed}
-use Rattle.loading.specs.Shapes.{sameText, inner, isNumber, numberBetween, ofLetters, wordIn, digitsIn, countShape, isCountLine, isClassesEnd, formPosition, formEnd, classesLast, isSurveyLine}
+use Rattle.loading.specs.Shapes.{sameText, inner, isNumber, numberBetween, ofLetters, wordIn, digitsIn, countShape, isCountLine, classesLast, isSurveyLine}
 use Rattle.tally.specs.Book.{sameWord}
 use Rattle.tally.proofs.WordLists.{same-word, word-same}
 use Rattle.loading.proofs.Shapes.{inner-is, count-parts}
 use Rattle.shapes.proofs.Loops.{text-lengths}
-
-and-assoc : (x y z : Bool) → (x && (y && z)) ≡ ((x && y) && z)
-and-assoc true y z = refl
-and-assoc false y z = refl
 
 same-append : (u a v b : List ℕ) → length u ≡ length a → sameText (u ++ v) (a ++ b) ≡ (sameText u a && sameText v b)
 unfolding sameWord
@@ -36,7 +31,7 @@ same-append [] [] v b h = refl
 same-append [] (y ∷ a) v b h = absurd (omega arith)
 same-append (x ∷ u) [] v b h = absurd (omega arith)
 same-append (x ∷ u) (y ∷ a) v b h =
-    ap (λ (t : Bool). eqb x y && t) (same-append u a v b (omega arith)) ∙ and-assoc (eqb x y) (sameText u a) (sameText v b)
+    ap (λ (t : Bool). eqb x y && t) (same-append u a v b (omega arith)) ∙ sym (and-assoc (eqb x y) (sameText u a) (sameText v b))
 
 module _ (a b l : List ℕ) where
   framed-length : length a + length b ≤ length (framed a b l)
@@ -164,37 +159,12 @@ module _ (letters : List ℕ) (k : ℕ) (l : List ℕ) where
 
 -- ---- the survey line
 
-pub within-end : (l : List ℕ) (f : Form) → Within l f → formEnd f ≤ length l
-unfolding formEnd
-within-end l NoForm w = omega arith
-within-end l (Of name from len number) w = w
-
 -- The forms that are read from a line lie inside it.
 pub first-inside : (l : List ℕ) {f : Form} → f ≡ formAt l 8 → Within l f
 first-inside l e = rw e (form-within l 8)
 
 pub next-inside : (l : List ℕ) (f : Form) {g : Form} → g ≡ nextForm l f → Within l g
 next-inside l f e = rw e (next-within l f)
-
-module _ (l : List ℕ) (a b c : Form) where
-  pub first-other : {x : ℕ} → x ≡ formPosition a → (x ≡ 1 → ⊥) → classesLast l a b c ≡ false
-  unfolding classesLast
-  first-other e d = rw (ne-eqb (formPosition a) 1 (λ z. d (e ∙ z)))
-
-  pub second-other : {x : ℕ} → x ≡ formPosition b → (x ≡ 2 → ⊥) → classesLast l a b c ≡ false
-  unfolding classesLast
-  second-other e d = rw (ne-eqb (formPosition b) 2 (λ z. d (e ∙ z)), and-false (eqb (formPosition a) 1))
-
-  pub third-other : {x : ℕ} → x ≡ formPosition c → (x ≡ 3 → ⊥) → classesLast l a b c ≡ false
-  unfolding classesLast
-  third-other e d = rw (ne-eqb (formPosition c) 3 (λ z. d (e ∙ z)), and-false (eqb (formPosition b) 2), and-false (eqb (formPosition a) 1))
-
-  pub forms-right : {x y z e : ℕ} → x ≡ formPosition a → x ≡ 1 → y ≡ formPosition b → y ≡ 2 → z ≡ formPosition c → z ≡ 3 → e ≡ formEnd c
-      → isClassesEnd (take (length l - e) (drop e l)) ≡ classesLast l a b c
-  unfolding classesLast
-  forms-right {e = e} xa x1 yb y2 zc z3 end =
-      ap isClassesEnd (take-all (length l - e) (drop e l) (omega (arith, length-drop e l)))
-      ∙ sym (rw (eq-eqb (formPosition a) 1 (sym xa ∙ x1), eq-eqb (formPosition b) 2 (sym yb ∙ y2), eq-eqb (formPosition c) 3 (sym zc ∙ z3), ← end))
 
 -- The three forms of a line one after the other, and what they make of it.
 module _ (l : List ℕ) where

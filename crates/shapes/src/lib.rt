@@ -1,13 +1,12 @@
 // The shapes of a listing's lines (document 02, K7): whether a line is the survey line, the line of a class or the total by its shape, and the parts of such
 // lines: numbers, words. A line is lent with its LF, if it has one.
 use survey::Form;
-use survey::Name;
 use survey::values;
 ghost use mathlib.Core.Path.{_≡_};
 ghost use Prim.Native.Nat.{_≤_, min};
 ghost use Rattle.survey.specs.Grammar.{spelt};
 ghost use Rattle.survey.specs.Needs.{Within};
-ghost use Rattle.loading.specs.Shapes.{sameText, allDigits, isNumber, numberBetween, ofLetters, isTotalLine, isCountLine, isClassesEnd, formPosition, formEnd, classesLast, isSurveyLine};
+ghost use Rattle.loading.specs.Shapes.{sameText, allDigits, isNumber, numberBetween, ofLetters, isTotalLine, isCountLine, isClassesEnd, classesLast, isSurveyLine};
 ghost use Rattle.shapes.specs.Needs.{framed};
 
 // Whether two texts are the same.
@@ -168,46 +167,30 @@ fn is_classes_end(text: &[u8]) -> bool
     is_number_between(text, b") (classes ", b"))\n")
 }
 
-// The position of a form that was read among letters, k and mirror, from 1; 0 for no form.
-fn form_position(f: Form) -> u64
-    ensures { λ r. ⌜ r ≡ formPosition f ⌝ }
+// Whether three forms that were read from a line are letters, k and mirror in this order, and behind them the line ends with its classes.
+fn classes_last(line: &[u8], first: Form, second: Form, third: Form) -> bool
+    requires { ⌜ Within (now line) third ⌝ }
+    ensures { λ r. ⌜ r ≡ classesLast (now (line .entry)) first second third ⌝ }
 {
-    let Form::Of { name, .. } = f else {
-        return 0;
+    let Form::Of { name: a, .. } = first else {
+        return false;
     };
-    match name {
-        Name::Letters => 1,
-        Name::K => 2,
-        Name::Mirror => 3,
-    }
-}
-
-// The place behind a form's value.
-fn form_end(f: Form) -> usize
-    requires { ⌜ formEnd f ≤ 18446744073709551615 ⌝ }
-    ensures { λ r. ⌜ r ≡ formEnd f ⌝ }
-{
-    let Form::Of { from, len, .. } = f else {
-        return 0;
+    let Form::Of { name: b, .. } = second else {
+        return false;
     };
-    from + len
-}
-
-// Whether three forms that were read from a line are letters, k and mirror, and behind them the line ends with its classes.
-fn classes_last(line: &[u8], a: Form, b: Form, c: Form) -> bool
-    requires { ⌜ Within (now line) c ⌝ }
-    ensures { λ r. ⌜ r ≡ classesLast (now (line .entry)) a b c ⌝ }
-{
-    if form_position(a) != 1 {
+    let Form::Of {
+        name: c,
+        from,
+        len,
+        ..
+    } = third
+    else {
+        return false;
+    };
+    if !survey::in_order(a, b, c) {
         return false;
     }
-    if form_position(b) != 2 {
-        return false;
-    }
-    if form_position(c) != 3 {
-        return false;
-    }
-    let e = form_end(c);
+    let e = from + len;
     is_classes_end(&line[e..])
 }
 

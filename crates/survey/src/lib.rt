@@ -139,8 +139,8 @@ fn position(name: Name) -> usize
     }
 }
 
-// Whether three forms with these names stand each in its position.
-fn in_order(a: Name, b: Name, c: Name) -> bool
+// Whether three forms with these names stand each in its position; for `shapes` too.
+pub fn in_order(a: Name, b: Name, c: Name) -> bool
     ensures { λ r. ⌜ r ≡ inOrder a b c ⌝ }
 {
     if position(a) != 0 {

@@ -1,30 +1,23 @@
--- From bytes to ranks and back, a place at a time: the loops of `fill_ranks`, `fill_ranks_by`, `foreign_at` and `write_letters`.
-use mathlib.Core.Path.{_≡_, refl, sym, ap, ap₂}
+-- From bytes to ranks and back, a place at a time: the loops of `fill_ranks`, `foreign_at` and `write_letters`.
+use mathlib.Core.Path.{_≡_, refl, sym}
 use mathlib.Core.Option.{none, some, Option}
 use mathlib.Core.List.{List, _∷_, []}
-use Prim.Native.Nat.{ℕ, suc, _<_, _+_, _≤_}
+use Prim.Native.Nat.{ℕ, _<_, _+_, _≤_}
 use native.Mathlib.Numerals.{add-one}
 use lib.ListN.{length, getD, length-map, drop, drop-of-length-le}
 use lib.Seq.{drop-cons}
 use Rattle.settings.specs.Settings.{rankIn, mirrorOf}
-use Rattle.settings.specs.RankTables.{rankByTable, RankTable}
 use Rattle.settings.proofs.Ranks.{rank-below-count}
 use Rattle.laws.proofs.Lists.{getD-map-in}
 use Rattle.encoding.specs.Calls.{ranksOf, rankAt, foreignFrom, rankOrZero, inCapitals, wordBytes, mirrorBytes}
 use Rattle.encoding.specs.Words.{Ranks, Mirror, mirror}
 use Rattle.encoding.specs.WordsOfCodes.{wordOf}
-use Rattle.words.specs.Needs.{ranksByTable}
 
 -- ---- what is written at each place
 
 pub ranksOf-at : (letters word : List ℕ) (i : ℕ) → i < length word → getD (ranksOf letters word) i 0 ≡ rankAt letters (getD word i 0)
 unfolding ranksOf
 ranksOf-at letters word i h = getD-map-in (rankAt letters) word i h
-
-pub ranksByTable-at : (table word : List ℕ) (i : ℕ) → i < length word
-    → getD (ranksByTable table word) i 0 ≡ rankOrZero (rankByTable table (getD word i 0))
-unfolding ranksByTable
-ranksByTable-at table word i h = getD-map-in (λ (b : ℕ). rankOrZero (rankByTable table b)) word i h
 
 pub inCapitals-at : (letters w : List ℕ) (i : ℕ) → i < length w → getD (inCapitals letters w) i 0 ≡ getD letters (getD w i 0) 0
 unfolding inCapitals
@@ -63,18 +56,6 @@ ranks-below letters (b ∷ word) h = (rank-lt letters b h, ranks-below letters w
 pub length-ranksOf : (letters word : List ℕ) → length (ranksOf letters word) ≡ length word
 unfolding ranksOf
 length-ranksOf letters word = length-map word (rankAt letters)
-
-pub length-ranksByTable : (table word : List ℕ) → length (ranksByTable table word) ≡ length word
-unfolding ranksByTable
-length-ranksByTable table word = length-map word (λ (b : ℕ). rankOrZero (rankByTable table b))
-
--- By a table that has every byte's rank the ranks are those of the letters.
-pub ranks-by-table : {letters table : List ℕ} → RankTable letters table → (word : List ℕ) → ((i : ℕ) → getD word i 0 < 256)
-    → ranksByTable table word ≡ ranksOf letters word
-unfolding ranksByTable ranksOf
-ranks-by-table T [] bytes = refl
-ranks-by-table T (b ∷ word) bytes =
-    ap₂ (λ (x : ℕ) (l : List ℕ). x ∷ l) (ap rankOrZero (T .same b (bytes 0))) (ranks-by-table T word (λ i. bytes (suc i)))
 
 pub length-capitals : (letters w : List ℕ) → length (inCapitals letters w) ≡ length w
 unfolding inCapitals

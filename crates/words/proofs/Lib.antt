@@ -3,6 +3,7 @@ pub mod WordParts
 pub mod Scan
 pub mod Shifts
 pub mod LetterLoops
+pub mod RanksByTable
 pub mod RankLoops
 pub mod DigitValues
 pub mod TwoWords

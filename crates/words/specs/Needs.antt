@@ -9,7 +9,6 @@ use lib.Dec.{leb}
 use Rattle.settings.specs.Grounds.{Ground}
 use Rattle.settings.specs.Settings.{classes}
 use Rattle.settings.specs.Limits.{Limits}
-use Rattle.settings.specs.RankTables.{rankByTable}
 use Rattle.encoding.specs.Calls.{rankOrZero}
 use Rattle.encoding.specs.Words.{Mirror, Ranks, mirror, plain}
 
@@ -19,9 +18,9 @@ use Rattle.encoding.specs.Words.{Mirror, Ranks, mirror, plain}
 abbrev pub part : ℕ → ℕ → List ℕ → List ℕ
 part i n w = take n (drop i w)
 
--- The ranks of a word's bytes by a table of all bytes' ranks; 0 for a byte that has none.
-unfoldable pub ranksByTable : (table word : List ℕ) → List ℕ
-ranksByTable table word = map (λ (b : ℕ). rankOrZero (rankByTable table b)) word
+-- The ranks of bytes by a function that gives each byte's rank, 0 for a byte that has none.
+unfoldable pub ranksBy : (ℕ → Option ℕ) → List ℕ → List ℕ
+ranksBy rank bytes = map (λ (b : ℕ). rankOrZero (rank b)) bytes
 
 -- ---- the scan
 

@@ -4,11 +4,11 @@ ghost use mathlib.Core.List.{_++_};
 ghost use Prim.Native.Nat.{_≤_};
 ghost use lib.ListN.{length, drop};
 ghost use Rattle.settings.specs.Limits.{Limits};
-ghost use Rattle.settings.specs.RankTables.{asRank};
+ghost use Rattle.settings.specs.RankTables.{asRank, rankByTable};
 ghost use Rattle.encoding.specs.Words.{Ranks, mirror, plain};
 ghost use Rattle.encoding.specs.Calls.{rankOrZero, rankAt, ranksOf, inCapitals, foreignFrom};
 ghost use Rattle.words.specs.Answers.{ofPlace};
-ghost use Rattle.words.specs.Needs.{ranksByTable};
+ghost use Rattle.words.specs.Needs.{ranksBy};
 use crate::PlainRank;
 use crate::ranks;
 use settings::Mirror;
@@ -68,7 +68,7 @@ fn entry_or_zero(r: u8) -> u64
 pub fn fill_ranks_by(table: &[u8; 256], word: &[u8], out: &mut [u64])
     requires { ⌜ length (now word) ≤ length (now out) ⌝ }
     ensures { λ _.
-        ⌜ now (out .exit) ≡ ranksByTable (now (table .entry)) (now (word .entry)) ++ drop (length (now (word .entry))) (now (out .entry)) ⌝ }
+        ⌜ now (out .exit) ≡ ranksBy (rankByTable (now (table .entry))) (now (word .entry)) ++ drop (length (now (word .entry))) (now (out .entry)) ⌝ }
 {
     let mut i: usize = 0;
     while i < word.len() {

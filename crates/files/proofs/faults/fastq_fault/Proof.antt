@@ -7,7 +7,8 @@ use denote.Ref.{now}
 use borrow.Author.Needs.{needs}
 use Rattle.lines.specs.Lines.{lines}
 use Rattle.fastq.specs.Fastq.{fastqFault}
-use Rattle.files.specs.Needs.{ofFinding, LinesAt}
+use Rattle.settings.specs.Needs.{ofFinding}
+use Rattle.files.specs.Needs.{LinesAt}
 use Rattle.files.proofs.Records.{found-step, goes-on, no-record}
 use Rattle.files.proofs.faults.fastq_fault.Statement.{statement}
 use Rattle.files.proofs.faults.fastq_fault.Tie as tie

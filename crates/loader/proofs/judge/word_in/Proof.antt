@@ -23,7 +23,7 @@ word-ranks c =
     let s = start c in
     let a = s .args in
     ranks-read (a .k) (now (a .line)) _ (limits (now (a .letters)) (a .k) (a .mirror) (s .pre .0)) (s .pre .1)
-    (λ i. omega (arith, c .before .before .before .before .shared-slice-known2 .given i)) (s .pre .2) (c .fill-ranks-by .ensures)
+    (record { below = λ i h. omega (arith, c .before .before .before .before .shared-slice-known2 .given i) }) (s .pre .2) (c .fill-ranks-by .ensures)
 
 mirror-named-requires : tie.Need-mirror-named-requires
 mirror-named-requires c κs = search needs
@@ -58,7 +58,7 @@ slice-aggregate-ranks-code c = sym (ranks-length (word-ranks (c .before .before)
 ranks-code-requires : tie.Need-ranks-code-requires
 ranks-code-requires c κs =
     let filled = c .before .before in
-    (ranks-word (word-ranks filled), word-ranks filled .within .few)
+    (ranks-word (word-ranks filled), word-ranks filled .array .within .few)
 
 returns : tie.Need-returns
 returns c =

@@ -8,7 +8,7 @@ use denote.Ref.{now}
 use lib.ListN.{length, take, drop}
 use lib.Seq.{length-take-le}
 use Rattle.settings.specs.RankTables.{rankByTable}
-use Rattle.sequence.specs.Needs.{ranksBy}
+use Rattle.words.specs.Needs.{ranksBy}
 use Rattle.sequence.proofs.Pieces.{ranks-in-array, ranks-fit, batch-numbers, batch-letters}
 use Rattle.sequence.proofs.RankTables.{length-ranks-by, Bytes, ranks-below}
 use Rattle.encoding.specs.Words.{Ranks}

@@ -1,5 +1,5 @@
 -- `sequence::bytes::rank_of_entry` meets its contract. A case for a letter and for no letter.
-use Rattle.sequence.proofs.RankTables.{zero-none, zero-itself}
+use Rattle.words.proofs.RanksByTable.{zero-none, zero-itself}
 use Rattle.sequence.proofs.bytes.rank_of_entry.Statement.{statement}
 use Rattle.sequence.proofs.bytes.rank_of_entry.Tie as tie
 

@@ -6,14 +6,15 @@ use native.Mathlib.Omega.{arith}
 use denote.Ref.{now}
 use lib.ListN.{length, drop}
 use Rattle.laws.proofs.Buffers.{Written, written-none, written-length, written-next, written-all}
-use Rattle.words.specs.Needs.{ranksByTable}
-use Rattle.words.proofs.LetterLoops.{length-ranksByTable, ranksByTable-at}
+use Rattle.settings.specs.RankTables.{rankByTable}
+use Rattle.words.specs.Needs.{ranksBy}
+use Rattle.words.proofs.RanksByTable.{length-ranks-by, ranks-by-at}
 use borrow.Author.Needs.{needs}
 use Rattle.words.proofs.letters.fill_ranks_by.Statement.{statement}
 use Rattle.words.proofs.letters.fill_ranks_by.Tie as tie
 
 abbrev Inv-loop : tie.InvT-loop
-Inv-loop table word out₀ i₀ out i = Written (ranksByTable table word) out₀ i out
+Inv-loop table word out₀ i₀ out i = Written (ranksBy (rankByTable table) word) out₀ i out
 
 abbrev μ-loop : tie.MeasureT-loop
 μ-loop table word out₀ i₀ out i = length word - i
@@ -21,7 +22,7 @@ abbrev μ-loop : tie.MeasureT-loop
 loop-holds : tie.Need-loop-holds Inv-loop μ-loop
 loop-holds c =
     let a = c .before .before .args in
-    written-none _ _ (omega (arith, length-ranksByTable (now (a .table)) (now (a .word))))
+    written-none _ _ (omega (arith, length-ranks-by (rankByTable (now (a .table))) (now (a .word))))
 
 shared-slice-read-b : tie.Need-shared-slice-read-b Inv-loop μ-loop
 shared-slice-read-b c = omega arith
@@ -52,8 +53,8 @@ loop-again c =
     let at = c .before .before .before .before in
     let a = at .before .before .before .args in
     let inside = c .before .before .before .loop-test .taken in
-    written-next (at .loop .inv) _ (omega (arith, inside, length-ranksByTable (now (a .table)) (now (a .word))))
-    (c .entry-or-zero .ensures ∙ sym (ranksByTable-at (now (a .table)) (now (a .word)) (at .loop .i) inside))
+    written-next (at .loop .inv) _ (omega (arith, inside, length-ranks-by (rankByTable (now (a .table))) (now (a .word))))
+    (c .entry-or-zero .ensures ∙ sym (ranks-by-at (rankByTable (now (a .table))) (now (a .word)) (at .loop .i) inside))
 
 same-length : tie.Need-same-length Inv-loop μ-loop
 same-length c = written-length (c .before .loop .inv)
@@ -62,9 +63,9 @@ returns : tie.Need-returns Inv-loop μ-loop
 returns c =
     let at = c .before in
     let a = at .before .before .before .args in
-    let length-is = length-ranksByTable (now (a .table)) (now (a .word)) in
+    let length-is = length-ranks-by (rankByTable (now (a .table))) (now (a .word)) in
     written-all (at .loop .inv) (omega (arith, length-is, c .loop-test .left))
-    ∙ ap (λ (n : ℕ). ranksByTable (now (a .table)) (now (a .word)) ++ drop n (now (a .out))) length-is
+    ∙ ap (λ (n : ℕ). ranksBy (rankByTable (now (a .table))) (now (a .word)) ++ drop n (now (a .out))) length-is
 
 pub fill-ranks-by-spec : {M : Type 1} → statement M
 fill-ranks-by-spec =
