@@ -15,7 +15,8 @@ use Rattle.files.proofs.Copies.{same-file-fault, same-file-numbers}
 use Rattle.tally.specs.Table.{Call}
 use Rattle.tally.specs.Copies.{CallCopy}
 use Rattle.tally.proofs.Copies.{same-calls, copied-file, same-last, same-after, same-ready-ground}
-use Rattle.kmer.specs.FileCalls.{intoGround, fiveNumbers, CallsInto}
+use Rattle.returned.specs.FileNumbers.{fiveNumbers}
+use Rattle.kmer.specs.FileCalls.{intoGround, CallsInto}
 use Rattle.kmer.specs.Demand.{FileCalls}
 use Rattle.kmer.specs.Copies.{AskedAlike}
 

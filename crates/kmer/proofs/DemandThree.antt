@@ -17,8 +17,9 @@ use Rattle.tally.specs.Demand.{Agrees}
 use Rattle.tally.specs.Demand.Calls.{done, then}
 use Rattle.tally.proofs.DemandThree.{kept, same-counts, demand-three}
 use Rattle.tally.proofs.GivenBack.{given-back-whole}
-use Rattle.kmer.specs.Returned.{returnedWithPlace, ReturnsPlaces}
-use Rattle.kmer.specs.FileCalls.{fiveNumbers, CallsInto, AddsInto, WithdrawsInto}
+use Rattle.returned.specs.Returned.{returnedWithPlace, ReturnsPlaces}
+use Rattle.returned.specs.FileNumbers.{fiveNumbers}
+use Rattle.kmer.specs.FileCalls.{CallsInto, AddsInto, WithdrawsInto}
 use Rattle.kmer.specs.Demand.{FileCalls, toldBy, AsTableCalls, DemandThreeFromC, KeptFromC, SameCountsFromC}
 use Rattle.kmer.proofs.FileCalls.{same-ground, room-for-five}
 

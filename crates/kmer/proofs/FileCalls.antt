@@ -21,9 +21,11 @@ use Rattle.files.specs.Scan.{tooLong}
 use Rattle.files.proofs.FaultNumbers.{fault-has}
 use Rattle.tally.specs.Table.{classCount, tooMany, readyGround, callGround, Call, add, withdraw, callFile, tableFull, tableLacks, lastGround, tableGround, Called}
 use Rattle.table.proofs.CallGrounds.{classes-few, ready-file}
-use Rattle.kmer.proofs.Refusals.{refused-fits, sizes-small}
-use Rattle.kmer.specs.Returned.{returnedWithPlace}
-use Rattle.kmer.specs.FileCalls.{intoGround, fiveNumbers, CallsInto}
+use Rattle.returned.proofs.Refusals.{refused-fits}
+use Rattle.kmer.proofs.Refusals.{sizes-small}
+use Rattle.returned.specs.Returned.{returnedWithPlace}
+use Rattle.returned.specs.FileNumbers.{fiveNumbers}
+use Rattle.kmer.specs.FileCalls.{intoGround, CallsInto}
 
 -- ---- how large P can be
 

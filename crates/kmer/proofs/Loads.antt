@@ -18,7 +18,7 @@ use Rattle.listing.proofs.Lengths.{SmallCounts}
 use Rattle.loading.specs.Loading.{textFault, loadGround, loadedBook, Loads}
 use Rattle.loading.proofs.Theorems.{loads-what-was-listed, lists-what-was-loaded, loaded-agrees}
 use Rattle.loading.proofs.RefusalNumbers.{load-place}
-use Rattle.kmer.specs.Returned.{returnedWithPlace, returnedUpTo, ReturnsPlaces}
+use Rattle.returned.specs.Returned.{returnedWithPlace, returnedUpTo, ReturnsPlaces}
 use Rattle.kmer.specs.Loads.{LoadsInto}
 use Rattle.kmer.specs.Demand.{FileCalls, KeptFromC}
 use Rattle.kmer.proofs.Refusals.{clear-small}

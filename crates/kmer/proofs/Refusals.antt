@@ -1,73 +1,23 @@
--- What the calls that return P rest on: the number of a refusal is small, and so is the P of each call but `kmer_load`, so that one number holds both; and the
--- answer and buffer of such a call, from those of the call below it. How large each P is follows from the definitions of the calls' grounds.
-use mathlib.Core.Path.{_≡_, refl, ap, _∙_, subst⁻¹}
+-- How large the P of each call but `kmer_load` can be, so that it fits beside the number of its refusal. From the definitions of the calls' grounds.
+use mathlib.Core.Path.{_≡_}
 use mathlib.Core.Bool.{Bool}
 use mathlib.Core.Option.{Option, none, some}
 use mathlib.Core.List.{List, [], _∷_}
-use Prim.Native.Nat.{ℕ, suc, _+_, _^_, _<_, _≤_}
+use Prim.Native.Nat.{ℕ, suc, _+_, _<_, _≤_}
 use native.Mathlib.Omega.{arith}
 use lib.Dec.{ltb}
 use lib.ListN.{length}
 use borrow.Author.Tests.{eqb-true, not-false}
 use Rattle.laws.specs.Windows.{windows}
 use Rattle.laws.proofs.Windows.{length-windows}
-use Rattle.settings.specs.declared.Refusal.{Refusal}
-use Rattle.settings.specs.declared.Refusal.the-variants.{BadLetters, BadMirror, BadK, WrongLength, TooLarge, ShortBuffer, NoSuchCode, ForeignByte, StrayByte, EarlyLetter, CountsFull, NoSurveyLine, LongInput, BadRecord, QualityLength, QualityByte, CountsLacking, FormOrder, BadLine, OtherSettings, BadCount}
-use Rattle.settings.specs.Grounds.{Ground, Outcome, refused, groundOf, ground, groundAt, tooShort, outcome, _orElse_, Overwrites}
+use Rattle.settings.specs.Grounds.{ground, groundAt, tooShort, _orElse_}
 use Rattle.settings.specs.Settings.{rankIn, settingsGround}
-use Rattle.settings.proofs.Outcomes.{refused-is, test-fails, not-too-large}
+use Rattle.settings.proofs.Outcomes.{test-fails, not-too-large}
 use Rattle.settings.proofs.SettingsGrounds.{good-settings}
 use Rattle.settings.proofs.FirstGround.{PlaceUpTo, Small, test-small, place-small, then-small, room-small, settings-small, sizes-has}
 use Rattle.encoding.specs.Calls.{hereOr, foreignFrom, wrongLength, mirrorGround}
 use Rattle.sequence.specs.Sequences.{sequenceGround}
 use Rattle.tally.specs.Table.{classCount, tooMany, clearGround}
-use Rattle.kmer.specs.Returned.{ReturnsPlaces}
-use Rattle.kmer.specs.Needs.{PlaceFits}
-
--- No number of a refusal is above 22.
-pub number-small : (f : Refusal) → groundOf f .0 ≤ 22
-number-small BadLetters = omega arith
-number-small BadMirror = omega arith
-number-small BadK = omega arith
-number-small WrongLength = omega arith
-number-small TooLarge = omega arith
-number-small (ShortBuffer p) = omega arith
-number-small NoSuchCode = omega arith
-number-small (ForeignByte p) = omega arith
-number-small (StrayByte p) = omega arith
-number-small (EarlyLetter p) = omega arith
-number-small CountsFull = omega arith
-number-small NoSurveyLine = omega arith
-number-small LongInput = omega arith
-number-small (BadRecord offset) = omega arith
-number-small (QualityLength offset) = omega arith
-number-small (QualityByte offset) = omega arith
-number-small CountsLacking = omega arith
-number-small FormOrder = omega arith
-number-small (BadLine offset) = omega arith
-number-small (OtherSettings offset) = omega arith
-number-small (BadCount offset) = omega arith
-
--- ---- the answer as one number
-
--- A refusal by grounds whose P is at most n has a P that fits beside its number.
-pub refused-fits : {A : Type 0} (f : Refusal) (a : A) (g : Option Ground) (n : ℕ) → Small n g → n < 2 ^ 32 → refused (groundOf f) ≡ outcome g a
-    → groundOf f .1 < 2 ^ 32
-refused-fits f a g n small h e = omega (arith, small (groundOf f) (refused-is (groundOf f) a g e))
-
--- From a call below that overwrote the buffer and answered a.
-module _ {g : Option Ground} {count : ℕ} {places old new : List ℕ} {a : Outcome ℕ} (W : Overwrites g count places old a new) where
-  -- The answer as one number, and the buffer as the call below left it.
-  pub returns-answer : (number : Outcome ℕ → ℕ) (x : ℕ) → x ≡ number a → ReturnsPlaces number g count places old x new
-  returns-answer number x h = record { returns = h ∙ ap number (W .answers); leaves = W .leaves }
-
-  -- The P of its refusal fits, where the P of each ground is at most n.
-  pub place-fits : (n : ℕ) → Small n g → n < 2 ^ 32 → PlaceFits a
-  place-fits n small h = subst⁻¹ PlaceFits (W .answers) (go g small)
-    where
-      go : (o : Option Ground) → Small n o → PlaceFits (outcome o count)
-      go none s = tt
-      go (some f) s = omega (arith, s f refl)
 
 -- ---- the P of a refused mirroring is at most 62
 

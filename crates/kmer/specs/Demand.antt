@@ -8,8 +8,9 @@ use Rattle.fasta.specs.declared.Numbers.{Numbers}
 use Rattle.tally.specs.Table.{Call}
 use Rattle.tally.specs.Book.{Book}
 use Rattle.tally.specs.Demand.{Calls, TableCalls, Kept, DemandThree, SameCountsExactlyWhen}
-use Rattle.kmer.specs.Returned.{returnedWithPlace}
-use Rattle.kmer.specs.FileCalls.{fiveNumbers, CallsInto}
+use Rattle.returned.specs.Returned.{returnedWithPlace}
+use Rattle.returned.specs.FileNumbers.{fiveNumbers}
+use Rattle.kmer.specs.FileCalls.{CallsInto}
 
 -- A list of `kmer_add` and `kmer_withdraw` calls with the same settings, each on the table that the call before left. Each is asked with a file of either
 -- kind, which the call names by its number `fastq` (`kindOfNumber`), and a lent list of at least five places; it tells by the number that it returns and by the

@@ -1,24 +1,16 @@
 -- Document 01, "Sequence file (FASTA)" and "Grounds for refusing", and document 02, K1 and K4: what adding and withdrawing a file of either kind through the
 -- C calls return and leave. The file's five numbers go into a lent list of 64-bit numbers.
 use mathlib.Core.Path.{_≡_}
-use mathlib.Core.Bool.{cond}
 use mathlib.Core.Option.{Option}
-use mathlib.Core.List.{List, [], _∷_}
+use mathlib.Core.List.{List}
 use Prim.Native.Nat.{ℕ}
 use lib.ListN.{length}
-use lib.Dec.{eqb}
 use Rattle.settings.specs.Grounds.{Ground, groundAt, tooShort, outcome, unlessRefused, overwritten, _orElse_}
 use Rattle.settings.specs.Settings.{rankIn}
-use Rattle.fasta.specs.declared.Numbers.{Numbers}
-use Rattle.files.specs.declared.Kind.{Kind}
-use Rattle.files.specs.declared.Kind.the-variants.{Fasta, Fastq}
 use Rattle.files.specs.File.{File, fileFault, fileNumbers}
 use Rattle.tally.specs.Table.{readyGround, Call, add, withdraw, callFile, lastGround, tableAfter}
-use Rattle.kmer.specs.Returned.{returnedWithPlace}
-
--- "A caller names the kind of file": 0 is FASTA, any other number FASTQ.
-unfoldable pub kindOfNumber : ℕ → Kind
-kindOfNumber n = cond (eqb n 0) Fasta Fastq
+use Rattle.returned.specs.Returned.{returnedWithPlace}
+use Rattle.returned.specs.FileNumbers.{fiveNumbers}
 
 -- "the table before others": the 7 of the list for the answer comes after that of the table, then the grounds of the file's kind, then 12 for an add and 18
 -- for a withdrawal.
@@ -28,10 +20,6 @@ intoGround letters k m t c room =
     orElse groundAt 7 (tooShort room 5)
     orElse fileFault (callFile c)
     orElse lastGround letters k m t c
-
--- "its records (header lines), letters (foreign ones too), foreign, and edge and windows over all runs"
-abbrev pub fiveNumbers : Numbers → List ℕ
-fiveNumbers n = n .records ∷ n .letters ∷ n .foreign ∷ n .edge ∷ n .windows ∷ []
 
 -- What `kmer_add` and `kmer_withdraw` have in common: what is returned, and the table and the answer list that are left; a refused call changes neither.
 pub record CallsInto (letters : List ℕ) (k mirror : ℕ) (t : List ℕ) (c : Call) (old : List ℕ) (r : ℕ) (t′ new : List ℕ) : Type 0 where

@@ -4,7 +4,7 @@ use Prim.Native.Nat.{ℕ}
 use lib.ListN.{length}
 use Rattle.tally.specs.Table.{classCount}
 use Rattle.loading.specs.Loading.{loadGround, loadedCounts}
-use Rattle.kmer.specs.Returned.{returnedUpTo, ReturnsPlaces}
+use Rattle.returned.specs.Returned.{returnedUpTo, ReturnsPlaces}
 
 -- The contract of `kmer_load`: it returns how many places it set, one a class, or the refusal with its P as far as it fits; a refused call leaves the table as
 -- it was.

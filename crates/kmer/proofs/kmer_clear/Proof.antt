@@ -2,8 +2,9 @@
 -- `clear-small`.
 use native.Mathlib.Omega.{arith}
 use borrow.Author.Needs.{needs}
-use Rattle.kmer.specs.Returned.{returnedWithPlace}
-use Rattle.kmer.proofs.Refusals.{returns-answer, place-fits, clear-small}
+use Rattle.returned.specs.Returned.{returnedWithPlace}
+use Rattle.returned.proofs.Refusals.{returns-answer, place-fits}
+use Rattle.kmer.proofs.Refusals.{clear-small}
 use Rattle.kmer.proofs.kmer_clear.Statement.{statement}
 use Rattle.kmer.proofs.kmer_clear.Tie as tie
 

@@ -1,7 +1,7 @@
 -- `kmer::kmer_code` meets its contract: what `words::code_of` answered, as one number.
 use mathlib.Core.Path.{sym, ap, _∙_}
 use Rattle.words.specs.Answers.{ofCoding}
-use Rattle.kmer.specs.Returned.{returned}
+use Rattle.returned.specs.Returned.{returned}
 use borrow.Author.Needs.{needs}
 use Rattle.kmer.proofs.kmer_code.Statement.{statement}
 use Rattle.kmer.proofs.kmer_code.Tie as tie

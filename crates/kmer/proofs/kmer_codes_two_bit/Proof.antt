@@ -1,8 +1,9 @@
 -- `kmer::kmer_codes_two_bit` meets its contract: what `sequence::codes_two_bit` answered, as one number, by the laws of proofs/Refusals.antt.
 use native.Mathlib.Omega.{arith}
 use borrow.Author.Needs.{needs}
-use Rattle.kmer.specs.Returned.{returnedWithPlace}
-use Rattle.kmer.proofs.Refusals.{returns-answer, place-fits, sequence-small}
+use Rattle.returned.specs.Returned.{returnedWithPlace}
+use Rattle.returned.proofs.Refusals.{returns-answer, place-fits}
+use Rattle.kmer.proofs.Refusals.{sequence-small}
 use Rattle.kmer.proofs.kmer_codes_two_bit.Statement.{statement}
 use Rattle.kmer.proofs.kmer_codes_two_bit.Tie as tie
 

@@ -2,8 +2,8 @@
 -- `listing-small`.
 use native.Mathlib.Omega.{arith}
 use borrow.Author.Needs.{needs}
-use Rattle.kmer.specs.Returned.{returnedWithPlace}
-use Rattle.kmer.proofs.Refusals.{returns-answer, place-fits}
+use Rattle.returned.specs.Returned.{returnedWithPlace}
+use Rattle.returned.proofs.Refusals.{returns-answer, place-fits}
 use Rattle.listing.specs.Needs.{longest}
 use Rattle.kmer.proofs.Listings.{listing-small}
 use Rattle.kmer.proofs.kmer_listing.Statement.{statement}

@@ -2,8 +2,8 @@
 use mathlib.Core.Path.{sym, ap, _∙_}
 use Rattle.settings.specs.declared.Filling.{Filling}
 use Rattle.settings.specs.Grounds.{ofFilling}
-use Rattle.kmer.specs.Returned.{returnedUpTo}
-use Rattle.kmer.proofs.Refusals.{returns-answer}
+use Rattle.returned.specs.Returned.{returnedUpTo}
+use Rattle.returned.proofs.Refusals.{returns-answer}
 use borrow.Author.Needs.{needs}
 use Rattle.kmer.proofs.kmer_load.Statement.{statement}
 use Rattle.kmer.proofs.kmer_load.Tie as tie

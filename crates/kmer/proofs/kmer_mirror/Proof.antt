@@ -1,8 +1,9 @@
 -- `kmer::kmer_mirror` meets its contract: what `words::mirror_of` answered, as one number, by the laws of proofs/Refusals.antt.
 use native.Mathlib.Omega.{arith}
 use borrow.Author.Needs.{needs}
-use Rattle.kmer.specs.Returned.{returnedWithPlace}
-use Rattle.kmer.proofs.Refusals.{returns-answer, place-fits, mirror-small}
+use Rattle.returned.specs.Returned.{returnedWithPlace}
+use Rattle.returned.proofs.Refusals.{returns-answer, place-fits}
+use Rattle.kmer.proofs.Refusals.{mirror-small}
 use Rattle.kmer.proofs.kmer_mirror.Statement.{statement}
 use Rattle.kmer.proofs.kmer_mirror.Tie as tie
 

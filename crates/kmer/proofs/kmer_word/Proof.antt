@@ -1,8 +1,8 @@
 -- `kmer::kmer_word` meets its contract: what `words::word_of` answered, as one number without P, and the buffer as that call left it.
 use mathlib.Core.Path.{sym, ap, _∙_}
 use Rattle.settings.specs.declared.Filling.{Filling}
-use Rattle.kmer.specs.Returned.{returned}
-use Rattle.kmer.proofs.Refusals.{returns-answer}
+use Rattle.returned.specs.Returned.{returned}
+use Rattle.returned.proofs.Refusals.{returns-answer}
 use borrow.Author.Needs.{needs}
 use Rattle.settings.specs.Grounds.{ofFilling}
 use Rattle.kmer.proofs.kmer_word.Statement.{statement}

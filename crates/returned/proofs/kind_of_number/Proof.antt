@@ -1,8 +1,8 @@
--- `kmer::kind_of_number` meets its contract: by its test.
+-- `returned::kind_of_number` meets its contract: by its test.
 use borrow.Author.Tests.{ne-eqb}
-use Rattle.kmer.specs.FileCalls.{kindOfNumber}
-use Rattle.kmer.proofs.kind_of_number.Statement.{statement}
-use Rattle.kmer.proofs.kind_of_number.Tie as tie
+use Rattle.returned.specs.FileNumbers.{kindOfNumber}
+use Rattle.returned.proofs.kind_of_number.Statement.{statement}
+use Rattle.returned.proofs.kind_of_number.Tie as tie
 
 returns : tie.Need-returns
 unfolding kindOfNumber

@@ -1,4 +1,4 @@
--- What functions below the C calls ask of each other.
+-- What functions below the C calls ask of each other; no claim rests on it.
 use Prim.Native.Nat.{ℕ, _^_, _<_}
 use Rattle.settings.specs.Grounds.{Outcome, given, refused}
 

@@ -1,9 +1,9 @@
--- `kmer::refused_at` meets its contract: P is below 2^32 and the number at most 22, so the sum fits.
+-- `returned::refused_at` meets its contract: P is below 2^32 and the number at most 22, so the sum fits.
 use native.Mathlib.Omega.{arith}
-use Rattle.kmer.proofs.Refusals.{number-small}
+use Rattle.returned.proofs.Refusals.{number-small}
 use borrow.Author.Needs.{needs}
-use Rattle.kmer.proofs.refused_at.Statement.{statement}
-use Rattle.kmer.proofs.refused_at.Tie as tie
+use Rattle.returned.proofs.refused_at.Statement.{statement}
+use Rattle.returned.proofs.refused_at.Tie as tie
 
 place-of-requires : tie.Need-place-of-requires
 place-of-requires c κs = search needs

@@ -1,13 +1,13 @@
--- `kmer::with_place` meets its contract: the number of places as it is, or the refusal with its P, which fits beside the number.
+-- `returned::with_place` meets its contract: the number of places as it is, or the refusal with its P, which fits beside the number.
 use mathlib.Core.Path.{ap, sym, _∙_, subst}
 use Prim.Native.Nat.{ℕ}
 use borrow.Author.Needs.{needs}
 use Rattle.settings.specs.declared.Filling.{Filling}
 use Rattle.settings.specs.Grounds.{ofFilling}
-use Rattle.kmer.specs.Returned.{returnedWithPlace}
-use Rattle.kmer.specs.Needs.{PlaceFits}
-use Rattle.kmer.proofs.with_place.Statement.{statement}
-use Rattle.kmer.proofs.with_place.Tie as tie
+use Rattle.returned.specs.Returned.{returnedWithPlace}
+use Rattle.returned.specs.Needs.{PlaceFits}
+use Rattle.returned.proofs.with_place.Statement.{statement}
+use Rattle.returned.proofs.with_place.Tie as tie
 
 abbrev number : Filling → ℕ
 number answer = returnedWithPlace (ofFilling answer)

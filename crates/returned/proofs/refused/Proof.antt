@@ -1,9 +1,9 @@
--- `kmer::refused` meets its contract: the number is at most 22, so the sum fits.
+-- `returned::refused` meets its contract: the number is at most 22, so the sum fits.
 use native.Mathlib.Omega.{arith}
-use Rattle.kmer.proofs.Refusals.{number-small}
+use Rattle.returned.proofs.Refusals.{number-small}
 use borrow.Author.Needs.{needs}
-use Rattle.kmer.proofs.refused.Statement.{statement}
-use Rattle.kmer.proofs.refused.Tie as tie
+use Rattle.returned.proofs.refused.Statement.{statement}
+use Rattle.returned.proofs.refused.Tie as tie
 
 number-of-requires : tie.Need-number-of-requires
 number-of-requires c κs = search needs

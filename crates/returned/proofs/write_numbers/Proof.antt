@@ -1,11 +1,11 @@
--- `kmer::write_numbers` meets its contract: five places are set, one after the other.
+-- `returned::write_numbers` meets its contract: five places are set, one after the other.
 use native.Mathlib.Omega.{arith}
 use borrow.Author.Needs.{needs}
 use lib.ListN.{length-set}
 use lib.Seq.{sets-eq}
-use Rattle.kmer.specs.FileCalls.{fiveNumbers}
-use Rattle.kmer.proofs.write_numbers.Statement.{statement}
-use Rattle.kmer.proofs.write_numbers.Tie as tie
+use Rattle.returned.specs.FileNumbers.{fiveNumbers}
+use Rattle.returned.proofs.write_numbers.Statement.{statement}
+use Rattle.returned.proofs.write_numbers.Tie as tie
 
 slice-write-answer : tie.Need-slice-write-answer
 slice-write-answer c = search needs

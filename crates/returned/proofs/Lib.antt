@@ -1,0 +1,2 @@
+-- What the functions' proofs and those of the C calls cite.
+pub mod Refusals
