@@ -1,4 +1,4 @@
--- `kmer::kmer_clear` meets its contract: what `table::clear` answered, as one number, by the laws of proofs/Refusals.antt; its P fits by
+-- `kmer::kmer_clear` meets its contract: what `table::clear` answered, as one number, by the laws of `returned`; its P fits by
 -- `clear-small`.
 use native.Mathlib.Omega.{arith}
 use borrow.Author.Needs.{needs}

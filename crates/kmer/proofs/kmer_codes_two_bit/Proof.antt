@@ -1,4 +1,4 @@
--- `kmer::kmer_codes_two_bit` meets its contract: what `sequence::codes_two_bit` answered, as one number, by the laws of proofs/Refusals.antt.
+-- `kmer::kmer_codes_two_bit` meets its contract: what `sequence::codes_two_bit` answered, as one number, by the laws of `returned`.
 use native.Mathlib.Omega.{arith}
 use borrow.Author.Needs.{needs}
 use Rattle.returned.specs.Returned.{returnedWithPlace}

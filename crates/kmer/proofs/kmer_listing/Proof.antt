@@ -1,4 +1,4 @@
--- `kmer::kmer_listing` meets its contract: what `listing::list` answered, as one number, by the laws of proofs/Refusals.antt; its P fits by
+-- `kmer::kmer_listing` meets its contract: what `listing::list` answered, as one number, by the laws of `returned`; its P fits by
 -- `listing-small`.
 use native.Mathlib.Omega.{arith}
 use borrow.Author.Needs.{needs}

@@ -1,4 +1,4 @@
--- `kmer::kmer_mirror` meets its contract: what `words::mirror_of` answered, as one number, by the laws of proofs/Refusals.antt.
+-- `kmer::kmer_mirror` meets its contract: what `words::mirror_of` answered, as one number, by the laws of `returned`.
 use native.Mathlib.Omega.{arith}
 use borrow.Author.Needs.{needs}
 use Rattle.returned.specs.Returned.{returnedWithPlace}
