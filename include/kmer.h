@@ -1,7 +1,7 @@
 /*
  * kmer.h: the C calls of libkmer.a, which code k-mers, read codes back, mirror k-mers, code all k-mers
  * along a sequence, count the k-mers of sequence files (FASTA or FASTQ) in a table, withdraw files from it,
- * list the table, and load a listing into a table.
+ * list the table, load a listing into a table, and write test loads, sequence files that anyone can make again.
  *
  * A class is a word of k letters together with its mirror. The calls work with the minimal encoding
  * of canonical k-mers (Wittler 2023): each class has one code, from 0 to the number of classes less 1.
@@ -13,8 +13,8 @@
  *                         A letter's rank is its place in this list, from 0. s is their number. DNA is ACGT.
  *                         Words, sequences and files may have small letters, which count as their capitals;
  *                         and where the letters have T and no U, U counts as T in them, so that RNA is read
- *                         under ACGT: below, such a U is a letter of the settings. Words that are written have
- *                         the letters of this list alone.
+ *                         under ACGT: below, such a U is a letter of the settings. Words and test loads that are
+ *                         written have the letters of this list alone.
  *   k                     the letters in a word: at least 1, and s^k at most 2^62. The largest k is 62
  *                         for two letters, 39 for three, 31 for four, 15 for sixteen.
  *   mirror                KMER_REVERSAL or KMER_COMPLEMENT. Under the latter the letter of rank i pairs with
@@ -76,8 +76,8 @@ enum kmer_grounds {
     KMER_ODD_COMPLEMENT = 3,  /* reserved, never returned: complement takes an odd number of letters too */
     KMER_BAD_K = 4,           /* k is 0, or s^k is above 2^62 */
     KMER_BAD_LENGTH = 5,      /* word_len is not k */
-    KMER_TOO_LARGE = 6,       /* the sequence or file is above 16,777,216 bytes; in table calls also:
-                                 there are more than 16,777,216 classes */
+    KMER_TOO_LARGE = 6,       /* the sequence or file is above 16,777,216 bytes, that of kmer_generate too; in
+                                 table calls also: there are more than 16,777,216 classes */
     KMER_SHORT_BUFFER = 7,    /* a lent buffer is too short; P is the length needed */
     KMER_BAD_CODE = 8,        /* code is not below the number of classes */
     KMER_FOREIGN_BYTE = 9,    /* a byte of word is no letter of the settings; P is the first such place */
@@ -247,6 +247,27 @@ uint64_t kmer_listing(const uint8_t *letters, size_t letters_len, size_t k, uint
  */
 uint64_t kmer_load(const uint8_t *letters, size_t letters_len, size_t k, uint64_t mirror,
                    uint32_t *table, size_t table_len, const uint8_t *text, size_t text_len);
+
+/*
+ * Writes a test load: a FASTA file by the settings that is the same wherever it is made, from a start, a number of
+ * records and a number of letters in each.
+ *   start         any 64-bit number: the first state.
+ *   records       how many records: each has a header line, > and its number from 1, and then its letters in lines
+ *                 of 60, the last perhaps shorter. Each line ends in LF. With 0 letters there is only the header.
+ *   letters_each  how many letters each record has. For each the state, which runs on from record to record,
+ *                 becomes state * 6364136223846793005 + 1442695040888963407 modulo 2^64; the letter has as its rank
+ *                 the state's top 32 bits times s, divided by 2^32 and rounded down.
+ *   out, out_len  the buffer for the file and its length in bytes. Its first bytes receive the file; later bytes
+ *                 keep what they held.
+ * k and mirror change nothing in the file; they are judged all the same. kmer_add takes such a file, of so many
+ * records and letters and no foreign ones, into a table of these settings, unless 12 applies.
+ * Returns how many bytes were written, or 2^63 + P * 256 + the number of the first ground that applies of 1, 2, 4, 6
+ * (the file would have more than 16,777,216 bytes), 7, where P is the length needed for 7, else 0. A refused call
+ * writes nothing: call with an empty out first to learn the length (of 0 records it is 0, and the call is not
+ * refused).
+ */
+uint64_t kmer_generate(const uint8_t *letters, size_t letters_len, size_t k, uint64_t mirror, uint64_t start,
+                       size_t records, size_t letters_each, uint8_t *out, size_t out_len);
 
 /* How many numbers kmer_add and kmer_withdraw answer with. */
 #define KMER_NUMBERS 5

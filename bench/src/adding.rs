@@ -4,7 +4,7 @@
 //! FASTQ beside FASTA.
 
 use crate::baseline::{general, rank_table, two_bit};
-use crate::{drawn, median, print_ratio};
+use crate::{drawn, median, print_ratio, test_load};
 use std::hint::black_box;
 use std::time::Instant;
 use wontirje::{Kind, Mirror, Numbers, Settings};
@@ -176,16 +176,11 @@ fn plain_add(settings: &Settings, table: &mut [u32], kind: Kind, file: &[u8]) ->
     numbers
 }
 
-/// A file of one record in lines of 80 letters, nearly as long as the library takes, with some foreign
-/// letters.
+/// A test load of one record, nearly as long as the library takes, with some foreign letters put in.
 pub fn drawn_file(letters: &[u8], foreign: u8) -> Vec<u8> {
-    let mut file = b">drawn\n".to_vec();
-    let mut sequence = drawn(letters, LETTERS);
-    sequence.iter_mut().step_by(9973).for_each(|byte| *byte = foreign);
-    for line in sequence.chunks(80) {
-        file.extend(line);
-        file.push(b'\n');
-    }
+    let mut file = test_load(&Settings { letters, k: 1, mirror: Mirror::Reversal }, 1, LETTERS);
+    let sequence = file.iter_mut().filter(|byte| byte.is_ascii_uppercase());
+    sequence.step_by(9973).for_each(|byte| *byte = foreign);
     file
 }
 
@@ -193,7 +188,9 @@ pub fn drawn_file(letters: &[u8], foreign: u8) -> Vec<u8> {
 pub fn drawn_reads() -> [(Kind, Vec<u8>); 2] {
     let (mut fastq, mut fasta) = (Vec::new(), Vec::new());
     let sequence = drawn(b"ACGT", READ * READS);
-    let qualities: Vec<u8> = drawn(b"#,:FFFF", READ * READS);
+    let mut qualities = drawn(b"ABCDEFG", READ * READS);
+    // Each letter stands for a quality.
+    qualities.iter_mut().for_each(|byte| *byte = b"#,:FFFF"[usize::from(*byte - b'A')]);
     for (number, (read, quality)) in sequence.chunks(READ).zip(qualities.chunks(READ)).enumerate() {
         let name = format!("read.{number}\n");
         fastq.extend([b"@", name.as_bytes(), read, b"\n+\n", quality, b"\n"].concat());

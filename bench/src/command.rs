@@ -1,17 +1,20 @@
-//! `wontirje count` as a whole process on a file of 16,777,216 bytes, beside jellyfish and KMC with one
+//! `wontirje count` as a whole process on a test load of 16,777,216 bytes, beside jellyfish and KMC with one
 //! thread each in the same run: time, processor time and peak memory. None of them writes its result:
 //! `--no-listing`, `--no-write` and `-w`. All are asked for the same counts: canonical words, every count
 //! from 1 to 2^32 - 1.
 
-use crate::draw::write_drawn;
-use crate::median;
 use crate::usage::{ended, own_peak, Taken};
+use crate::{median, START};
 use std::fs;
+use std::path::Path;
 use std::process::{Command, Stdio};
 use std::time::Instant;
 
 const RUNS: usize = 7;
-const BYTES: usize = 16_777_216;
+const BYTES: u64 = 16_777_216;
+
+/// The letters of a test load of one record with so many bytes.
+const LETTERS: usize = 16_502_176;
 
 /// The command as `cargo build --release` in host/ leaves it.
 const WONTIRJE: &str = concat!(env!("CARGO_MANIFEST_DIR"), "/../target/host/release/wontirje");
@@ -74,17 +77,30 @@ fn print_at(k: usize, file: &str, folder: &str) {
     }
 }
 
-/// This process must stay small, since the system counts its memory as part of that of the programs that it
-/// starts.
+/// The command writes the test load: this process must stay small, since the system counts its memory as part
+/// of that of the programs that it starts. Gives whether the file is there.
+fn has_written(file: &Path) -> bool {
+    let mut command = Command::new(WONTIRJE);
+    command.arg("generate").arg(format!("--start={START}")).arg("--records=1");
+    command.arg(format!("--length={LETTERS}")).arg("--output").arg(file);
+    command.status().is_ok_and(|status| status.success())
+}
+
 pub fn print() {
     let folder = std::env::temp_dir().join(format!("wontirje-bench-{}", std::process::id()));
     fs::create_dir_all(&folder).expect("a folder for the file");
     let file = folder.join("drawn.fa");
-    write_drawn(&file, 1, BYTES).expect("room for the file");
-    println!("whole processes on {BYTES} bytes, median of {RUNS} runs, one thread each, no result written");
-    for k in [11, 12] {
-        print_at(k, &file.to_string_lossy(), &folder.to_string_lossy());
+    if has_written(&file) {
+        assert_eq!(fs::metadata(&file).expect("the file").len(), BYTES, "the file has another length");
+        println!(
+            "whole processes on {BYTES} bytes, median of {RUNS} runs, one thread each, no result written"
+        );
+        for k in [11, 12] {
+            print_at(k, &file.to_string_lossy(), &folder.to_string_lossy());
+        }
+        assert!(own_peak() < 9_000_000, "this process is too large to measure others");
+    } else {
+        println!("{WONTIRJE} writes no test load: build it in host/ with cargo build --release");
     }
-    assert!(own_peak() < 9_000_000, "this process is too large to measure others");
     fs::remove_dir_all(&folder).expect("the folder goes away again");
 }

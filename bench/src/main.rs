@@ -1,33 +1,52 @@
 //! Prints nanoseconds a letter, the median of several runs, of both paths of libkmer.a along random sequences
 //! and of adding a file to a table, beside plain Rust versions (baseline.rs says where they differ) in the
-//! same run, with ratios, of adding reads as FASTQ beside FASTA, of withdrawing a file beside adding it, and
-//! of loading a listing beside writing it; before that, the whole command `wontirje count` beside other
-//! counters.
+//! same run, with ratios, of adding reads as FASTQ beside FASTA, of withdrawing a file beside adding it, of
+//! loading a listing beside writing it, and of writing a test load beside adding it; before that, the whole
+//! command `wontirje count` beside other counters. All that is random here is drawn by the library, as test
+//! loads, so that anyone can measure with the same input.
 
 mod adding;
 mod baseline;
 mod command;
-// Two files of the tests by their path: what is drawn and what a process took. The first has more than is
-// used here.
-#[allow(dead_code)]
-#[path = "../../tests/src/draw.rs"]
-mod draw;
+mod generating;
 mod loading;
+// A file of the tests by its path: what a process took.
 #[path = "../../host/tests/run/usage.rs"]
 mod usage;
 mod withdrawing;
 
-use draw::Random;
 use std::time::Instant;
 use wontirje::{codes_two_bit, Mirror, Settings};
 
 const LETTERS: usize = 16_000_000;
 const RUNS: usize = 11;
 
-/// A random sequence over some letters.
+/// What every test load here starts from.
+const START: u64 = 1;
+
+/// The parts that can be asked for alone.
+const PARTS: [(&str, fn()); 4] = [
+    ("adding", adding::print),
+    ("withdrawing", withdrawing::print),
+    ("loading", loading::print),
+    ("generating", generating::print),
+];
+
+/// A test load: a FASTA file of random letters.
+fn test_load(settings: &Settings, records: usize, each: usize) -> Vec<u8> {
+    let mut file = vec![0; settings.generated_length(records, each).expect("a file that is not too large")];
+    settings.generate(START, records, each, &mut file).expect("room for the file");
+    file
+}
+
+/// A random sequence over some letters: a test load of one record without its header and its line ends.
 fn drawn(letters: &[u8], length: usize) -> Vec<u8> {
-    let mut random = Random::new(1);
-    (0..length).map(|_| letters[random.below(letters.len() as u64) as usize]).collect()
+    // The file has the same letters for every k and mirror.
+    let settings = Settings { letters, k: 1, mirror: Mirror::Reversal };
+    let mut file = test_load(&settings, 1, length);
+    // A header has no capital.
+    file.retain(u8::is_ascii_uppercase);
+    file
 }
 
 /// Fills codes along a sequence and tells how many.
@@ -115,17 +134,11 @@ fn print_alphabets() {
 }
 
 fn main() {
-    // The words `adding`, `withdrawing`, `loading` and `command` as an argument leave out the rest, which
-    // takes longer. The command comes first, while this process is small.
+    // The name of a part, or `command`, as an argument leaves out the rest, which takes longer. The command
+    // comes first, while this process is small.
     let asked = |part: &str| std::env::args().any(|argument| argument == part);
-    if asked("adding") {
-        return adding::print();
-    }
-    if asked("withdrawing") {
-        return withdrawing::print();
-    }
-    if asked("loading") {
-        return loading::print();
+    if let Some((_, print)) = PARTS.iter().find(|(part, _)| asked(part)) {
+        return print();
     }
     command::print();
     if asked("command") {
@@ -134,7 +147,5 @@ fn main() {
     println!("ns a letter, median of {RUNS} runs, {LETTERS} random letters");
     print_dna();
     print_alphabets();
-    adding::print();
-    withdrawing::print();
-    loading::print();
+    PARTS.iter().for_each(|(_, print)| print());
 }

@@ -40,6 +40,7 @@
 // The declarations of the C calls, by their path from the tests, so that they are written once.
 #[path = "../../tests/src/c_calls.rs"]
 mod c_calls;
+mod generator;
 mod kind;
 mod lines;
 mod refusal;

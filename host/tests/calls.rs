@@ -9,6 +9,7 @@ use kmer_tests::draw_files::drawn_sequence;
 use kmer_tests::expected::{self, coding, mirroring, reading, settings_ground};
 use kmer_tests::files;
 use kmer_tests::lent::filled;
+use kmer_tests::second_generator::{generating, Asked};
 use kmer_tests::sequences::along;
 use kmer_tests::settings::*;
 use kmer_tests::tables::{drawn_table, sizes_up_to, Call};
@@ -120,6 +121,28 @@ fn codes_along_sequences() {
             assert_eq!((answer, &codes), (count, &list), "{settings}: two-bit");
         }
     }
+}
+
+/// Test loads beside the second generator: their lengths, and their bytes in a buffer that may be too short.
+#[test]
+fn test_loads() {
+    let mut random = Random::new(106);
+    let mut answers = [0; 8];
+    for settings in all_settings(&mut random) {
+        for too_large in [0, 0, 1 << 40] {
+            let [records, each] = [12, 130].map(|bound| random.below(bound) as usize + too_large);
+            let asked = Asked::new(random.draw(), records, each);
+            let length = generating(&settings, asked, usize::MAX).map(|file| file.len()).map_err(refusal);
+            assert_eq!(lent(&settings).generated_length(records, each), length, "{settings}: {asked}");
+            let room = (length.unwrap_or(0) + 3).saturating_sub(random.below(6) as usize);
+            let mut out: Vec<u8> = filled(room);
+            let answer = lent(&settings).generate(asked.start, records, each, &mut out);
+            answers[answer.map_or_else(|refusal| refusal.number as usize, |_| 0)] += 1;
+            let right = generating(&settings, asked, room).map_err(refusal);
+            check_bytes(&format!("{settings}: {asked}"), answer, &out, right);
+        }
+    }
+    assert!([0, 1, 4, 6, 7].iter().all(|&number| answers[number] > 8), "{answers:?} test loads");
 }
 
 /// Adds or withdraws a file beside the tally book: the answer is the book's, and so is each count; the table's other

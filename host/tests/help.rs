@@ -11,7 +11,7 @@ use std::path::Path;
 use std::process::{Command, Stdio};
 use wontirje::Settings;
 
-const COMMANDS: [&str; 6] = ["count", "merge", "code", "word", "classes", "histogram"];
+const COMMANDS: [&str; 7] = ["count", "merge", "code", "word", "classes", "histogram", "generate"];
 
 #[test]
 fn each_command_has_help_with_an_example() {
@@ -99,7 +99,7 @@ fn the_help_says_how_to_go_on_from_a_listing() {
     assert!(all.contains("(under count --from: the listing's):\n"), "{all}");
     // The sums are not the library's.
     assert!(
-        all.contains("the command is tested, and\nso are the sums of merge, which it adds up by itself.\n")
+        all.contains("the command is\ntested, and so are the sums of merge, which it adds up by itself.\n")
     );
 }
 
@@ -112,6 +112,25 @@ fn the_help_says_that_a_listing_has_the_number_of_classes() {
         "A listing is taken as wontirje count prints it, byte for byte; any other is refused, with the \
         place and what to do, and so is an older one, whose first line lacks (classes N).";
     assert!(told("histogram").contains(rule), "{}", told("histogram"));
+}
+
+/// What is said of test loads: what they are made from, and that it is all that they are made from.
+#[test]
+fn the_help_says_what_a_test_load_is() {
+    for rule in [
+        "The same numbers and letters give the same file everywhere, byte for byte,",
+        "Of the settings only --letters changes the file;",
+        "the header of each is > and its number from 1",
+        "in lines of 60, the last perhaps shorter; with 0 there are only headers",
+        "All three numbers must be given, each from 0 to 2^64 - 1. All lines end in LF.",
+        "becomes state * 6364136223846793005 + 1442695040888963407 modulo 2^64;",
+        "its top 32 bits times the number of letters, divided by 2^32 and rounded down, are the letter's rank",
+        "A file has at most 16,777,216 bytes; a larger one is refused with 6, and nothing is written.",
+    ] {
+        assert!(told("generate").contains(rule), "{rule}: {}", told("generate"));
+    }
+    let usage = run(&["generate", "--help"]).text().to_string();
+    assert!(usage.contains(" --start S --records N --length M\n") && usage.contains(" [--output FILE]\n"));
 }
 
 /// What is said of RNA.
@@ -140,13 +159,14 @@ fn the_examples_print_what_the_help_says() {
                 "2097152 and 8390656 classes" => {
                     "k 11: 2097152 classes, table 8388608 bytes\nk 12: 8390656 classes, table 33562624 bytes\n"
                 }
+                ">1, CGGCT, >2 and GGATA, a line each" => ">1\nCGGCT\n>2\nGGATA\n",
                 other => panic!("{other}"),
             };
             assert_eq!(printed, right);
             tried += 1;
         }
     }
-    assert_eq!(tried, 4);
+    assert_eq!(tried, 5);
 }
 
 /// One line on standard error, nothing printed, status 2.

@@ -1,7 +1,7 @@
 //! The memory of `wontirje count`: at most the table, one file or listing and 2 MB, as the system measured
 //! the peak of what was resident; of `merge` a second table besides; of `histogram` the same where few counts
-//! differ, since it holds each count that occurs, and with `--each` its bar too. In a file of its own, so
-//! that the process which starts the command is small.
+//! differ, since it holds each count that occurs, and with `--each` its bar too; of `generate` its file and
+//! 2 MB. In a file of its own, so that the process which starts the command is small.
 
 mod run;
 #[path = "run/usage.rs"]
@@ -48,13 +48,17 @@ fn full_fastq(folder: &Folder) -> PathBuf {
 
 fn check(what: &str, peak: u64, k: usize, file: u64) {
     let table = 4 * wontirje::Settings::dna(k).table_places().expect("a table") as u64;
-    let bound = table + file + 2_000_000;
-    assert!(usage::own_peak() < table + file, "{what}: this process is too large to measure");
-    assert!(peak > table + file, "{what}: {peak} bytes, less than table and file");
+    check_held(what, peak, table + file);
+}
+
+/// What a command holds, its table and its file, and 2 MB.
+fn check_held(what: &str, peak: u64, held: u64) {
+    assert!(usage::own_peak() < held, "{what}: this process is too large to measure");
+    assert!(peak > held, "{what}: {peak} bytes, less than table and file");
     assert!(
-        peak <= bound,
+        peak <= held + 2_000_000,
         "{what}: {peak} bytes, {} above table and file; is the command linked as .cargo/config.toml says?",
-        peak - table - file
+        peak - held
     );
 }
 
@@ -105,4 +109,17 @@ fn the_table_one_listing_and_two_megabytes() {
     let table = 4 * wontirje::Settings::dna(10).table_places().expect("a table") as u64;
     let merged = peak_of(Command::new(WONTIRJE).args(["merge", name, name, name]), Stdio::null());
     check("merge", merged, 10, length + table);
+}
+
+/// A test load is held once, whether it is printed or written to a file.
+#[test]
+fn a_test_load_and_two_megabytes() {
+    let folder = Folder::new();
+    let output = folder.path("load.fa");
+    let numbers = ["generate", "--start=1", "--records=1", "--length=16502176"];
+    let printed = peak_of(Command::new(WONTIRJE).args(numbers), Stdio::null());
+    check_held("a test load", printed, 16_777_216);
+    let written = peak_of(Command::new(WONTIRJE).args(numbers).arg("--output").arg(&output), Stdio::null());
+    check_held("a test load in a new file", written, 16_777_216);
+    assert_eq!(fs::metadata(&output).expect("the file").len(), 16_777_216);
 }

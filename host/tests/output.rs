@@ -257,12 +257,15 @@ fn standard_output_is_closed_early() {
     check_left_early(&["histogram", "--each", listing], 0, 0);
     check_left_early(&["merge", listing], 0, 1);
     check_left_early(&["count", "--from", listing, good], 0, 2);
+    check_left_early(&["generate", "--start=1", "--records=9000", "--length=60"], 0, 0);
 }
 
 /// A reader who was gone before the first byte.
 #[test]
 fn standard_output_is_closed_at_once() {
-    for arguments in [&["--help"][..], &["count", "--help"], &["classes"], &["code", "--k", "2", "AC"]] {
+    let generate = ["generate", "--start=1", "--records=1", "--length=9"];
+    let code = ["code", "--k", "2", "AC"];
+    for arguments in [&["--help"][..], &["count", "--help"], &["classes"], &code, &generate] {
         let mut command = Command::new(WONTIRJE);
         let (reader, writer) = std::io::pipe().expect("a pipe");
         drop(reader);

@@ -106,10 +106,10 @@ fn stored_runs() {
     let compared = Compared::default();
     let by_hand = cases_by_hand(160).into_iter().chain(fastq_cases_by_hand(43));
     let cases: Vec<_> =
-        vectors([199, 153, 154, 162, 34, 30, 200, 200, 40]).into_iter().chain(by_hand).collect();
+        vectors([199, 153, 154, 162, 34, 30, 200, 200, 40, 40]).into_iter().chain(by_hand).collect();
     check_each(&cases, |case| check(&case.input, &case.output, &compared));
     let [counted, file_refused, settings_refused, other_order, out_of_reach] = compared.numbers();
-    assert_eq!(counted + file_refused + settings_refused + other_order + out_of_reach, 1375);
+    assert_eq!(counted + file_refused + settings_refused + other_order + out_of_reach, 1415);
     assert!(counted > 600 && file_refused > 240 && settings_refused > 80, "{:?}", compared.numbers());
     assert!(out_of_reach < 190, "{:?}", compared.numbers());
 }

@@ -1,5 +1,5 @@
 //! Alphabets, words, codes and a large file drawn from a fixed seed, so that every run goes over the same
-//! ones. Also taken by bench/, by its path.
+//! ones.
 
 use std::fs::File;
 use std::io::{self, BufWriter, Write};

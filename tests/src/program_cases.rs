@@ -1,8 +1,8 @@
 //! Reads the stored runs of the counter program, vectors/program.txt, vectors/k10_program.txt,
 //! vectors/k01_program.txt, vectors/k02_program.txt, vectors/k03_program.txt, vectors/k04_program.txt,
-//! vectors/k05_program.txt, vectors/k06_program.txt, vectors/k07_program.txt, program/cases.txt and
-//! program/fastq.txt, and the lines of program/malformed.txt; the heads of these files say how they are
-//! written.
+//! vectors/k05_program.txt, vectors/k06_program.txt, vectors/k07_program.txt, vectors/k08_program.txt,
+//! program/cases.txt and program/fastq.txt, and the lines of program/malformed.txt; the heads of these files
+//! say how they are written.
 
 use crate::program::check_prints;
 use crate::second_counter::answer;
@@ -70,9 +70,9 @@ fn cases(text: &'static str, count: usize) -> Vec<Case> {
 
 /// The stored answers of independent reference implementations: so many to document 01 alone, to document 01
 /// with document 02, K10, to these with K1, to these with K2, to these with K3, to these with K4, to these
-/// with K5, to these with K6, and to these with K7. The listings of those before K6 have its number of
-/// classes too: the heads of the files tell how.
-pub fn vectors(counts: [usize; 9]) -> Vec<Case> {
+/// with K5, to these with K6, to these with K7, and to these with K8. The listings of those before K6 have
+/// its number of classes too: the heads of the files tell how.
+pub fn vectors(counts: [usize; 10]) -> Vec<Case> {
     let files = [
         include_str!("../vectors/program.txt"),
         include_str!("../vectors/k10_program.txt"),
@@ -83,6 +83,7 @@ pub fn vectors(counts: [usize; 9]) -> Vec<Case> {
         include_str!("../vectors/k05_program.txt"),
         include_str!("../vectors/k06_program.txt"),
         include_str!("../vectors/k07_program.txt"),
+        include_str!("../vectors/k08_program.txt"),
     ];
     files.into_iter().zip(counts).flat_map(|(text, count)| cases(text, count)).collect()
 }

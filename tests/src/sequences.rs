@@ -3,8 +3,9 @@
 
 use crate::c_calls::{kmer_codes, kmer_codes_two_bit};
 use crate::expected::{coder, ranks, settings_ground, Refusal};
-use crate::lent::{check_places, filled, Lent};
+use crate::lent::{check_places, filled, Lent, Place};
 use crate::settings::{shown, Settings, COMPLEMENT};
+use std::fmt::Display;
 
 /// The most bytes that a sequence may have.
 pub const MOST_BYTES: usize = 16_777_216;
@@ -82,23 +83,27 @@ pub fn along(settings: &Settings, sequence: &[u8], room: usize) -> Result<Vec<u6
     Ok(sequence.windows(settings.k).map(|window| window_number(settings, window)).collect())
 }
 
-/// Compares what a call answered and left with an expectation, every place of the list.
-fn check(what: &str, (answer, left): (u64, Vec<u64>), expected: &Result<Vec<u64>, Refusal>) {
-    let right = expected.as_ref().map_or_else(Refusal::packed, |codes| codes.len() as u64);
-    assert!(answer == right, "{what} is {answer}, expected {right}");
-    let mut list = filled(left.len());
-    if let Ok(codes) = expected {
-        list[..codes.len()].copy_from_slice(codes);
+/// Compares what a call answered and left in a filled buffer with an expectation, every place of the buffer.
+pub fn check_answer<T: Place + Display>(
+    what: &str,
+    (answer, left): (u64, Vec<T>),
+    expected: &Result<Vec<T>, Refusal>,
+) {
+    let right = expected.as_ref().map_or_else(Refusal::packed, |written| written.len() as u64);
+    assert!(answer == right, "{what} is {answer:#x}, expected {right:#x} ({:?})", expected.as_ref().err());
+    let mut buffer = filled(left.len());
+    if let Ok(written) = expected {
+        buffer[..written.len()].copy_from_slice(written);
     }
-    check_places(what, &left, &list);
+    check_places(what, &left, &buffer);
 }
 
 /// Compares both paths, where there are two, with an expectation.
 pub fn check_codes(settings: &Settings, sequence: &[u8], room: usize, expected: &Result<Vec<u64>, Refusal>) {
     let what = |path: &str| format!("{settings}: {path} along {} with room {room}", shown(sequence));
-    check(&what("kmer_codes"), codes(settings, sequence, room), expected);
+    check_answer(&what("kmer_codes"), codes(settings, sequence, room), expected);
     if settings.letters == b"ACGT" && settings.mirror == COMPLEMENT {
-        check(&what("kmer_codes_two_bit"), codes_two_bit(settings.k, sequence, room), expected);
+        check_answer(&what("kmer_codes_two_bit"), codes_two_bit(settings.k, sequence, room), expected);
     }
 }
 

@@ -1,7 +1,8 @@
 //! Reads the stored answers of independent reference implementations: vectors/words.txt, those to document 01
 //! alone, vectors/k10_calls.txt, those to document 01 with document 02, K10, and vectors/k02_calls.txt,
-//! vectors/k03_calls.txt and vectors/k06_listings.txt, those with K2, with K3 and with K6 too; the heads of these files
-//! say what their columns are. Holds the second coder and its grounds against them.
+//! vectors/k03_calls.txt, vectors/k06_listings.txt and vectors/k08_generated.txt, those with K2, with K3, with K6
+//! and with K8 too; the heads of these files say what their columns are. Holds the second coder, its grounds and
+//! other references against them.
 
 use crate::expected::Refusal;
 use crate::settings::Settings;
@@ -22,6 +23,9 @@ const CALLS: [StoredFile; 5] = [
     ("k03_calls.txt", include_str!("../vectors/k03_calls.txt")),
     ("k06_listings.txt", include_str!("../vectors/k06_listings.txt")),
 ];
+
+/// The stored files that were made.
+const GENERATED: StoredFile = ("k08_generated.txt", include_str!("../vectors/k08_generated.txt"));
 
 pub struct Vector {
     /// The file and the line in it.
@@ -70,6 +74,11 @@ pub fn vectors(call: &str, counts: [usize; 5]) -> Vec<Vector> {
     CALLS.into_iter().zip(counts).flat_map(|(file, count)| rows(file, call, count)).map(parsed).collect()
 }
 
+/// The stored calls that make a file, so many of them.
+pub fn generated_vectors(count: usize) -> Vec<Vector> {
+    rows(GENERATED, "generate", count).into_iter().map(parsed).collect()
+}
+
 fn parsed((line, columns): (String, Vec<&'static str>)) -> Vector {
     assert_eq!(columns.len(), 8, "{line}: columns");
     Vector {
@@ -99,12 +108,12 @@ impl Vector {
         self.stored().map_err(|(number, p)| Refusal { number, p: p.unwrap_or(0) })
     }
 
-    /// The stored bytes of a reading, a mirroring or a listing, or its refusal.
+    /// The stored bytes of a reading, a mirroring, a listing or a file that was made, or its refusal.
     pub fn stored_bytes(&self) -> Result<Vec<u8>, Refusal> {
         self.stored_code().map(|length| bytes(self.after)[..length as usize].to_vec())
     }
 
-    /// The lent byte buffer of a reading, a mirroring or a listing, before the call and after it.
+    /// The lent byte buffer of such a call, before it and after it.
     pub fn buffers(&self) -> (Vec<u8>, Vec<u8>) {
         (vec![BYTE_BEFORE; self.room], bytes(self.after))
     }

@@ -103,7 +103,7 @@ fn stored_listings_are_loaded() {
 #[test]
 fn stored_outputs_of_the_program() {
     let mut loaded = 0;
-    for case in program_cases::vectors([199, 153, 154, 162, 34, 30, 200, 200, 40]) {
+    for case in program_cases::vectors([199, 153, 154, 162, 34, 30, 200, 200, 40, 40]) {
         let Some((line, classes)) = taken_apart(first_line(&case.output).0) else { continue };
         let settings = survey(&line).expect("a survey line");
         let without_end = &case.output[..case.output.len() - 1];
@@ -118,7 +118,7 @@ fn stored_outputs_of_the_program() {
         loaded += 1;
     }
     // All outputs that are no refusals, by file in the order of the list.
-    assert_eq!(loaded, 82 + 83 + 68 + 150 + 16 + 19 + 13 + 160 + 8);
+    assert_eq!(loaded, 82 + 83 + 68 + 150 + 16 + 19 + 13 + 160 + 8 + 18);
 }
 
 /// Tables with few and with many counts above 0, small and large ones, over every size, each loaded over the

@@ -20,7 +20,7 @@ const FILE: &[u8] = b">a\nACGTN\n>b\nAG\nCT\n";
 
 #[test]
 fn stored_answers() {
-    check_each(&vectors([199, 153, 154, 162, 34, 30, 200, 200, 40]), check_stored);
+    check_each(&vectors([199, 153, 154, 162, 34, 30, 200, 200, 40, 40]), check_stored);
 }
 
 #[test]

@@ -1,6 +1,7 @@
 //! The stored answers for word coding, code reading and codes along a sequence (vectors/words.txt,
 //! vectors/k10_calls.txt, vectors/k02_calls.txt and vectors/k03_calls.txt), held against the calls and against the
-//! second coder with its grounds. Those for mirroring are in mirror.rs, those for listings in listing.rs.
+//! second coder with its grounds. Those for mirroring are in mirror.rs, those for listings in listing.rs, those for files
+//! that are made in generated.rs.
 
 use kmer_tests::expected::{check_code, check_word, coding, reading};
 use kmer_tests::sequences::{along, check_codes};

@@ -13,9 +13,11 @@ use Rattle.settings.proofs.FirstGround.{NumberIn, test-has, place-has, then-has
 use Rattle.encoding.specs.Calls.{wrongLength, foreignFrom, codeGround, readGround, mirrorGround}
 use Rattle.sequence.specs.Sequences.{sequenceGround}
 use Rattle.files.specs.File.{fileFault}
+use Rattle.files.specs.Scan.{tooLong}
 use Rattle.tally.specs.Table.{readyGround, clearGround, Call, add, withdraw, callFile, tableFull, tableLacks, lastGround}
 use Rattle.tally.proofs.RefusalNumbers.{clearNumbers, clear-numbers, callNumbers, ready-has, file-numbers}
 use Rattle.listing.specs.Listing.{listing, listingGround}
+use Rattle.testload.specs.TestLoad.{generateGround}
 use Rattle.kmer.specs.FileCalls.{intoGround}
 
 -- kmer_code: 1, 2, 4, 5 or 9.
@@ -88,3 +90,9 @@ listing-numbers letters k m table room =
     let Q = NumberIn clearNumbers in
     let needed = tooShort room (length (listing letters k m table)) in
     then-has Q (clearGround letters k m (length table)) (groundAt 7 needed) (clear-numbers letters k m (length table)) (λ _. place-has Q 7 needed (λ _ _. refl))
+
+-- kmer_generate: 1, 2, 4, 6 or 7.
+pub generate-numbers : (letters : List ℕ) (k m : ℕ) (text : List ℕ) (room : ℕ) → RefusedOnlyBy clearNumbers (generateGround letters k m text room)
+unfolding isIn generateGround
+generate-numbers letters k m text room =
+    sizes-has (NumberIn clearNumbers) letters k m (tooLong text) room (length text) refl refl refl refl (λ _ _ _ _. refl)

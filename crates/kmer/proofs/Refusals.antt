@@ -17,7 +17,9 @@ use Rattle.settings.proofs.SettingsGrounds.{good-settings}
 use Rattle.settings.proofs.FirstGround.{PlaceUpTo, Small, test-small, place-small, then-small, room-small, settings-small, sizes-has}
 use Rattle.encoding.specs.Calls.{hereOr, foreignFrom, wrongLength, mirrorGround}
 use Rattle.sequence.specs.Sequences.{sequenceGround}
+use Rattle.files.specs.Scan.{tooLong}
 use Rattle.tally.specs.Table.{classCount, tooMany, clearGround}
+use Rattle.testload.specs.TestLoad.{generateGround}
 
 -- ---- the P of a refused mirroring is at most 62
 
@@ -46,7 +48,7 @@ mirror-small letters k m word room =
     then-small 62 g7 g9 (place-small 62 7 (tooShort room k) (λ p e. omega (arith, room-small room k p e)))
     (λ _. place-small 62 9 (foreignFrom letters 0 word) (λ p e. omega (arith, foreign-small letters 0 word p e)))))
 
--- ---- the P of a refused call along a sequence, and of a refused clearing, is at most 16,777,216
+-- ---- the P of a refused call along a sequence, of a refused clearing and of a refused test load is at most 16,777,216
 
 -- After the settings' grounds come ground 6 by some test, and ground 7, where what is needed is at most 16,777,216 if the test fails.
 pub sizes-small : (letters : List ℕ) (k m : ℕ) (large : Bool) (room needed : ℕ)
@@ -68,3 +70,8 @@ pub clear-small : (letters : List ℕ) (k m room : ℕ) → Small 16777216 (clea
 unfolding clearGround tooMany
 clear-small letters k m room =
     sizes-small letters k m (tooMany (classCount letters k m)) room (classCount letters k m) (λ _ few. not-too-large (classCount letters k m) few)
+
+pub generate-small : (letters : List ℕ) (k m : ℕ) (text : List ℕ) (room : ℕ) → Small 16777216 (generateGround letters k m text room)
+unfolding generateGround tooLong
+generate-small letters k m text room =
+    sizes-small letters k m (ltb 16777216 (length text)) room (length text) (λ _ short. not-too-large (length text) short)

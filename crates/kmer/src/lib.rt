@@ -1,5 +1,5 @@
-// The calls for C programs (include/kmer.h): word coding, code reading, mirroring, codes along a sequence, the table, its listing and loading one, on
-// numbers and slices.
+// The calls for C programs (include/kmer.h): word coding, code reading, mirroring, codes along a sequence, the table, its listing and loading one, and test
+// loads, on numbers and slices.
 ghost use mathlib.Core.Path.{_≡_};
 ghost use lib.ListN.{length, replicate};
 ghost use Rattle.tally.specs.Table.{classCount, clearGround};
@@ -14,6 +14,7 @@ ghost use Rattle.kmer.specs.Loads.{LoadsInto};
 ghost use Rattle.laws.specs.Text.{bytes};
 ghost use Rattle.laws.specs.Windows.{windows};
 ghost use Rattle.sequence.specs.Sequences.{sequenceGround, sequenceCodes};
+ghost use Rattle.testload.specs.TestLoad.{testLoad, generateGround};
 use counts::Way;
 use fasta::Answer;
 use files::Kind;
@@ -220,4 +221,25 @@ pub extern "C" fn kmer_load(
         Filling::Filled(n) => n as u64,
         Filling::Unfilled(f) => returned::refused_up_to(f),
     }
+}
+
+// Writes a test load.
+#[no_mangle]
+pub extern "C" fn kmer_generate(
+    letters: &[u8],
+    k: usize,
+    mirror: u64,
+    start: u64,
+    records: usize,
+    each: usize,
+    out: &mut [u8],
+) -> u64
+    ensures { λ r.
+        ⌜ ReturnsPlaces returnedWithPlace
+        (generateGround (now (letters .entry)) k mirror (testLoad (now (letters .entry)) start records each) (length (now (out .entry))))
+        (length (testLoad (now (letters .entry)) start records each)) (testLoad (now (letters .entry)) start records each)
+        (now (out .entry)) r (now (out .exit)) ⌝ }
+{
+    let answer = generator::generate(letters, k, mirror, start, records, each, out);
+    returned::with_place(answer)
 }

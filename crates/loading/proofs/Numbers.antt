@@ -14,7 +14,7 @@ use Rattle.laws.proofs.Each.{each-append}
 use Rattle.settings.specs.Settings.{isIn}
 use Rattle.survey.specs.Grammar.{Digit, spelt}
 use Rattle.texts.specs.Decimals.{decimal}
-use Rattle.texts.proofs.Decimals.{one-digit, more-digits}
+use Rattle.texts.proofs.Decimals.{one-digit, more-digits, decimal-each}
 use Rattle.survey.proofs.OneLine.{spelt-first}
 use Rattle.loading.specs.Shapes.{isDigit, allDigits, isNone, isNumber}
 
@@ -110,8 +110,4 @@ decimal-is-number (suc n) =
 
 -- No byte of a decimal is an LF.
 pub decimal-no-lf : (n : ℕ) → isIn 10 (decimal n) ≡ false
-decimal-no-lf zero = let d : Digit (48 + 0 % 10) = (omega arith, omega arith) in rw (one-digit 0 (omega arith)) (digits-no-lf ((48 + 0 % 10) ∷ []) (d, tt))
-decimal-no-lf (suc n) =
-    let L = led (suc (suc n)) (suc n) (omega arith) (omega arith) in
-    let d : Digit (L .first) = (omega arith, omega arith) in
-    rw (L .is) (digits-no-lf (L .first ∷ L .rest) (d, L .digits))
+decimal-no-lf n = digits-no-lf (decimal n) (decimal-each Digit (λ d h. (omega arith, omega arith)) n)

@@ -10,3 +10,4 @@ pub mod Letters
 pub mod Parity
 pub mod ClassCount
 pub mod SettingsGrounds
+pub mod LetterPlaces

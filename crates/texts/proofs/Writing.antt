@@ -14,7 +14,8 @@ use borrow.Author.Tests.{leb-true, leb-false}
 use Rattle.texts.specs.Decimals.{decimal}
 use Rattle.texts.specs.Needs.{top, Puts}
 
-sets-append : (p l : List ℕ) (at : ℕ) (q : List ℕ) → sets l at (p ++ q) ≡ sets (sets l at p) (at + length p) q
+-- Two texts, one behind the other, are set one after the other.
+pub sets-append : (p l : List ℕ) (at : ℕ) (q : List ℕ) → sets l at (p ++ q) ≡ sets (sets l at p) (at + length p) q
 sets-append [] l at q = rw (add-zero at)
 sets-append (b ∷ p) l at q = sets-append p (set l at b) (suc at) q ∙ (rw (add-suc at (length p), suc-add at (length p)))
 

@@ -9,6 +9,7 @@ wontirje counts canonical k-mers: a word of k letters and its reverse complement
   wontirje word CODE...        print the canonical word of each code
   wontirje classes [K...]      print the number of classes and the size of their table
   wontirje histogram LISTING   print how many classes have each count, and draw a chart
+  wontirje generate OPTIONS    write a test load: a FASTA file that anyone can make again from three numbers
   wontirje --version           print the version
 
 Settings of all but merge and histogram, and what they are when not given (under count --from: the listing's):
@@ -21,11 +22,11 @@ Settings of all but merge and histogram, and what they are when not given (under
 Example:
   wontirje count reads.fa > counts.txt && wontirje histogram counts.txt
 
-Exit status: 0 all was taken in or withdrawn; 1 a file was refused or not read by count, or a word, code or K
-was refused; 2 the command could not do its work: options, settings, a listing, lines of standard input, an
-output.
-See wontirje COMMAND --help. Codes and counts are the library's, which is proved; the command is tested, and
-so are the sums of merge, which it adds up by itself.
+Exit status: 0 all was taken in, withdrawn or written; 1 a file was refused or not read by count, or a word,
+code or K was refused; 2 the command could not do its work: options, settings, a listing, a test load that is
+too large, lines of standard input, an output.
+See wontirje COMMAND --help. Codes, counts and test loads are the library's, which is proved; the command is
+tested, and so are the sums of merge, which it adds up by itself.
 ";
 
 pub const COUNT: &str = "\
@@ -125,4 +126,30 @@ with the place and what to do, and so is an older one, whose first line lacks (c
 
 Example:
   wontirje count reads.fa | wontirje histogram --svg counts.svg -
+";
+
+pub const GENERATE: &str = "\
+wontirje generate [--letters ACGT] [--k 11] [--mirror complement] --start S --records N --length M
+                  [--output FILE]
+
+Writes a test load: a FASTA file with N records of M letters each, drawn from the start S. The same numbers
+and letters give the same file everywhere, byte for byte, so that several labs can check their builds on equal
+input. Of the settings only --letters changes the file; k and mirror must be right all the same.
+
+  --start S       the state before the first letter
+  --records N     how many records; the header of each is > and its number from 1
+  --length M      how many letters in each, in lines of 60, the last perhaps shorter; with 0 there are only
+                  headers
+  --output FILE   write to a new file, which appears only when it is whole; a file that is there already is
+                  not overwritten
+
+All three numbers must be given, each from 0 to 2^64 - 1. All lines end in LF. For each letter the state,
+which goes on from record to record, becomes state * 6364136223846793005 + 1442695040888963407 modulo 2^64;
+its top 32 bits times the number of letters, divided by 2^32 and rounded down, are the letter's rank, from 0.
+
+A file has at most 16,777,216 bytes; a larger one is refused with 6, and nothing is written.
+
+Examples:
+  wontirje generate --start 1 --records 1000 --length 1000 | wontirje count --k 3 -
+  wontirje generate --start 1 --records 2 --length 5     prints >1, CGGCT, >2 and GGATA, a line each
 ";

@@ -1,6 +1,6 @@
-//! The command `wontirje`: counts k-mers of sequence files, adds listings up, and tells codes, words, classes
-//! and spectra. It reads, lends buffers to the library, calls and prints; it decides nothing about counts,
-//! but for `merge`, which adds up the counts of listings that the library loaded.
+//! The command `wontirje`: counts k-mers of sequence files, adds listings up, tells codes, words, classes and
+//! spectra, and writes test loads. It reads, lends buffers to the library, calls and prints; it decides
+//! nothing about counts, but for `merge`, which adds up the counts of listings that the library loaded.
 
 mod arguments;
 mod bars;
@@ -8,6 +8,7 @@ mod classes;
 mod count;
 mod failure;
 mod fault;
+mod generate;
 mod help;
 mod histogram;
 mod input;
@@ -32,13 +33,14 @@ use std::process::ExitCode;
 /// The commands: name, help, options, and what runs it.
 type Command = (&'static str, &'static str, Options, fn(&Arguments) -> Outcome);
 
-const COMMANDS: [Command; 6] = [
+const COMMANDS: [Command; 7] = [
     ("count", help::COUNT, count::OPTIONS, count::run),
     ("merge", help::MERGE, merge::OPTIONS, merge::run),
     ("code", help::CODE, survey::OPTIONS, translate::codes),
     ("word", help::WORD, survey::OPTIONS, translate::words),
     ("classes", help::CLASSES, survey::OPTIONS, classes::run),
     ("histogram", help::HISTOGRAM, histogram::OPTIONS, histogram::run),
+    ("generate", help::GENERATE, generate::OPTIONS, generate::run),
 ];
 
 /// The command with this name.
