@@ -1,4 +1,4 @@
--- What the call answers and leaves at each of its tests. From the length that is worked out and the records that are written.
+-- What the call answers and leaves at each of its tests. From the length that is worked out, the grounds by it, and the records that are written.
 use mathlib.Core.Path.{_≡_, _∙_}
 use mathlib.Core.Option.{none}
 use mathlib.Core.List.{List}
@@ -7,13 +7,13 @@ use native.Mathlib.Nat.{zero-add}
 use native.Mathlib.Omega.{arith}
 use lib.ListN.{length}
 use lib.Seq.{sets, sets-eq}
-use borrow.Author.Tests.{lt-ltb, le-ltb}
 use Rattle.settings.specs.Grounds.{Ground, given, refused, ground, groundAt, tooShort, outcome, _orElse_}
 use Rattle.settings.specs.Settings.{settingsGround, settingsOf}
 use Rattle.settings.proofs.Outcomes.{kept-by, kept-on, set-by}
 use Rattle.settings.proofs.SettingsGrounds.{good-settings}
 use Rattle.files.specs.Scan.{tooLong}
 use Rattle.testload.specs.TestLoad.{testLoad, generateGround, Generates}
+use Rattle.testload.proofs.Theorems.{larger-gives-6, short-buffer-gives-7, room-gives-none}
 use Rattle.generator.specs.Needs.{Fits, recordsLength}
 use Rattle.generator.proofs.Lengths.{length-records}
 
@@ -30,20 +30,20 @@ module _ (letters : List ℕ) (k m start records each : ℕ) (old : List ℕ) wh
 
   module _ (good : settingsGround letters k m ≡ none) (needed : ℕ) (is : min needed 16777217 ≡ min (recordsLength each 1 records) 16777217) where
     pub too-large : 16777216 < needed → Generates letters k m text old (refused (6, 0)) old
-    unfolding generateGround tooLong
     too-large h =
-        let long : 16777216 < length text = omega (arith, is, length-records letters each 1 records start) in
-        kept-by _ (length text) text old (6, 0) (rw (good, lt-ltb 16777216 (length text) long))
+        kept-by _ (length text) text old (6, 0) (larger-gives-6 letters k m good text (length old) (omega (arith, is, length-records letters each 1 records start)))
 
     module _ (small : needed ≤ 16777216) where
       length-is : length text ≡ needed
       length-is = omega (arith, is, length-records letters each 1 records start)
 
+      short-text : length text ≤ 16777216
+      short-text = omega (arith, length-is)
+
       pub short-buffer : length old < needed → Generates letters k m text old (refused (7, needed)) old
-      unfolding generateGround tooLong
       short-buffer h =
-          kept-by _ (length text) text old (7, needed)
-          (rw (good, le-ltb 16777216 (length text) (omega (arith, length-is)), length-is, lt-ltb (length old) needed h))
+          rw (← length-is)
+          (kept-by _ (length text) text old (7, length text) (short-buffer-gives-7 letters k m good text (length old) short-text (omega (arith, length-is))))
 
       module _ (room : needed ≤ length old) where
         pub load-fits : Fits letters old 0 text
@@ -52,10 +52,7 @@ module _ (letters : List ℕ) (k m start records each : ℕ) (old : List ℕ) wh
             record { some-letters = omega (arith, g .two); few = g .few; room = omega (arith, length-is) }
 
         pub written : (new : List ℕ) → new ≡ sets old 0 text → Generates letters k m text old (given needed) new
-        unfolding generateGround tooLong
         written new e =
-            let fits : length text ≤ length old = omega (arith, length-is) in
             rw (← length-is)
-            (set-by _ (length text) text old new
-            (rw (good, le-ltb 16777216 (length text) (omega (arith, length-is)), le-ltb (length old) (length text) fits))
-            (e ∙ sets-eq text old 0 (omega arith) ∙ rw (zero-add (length text))))
+            (set-by _ (length text) text old new (room-gives-none letters k m good text (length old) short-text (omega (arith, length-is)))
+            (e ∙ sets-eq text old 0 (omega (arith, length-is)) ∙ rw (zero-add (length text))))

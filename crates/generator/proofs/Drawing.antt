@@ -19,6 +19,10 @@ use Rattle.generator.specs.declared.Drawn.{Drawn}
 use Rattle.generator.specs.Needs.{Draws}
 use Rattle.testload.specs.TestLoad.{stepped, drawnRank, drawn, drawnLetters, inLines, stateAfter, recordText, recordsFrom}
 
+-- A buffer in which what is left is still to be set is as long as the one in which all was.
+as-long : (out₀ : List ℕ) (at₀ : ℕ) (text out : List ℕ) (at : ℕ) (left : List ℕ) → sets out₀ at₀ text ≡ sets out at left → length out ≡ length out₀
+as-long out₀ at₀ text out at left e = sym (length-sets out at left) ∙ sym (ap length e) ∙ length-sets out₀ at₀ text
+
 -- The letters that are left, of whose line `column` stand before them.
 abbrev pub leftLines : (letters : List ℕ) (column left x : ℕ) → List ℕ
 leftLines letters column left x = inLines column (drawnLetters letters left x)
@@ -109,7 +113,7 @@ module _ {out₀ : List ℕ} {at₀ : ℕ} {text : List ℕ} {state : ℕ} {lett
 pub same-buffer : {out₀ : List ℕ} {at₀ : ℕ} {text : List ℕ} {state : ℕ} {letters out : List ℕ} {at column left x : ℕ}
     → Drawing out₀ at₀ text state letters out at column left x → length out ≡ length out₀
 same-buffer {out₀} {at₀} {text} {letters = letters} {out = out} {at = at} {column = column} {left = left} {x = x} D =
-    sym (length-sets out at (leftLines letters column left x)) ∙ sym (ap length (D .leaves)) ∙ length-sets out₀ at₀ text
+    as-long out₀ at₀ text out at (leftLines letters column left x) (D .leaves)
 
 -- Behind the last letter: an LF, where its line is not ended.
 module _ {out₀ : List ℕ} {at₀ : ℕ} {text : List ℕ} {state : ℕ} {letters out : List ℕ} {at column left x : ℕ}
@@ -219,7 +223,7 @@ module _ {out₀ text letters : List ℕ} {each records : ℕ} {out : List ℕ} 
 
   -- The buffer keeps its length.
   pub recording-buffer : length out ≡ length out₀
-  recording-buffer = sym (length-sets out (d .at) (leftRecords letters each records i (d .state))) ∙ sym (ap length (R .leaves)) ∙ length-sets out₀ 0 text
+  recording-buffer = as-long out₀ 0 text out (d .at) (leftRecords letters each records i (d .state)) (R .leaves)
 
   pub recording-all : records ≤ i → out ≡ sets out₀ 0 text
   unfolding recordsFrom

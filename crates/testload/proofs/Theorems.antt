@@ -1,15 +1,16 @@
 -- The claims of document 02, K8: a test load is a sequence file that no ground of its own refuses (`test-load-clean`), of so many records and letters, none of
 -- them foreign (`test-load-numbers`), whose windows are those of its records' letters (`test-load-windows`); so a scan answers these numbers
--- (`test-load-scanned`), and so does an add, unless 12 applies (`test-load-added`). From what each of its bytes is.
+-- (`test-load-scanned`), and so does an add, unless 12 applies (`test-load-added`). From what each of its bytes is. And which ground refuses a text by its length
+-- and the room for it (`larger-gives-6`, `short-buffer-gives-7`, `room-gives-none`).
 use mathlib.Core.Path.{_≡_, refl, sym, ap, _∙_}
 use mathlib.Core.Bool.{true, false}
 use mathlib.Core.Option.{Option, none, some}
 use mathlib.Core.List.{List, [], _∷_, _++_, map, append-nil}
-use Prim.Native.Nat.{ℕ, zero, suc, _+_, _-_, _*_, _≤_, min}
+use Prim.Native.Nat.{ℕ, zero, suc, _+_, _-_, _*_, _<_, _≤_, min}
 use native.Mathlib.Omega.{arith}
 use native.Mathlib.Nat.{zero-mul}
 use lib.ListN.{length, length-append}
-use borrow.Author.Tests.{le-ltb}
+use borrow.Author.Tests.{lt-ltb, le-ltb}
 use Rattle.laws.specs.Each.{Each}
 use Rattle.laws.specs.Windows.{windows}
 use Rattle.laws.proofs.Windows.{length-windows}
@@ -26,7 +27,7 @@ use Rattle.fasta.specs.Items.{recordsIn, lettersIn, foreignIn, oneIfForeign, ma
 use Rattle.files.specs.File.{fileFault, fileNumbers, fileWindows, items}
 use Rattle.files.specs.Scan.{tooLong, scanGround}
 use Rattle.tally.specs.Table.{readyGround, callGround, tableGround, tableFull, add}
-use Rattle.testload.specs.TestLoad.{drawn, stateAfter, recordText, recordsFrom, testLoad}
+use Rattle.testload.specs.TestLoad.{drawn, stateAfter, recordText, recordsFrom, testLoad, generateGround}
 use Rattle.testload.specs.Claims.{loadFile, loadNumbers, drawnRecords}
 use Rattle.testload.proofs.Drawn.{length-drawn}
 use Rattle.testload.proofs.Items.{loadMarks, Sound, opens, skip, letter, Part, load-part}
@@ -153,3 +154,21 @@ module _ (letters : List ℕ) (k m : ℕ) (good : settingsGround letters k m ≡
       ≡ outcome (ground 12 (tableFull letters k m t (loadFile letters start records each))) (loadNumbers k records each)
   unfolding callGround
   test-load-added t ready = rw (ready, test-load-clean, test-load-numbers)
+
+-- ---- its length and the room for it
+
+module _ (letters : List ℕ) (k m : ℕ) (good : settingsGround letters k m ≡ none) (text : List ℕ) (room : ℕ) where
+  -- "a larger one gives 6", whatever the buffer.
+  pub larger-gives-6 : 16777216 < length text → generateGround letters k m text room ≡ some (6, 0)
+  unfolding generateGround tooLong
+  larger-gives-6 long = rw (good, lt-ltb 16777216 (length text) long)
+
+  module _ (small : length text ≤ 16777216) where
+    -- "and a short buffer 7", with the length needed.
+    pub short-buffer-gives-7 : room < length text → generateGround letters k m text room ≡ some (7, length text)
+    unfolding generateGround tooLong
+    short-buffer-gives-7 short = rw (good, le-ltb 16777216 (length text) small, lt-ltb room (length text) short)
+
+    pub room-gives-none : length text ≤ room → generateGround letters k m text room ≡ none
+    unfolding generateGround tooLong
+    room-gives-none enough = rw (good, le-ltb 16777216 (length text) small, le-ltb room (length text) enough)
