@@ -11,12 +11,13 @@ use Rattle.encoding.specs.Words.{Ranks}
 use Rattle.encoding.specs.Codes.{code}
 use Rattle.kernels.specs.declared.Coder.{Coder}
 use Rattle.laws.specs.Windows.{windows}
-use Rattle.kernels.specs.Needs.{Fills, ReadyCoder}
+use Rattle.windows.specs.Needs.{Fills}
+use Rattle.kernels.specs.Needs.{ReadyCoder}
 use Rattle.laws.proofs.Buffers.{front-is}
 use Rattle.laws.proofs.Each.{each-take}
 use Rattle.laws.proofs.Lists.{take-min, length-take}
-use Rattle.kernels.proofs.Windows.{length-codes}
-use Rattle.kernels.proofs.Parts.{length-part}
+use Rattle.windows.proofs.Windows.{length-codes}
+use Rattle.ranks.proofs.WordParts.{length-part}
 use Rattle.laws.specs.Each.{Each}
 use Rattle.tally.specs.Needs.{Below}
 use Rattle.counting.specs.Needs.{codesBy, Carries}

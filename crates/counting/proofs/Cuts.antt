@@ -13,7 +13,7 @@ use Rattle.fasta.specs.Items.{marks, runs, windowsOf}
 use Rattle.fasta.proofs.Stream.{windows-snoc, windowsFrom, windows-stream}
 use Rattle.laws.specs.Windows.{windows}
 use Rattle.laws.proofs.Windows.{windows-none}
-use Rattle.kernels.proofs.Windows.{pieces}
+use Rattle.windows.proofs.Windows.{pieces}
 use Rattle.counting.specs.Needs.{markOfRank, markOf, cut}
 
 -- ---- all windows of a file

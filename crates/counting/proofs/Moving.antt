@@ -6,7 +6,7 @@ use mathlib.Core.List.{List, _++_}
 use lib.ListN.{length, getD, take, drop, set}
 use lib.Seq.{getD-take, getD-drop, getD-append-add, length-take-le}
 use Rattle.laws.proofs.Buffers.{Written, written-none, written-next, written-length, written-all}
-use Rattle.kernels.proofs.Parts.{length-part}
+use Rattle.ranks.proofs.WordParts.{length-part}
 
 -- j of the letters are moved, and behind them the array is as it was.
 pub record Moving (o : List ℕ) (from count : ℕ) (array : List ℕ) (j : ℕ) : Type 0 where

@@ -18,7 +18,7 @@ use Rattle.fasta.proofs.Scans.{items-end}
 use Rattle.kernels.specs.declared.Coder.{Coder}
 use Rattle.laws.specs.Windows.{windows}
 use Rattle.kernels.specs.Needs.{ReadyCoder}
-use Rattle.kernels.proofs.Windows.{length-codes}
+use Rattle.windows.proofs.Windows.{length-codes}
 use Rattle.laws.proofs.Windows.{windows-none}
 use Rattle.counting.specs.declared.batches.Gathered.{Gathered}
 use Rattle.counting.specs.Needs.{codesBy, codesOfFile, cut, cutFrom, cutAfter, Gathers, Carries}

@@ -14,7 +14,7 @@ ghost use lib.ListN.{length, take, drop};
 ghost use Rattle.settings.specs.Settings.{classes};
 ghost use Rattle.encoding.specs.Words.{Ranks};
 ghost use Rattle.settings.specs.RankTables.{asRank, rankByTable, RanksBelow};
-ghost use Rattle.kernels.specs.Windows.{windowCodes};
+ghost use Rattle.windows.specs.Windows.{windowCodes};
 ghost use Rattle.kernels.specs.Needs.{ReadyCoder};
 ghost use Rattle.counts.specs.declared.Way.the-variants.{In};
 ghost use Rattle.counts.specs.Needs.{Fits, Changed, TakenUnlessLacking};

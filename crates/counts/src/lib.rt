@@ -1,5 +1,5 @@
 // The counts, one a class: set to 0, their highest, and one more or one less at each of some codes.
-use words::Code;
+use ranks::Code;
 ghost use mathlib.Core.Path.{_≡_};
 ghost use mathlib.Core.List.{_++_};
 ghost use Prim.Native.Nat.{_<_, _≤_, max};

@@ -8,8 +8,10 @@ use Rattle.encoding.specs.Words.{Complement, Ranks}
 use Rattle.kernels.specs.declared.Kernel.{Kernel}
 use Rattle.kernels.specs.declared.Kernel.the-variants.{TwoBit}
 use Rattle.kernels.specs.declared.Coder.{Coder}
-use Rattle.kernels.specs.Windows.{windowCodes}
-use Rattle.kernels.specs.Needs.{Fills, Takes, ReadyCoder, TwoBitInput}
+use Rattle.windows.specs.Windows.{windowCodes}
+use Rattle.windows.specs.Needs.{Fills}
+use Rattle.kernels.specs.Needs.{Takes, ReadyCoder}
+use Rattle.two_bit.specs.Needs.{TwoBitInput}
 
 four-exponent : (k : ℕ) → 4 ^ k ≤ 2 ^ 62 → k ≤ 31
 four-exponent k h =

@@ -14,7 +14,8 @@ use Rattle.encoding.proofs.ClassNumbers.{twice-classes, palindromes-le}
 use Rattle.packed.specs.Mirrors.{MirrorTable}
 use Rattle.kernels.specs.declared.Kernel.{Kernel}
 use Rattle.kernels.specs.declared.Coder.{Coder}
-use Rattle.kernels.specs.Needs.{Powers, Takes, coderOf, ReadyCoder}
+use Rattle.any_alphabet.specs.Needs.{Powers}
+use Rattle.kernels.specs.Needs.{Takes, coderOf, ReadyCoder}
 
 module _ (letters : List ℕ) (k m : ℕ) (good : settingsGround letters k m ≡ none) (kernel : Kernel) (takes : Takes kernel (length letters) (mirrorOf m)) where
   ready : {powers mirrors : List ℕ} → Powers (length letters) k powers → MirrorTable mirrors

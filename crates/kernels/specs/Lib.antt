@@ -1,3 +1,2 @@
--- What the kernels write (Windows), which a reader must believe; and, last, what they ask.
-pub mod Windows
+-- What the kernels ask of settings.
 pub mod Needs

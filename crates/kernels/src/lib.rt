@@ -1,17 +1,15 @@
 // From ranks to codes: the piece that codes along a sequence, adding and withdrawing a file share. It takes good settings as a `Coder` with the powers of s and the
-// table of mirrors, each made once a call, and a list of ranks. Callers cut what is too long for their arrays into pieces that overlap by k - 1 letters.
-mod general; // every alphabet
-mod pairs; // the lower and the higher of two numbers, an entry of a list of ranks
-mod two_bit; // four letters under complement
-
+// table of mirrors, each made once a call, and a list of ranks, and leaves the windows to one of the two kernels below. Callers cut what is too long for their arrays into pieces that overlap by k - 1 letters.
 use settings::Mirror;
 use settings::Settings;
 ghost use mathlib.Core.Path.{_≡_};
 ghost use Prim.Native.Nat.{_+_, _-_, _*_, _^_, _<_, _≤_};
 ghost use lib.ListN.{length};
 ghost use Rattle.encoding.specs.Words.{Ranks};
-ghost use Rattle.kernels.specs.Windows.{windowCodes};
-ghost use Rattle.kernels.specs.Needs.{Fills, Powers, coderOf, ReadyCoder};
+ghost use Rattle.windows.specs.Windows.{windowCodes};
+ghost use Rattle.windows.specs.Needs.{Fills};
+ghost use Rattle.any_alphabet.specs.Needs.{Powers};
+ghost use Rattle.kernels.specs.Needs.{coderOf, ReadyCoder};
 
 // How codes are worked out: by the kernel for every alphabet, or by two-bit numbers, which four letters under complement alone have.
 pub enum Kernel {
@@ -91,7 +89,7 @@ pub fn fill_codes(ranks: &[u8], c: Coder, powers: &[u64; 64], mirrors: &[u8; 256
     let kernel = c.kernel;
     let m = c.mirror;
     match kernel {
-        Kernel::AnyAlphabet => general::fill(ranks, c.k, c.s, m, powers, c.palindromes, out),
+        Kernel::AnyAlphabet => any_alphabet::fill(ranks, c.k, c.s, m, powers, c.palindromes, out),
         Kernel::TwoBit => two_bit::fill(ranks, c.k as u64, c.palindromes, mirrors, out),
     }
 }

@@ -18,10 +18,10 @@ ghost use Rattle.testload.specs.TestLoad.{testLoad, generateGround};
 use counts::Way;
 use fasta::Answer;
 use files::Kind;
+use ranks::Code;
 use settings::Checked;
 use settings::Filling;
 use settings::Refusal;
-use words::Code;
 use words::Coding;
 
 // The code of a word. What a C program needs to know of each call is in include/kmer.h.

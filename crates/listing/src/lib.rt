@@ -1,8 +1,8 @@
 // The listing of a table: the survey line, a line for each class with a count, the total; written whole into a lent buffer.
+use ranks::Code;
 use settings::Checked;
 use settings::Filling;
 use settings::Refusal;
-use words::Code;
 ghost use mathlib.Core.Path.{_≡_};
 ghost use mathlib.Core.Option.{none};
 ghost use mathlib.Core.List.{_++_};

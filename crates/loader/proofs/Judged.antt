@@ -20,7 +20,8 @@ use Rattle.settings.proofs.SettingsGrounds.{good-settings}
 use Rattle.encoding.specs.Words.{Mirror, mirror as mirrorWord, plain}
 use Rattle.encoding.specs.Codes.{code}
 use Rattle.encoding.specs.Calls.{ranksOf}
-use Rattle.words.specs.Needs.{FitWord, ranksBy}
+use Rattle.ranks.specs.Needs.{FitWord}
+use Rattle.words.specs.Needs.{ranksBy}
 use Rattle.words.proofs.LetterLoops.{length-ranksOf}
 use Rattle.words.proofs.RanksByTable.{Bytes, take-bytes, drop-bytes, ranks-by-table}
 use Rattle.words.proofs.TwoWords.{OwnArray, as-own, own-is, own-fits, own-length, own-word}

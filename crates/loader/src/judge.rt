@@ -1,11 +1,11 @@
 // One line of a listing: what it says, and whether it is what belongs at its place.
 use crate::Step;
+use codes::to_code::WordCode;
+use codes::to_code::ranks_code;
 use loading::Next;
 use settings::Mirror;
 use settings::Refusal;
 use words::letters::fill_ranks_by;
-use words::to_code::WordCode;
-use words::to_code::ranks_code;
 ghost use mathlib.Core.Path.{_≡_};
 ghost use mathlib.Core.Option.{none};
 ghost use Prim.Native.Nat.{_+_, _≤_, min};

@@ -15,14 +15,15 @@ use Rattle.encoding.specs.Words.{Mirror}
 use Rattle.encoding.specs.Codes.{code}
 use Rattle.encoding.specs.Calls.{rankOrZero}
 use Rattle.laws.specs.Windows.{windows}
-use Rattle.kernels.specs.Windows.{windowCodes}
+use Rattle.windows.specs.Windows.{windowCodes}
 use Rattle.sequence.specs.Sequences.{noCode, isRank}
 use Rattle.settings.specs.RankTables.{rankByTable}
-use Rattle.kernels.specs.Needs.{part, Fills}
+use Rattle.ranks.specs.Needs.{part}
+use Rattle.windows.specs.Needs.{Fills}
 use Rattle.words.specs.Needs.{ranksBy}
 use Rattle.sequence.specs.Needs.{allRanked, codeBy, Run, Blanked}
-use Rattle.kernels.proofs.Windows.{window-at, length-codes}
-use Rattle.kernels.proofs.Parts.{length-part}
+use Rattle.windows.proofs.Windows.{window-at, length-codes}
+use Rattle.ranks.proofs.WordParts.{length-part}
 use Rattle.sequence.proofs.RankTables.{as-none, as-itself, length-ranks-by}
 
 module _ (rank : ℕ → Option ℕ) where

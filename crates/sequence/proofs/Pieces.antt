@@ -12,13 +12,14 @@ use Rattle.laws.proofs.Buffers.{front-is, front-fits, Written, written-none, wr
 use Rattle.laws.proofs.Lists.{map-take, map-drop}
 use Rattle.encoding.specs.Words.{Mirror}
 use Rattle.laws.specs.Windows.{windows}
-use Rattle.kernels.specs.Windows.{windowCodes}
+use Rattle.windows.specs.Windows.{windowCodes}
 use Rattle.settings.specs.RankTables.{rankByTable}
-use Rattle.kernels.specs.Needs.{part, Fills}
+use Rattle.ranks.specs.Needs.{part}
+use Rattle.windows.specs.Needs.{Fills}
 use Rattle.words.specs.Needs.{ranksBy}
 use Rattle.sequence.specs.Needs.{allRanked, codeBy, Blanked}
-use Rattle.kernels.proofs.Windows.{windows-take, windows-drop, length-codes}
-use Rattle.kernels.proofs.Parts.{length-part}
+use Rattle.windows.proofs.Windows.{windows-take, windows-drop, length-codes}
+use Rattle.ranks.proofs.WordParts.{length-part}
 use Rattle.sequence.proofs.RankTables.{length-ranks-by}
 use Rattle.sequence.proofs.Blanks.{blanked-codes, blanked-nothing}
 

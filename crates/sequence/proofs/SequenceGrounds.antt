@@ -18,7 +18,8 @@ use Rattle.kernels.specs.declared.Coder.{Coder}
 use Rattle.laws.specs.Windows.{windows}
 use Rattle.sequence.specs.Sequences.{sequenceGround, FillsCodes}
 use Rattle.settings.specs.RankTables.{rankByTable, RankTable}
-use Rattle.kernels.specs.Needs.{Fills, coderOf}
+use Rattle.windows.specs.Needs.{Fills}
+use Rattle.kernels.specs.Needs.{coderOf}
 use Rattle.sequence.specs.Needs.{codeBy}
 use Rattle.laws.proofs.Windows.{length-windows}
 use Rattle.sequence.proofs.RankTables.{Bytes, codes-by-table}

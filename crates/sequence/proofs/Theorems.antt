@@ -20,9 +20,9 @@ use Rattle.words.proofs.LetterLoops.{ranks-below, length-ranksOf}
 use Rattle.settings.specs.declared.Filling.{Filling}
 use Rattle.settings.specs.Grounds.{ofFilling}
 use Rattle.laws.specs.Windows.{windows}
-use Rattle.kernels.specs.Windows.{windowCodes}
+use Rattle.windows.specs.Windows.{windowCodes}
 use Rattle.sequence.specs.Sequences.{noCode, allLetters, codeOrNone, sequenceCodes, FillsCodes}
-use Rattle.kernels.proofs.Windows.{length-codes, window-at, pieces}
+use Rattle.windows.proofs.Windows.{length-codes, window-at, pieces}
 
 -- ---- which number stands at which place
 

@@ -9,7 +9,8 @@ use lib.ListN.{length, getD}
 use Rattle.settings.specs.RankTables.{rankByTable}
 use Rattle.encoding.specs.Words.{Mirror}
 use Rattle.encoding.specs.Codes.{code}
-use Rattle.words.specs.Needs.{part, ranksBy}
+use Rattle.ranks.specs.Needs.{part}
+use Rattle.words.specs.Needs.{ranksBy}
 use Rattle.sequence.specs.Sequences.{noCode, isRank}
 
 -- Whether a function that gives each byte's rank has one for every byte.

@@ -10,7 +10,8 @@ ghost use Prim.Native.Nat.{_+_, _-_, _≤_, min};
 ghost use lib.ListN.{length};
 ghost use Rattle.laws.specs.Windows.{windows};
 ghost use Rattle.settings.specs.RankTables.{rankByTable, RanksBelow};
-ghost use Rattle.kernels.specs.Needs.{Fills, ReadyCoder};
+ghost use Rattle.windows.specs.Needs.{Fills};
+ghost use Rattle.kernels.specs.Needs.{ReadyCoder};
 ghost use Rattle.sequence.specs.Needs.{codeBy};
 
 // Room for the ranks of a batch.

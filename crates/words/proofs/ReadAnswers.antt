@@ -14,7 +14,7 @@ use Rattle.encoding.specs.Calls.{readGround, wordBytes, inCapitals}
 use Rattle.encoding.specs.WordsOfCodes.{wordOf}
 use Rattle.words.proofs.CallGrounds.{read-short, read-no-code, reading-none}
 use Rattle.words.proofs.LetterLoops.{read-bytes, length-capitals}
-use Rattle.words.proofs.ReadSteps.{word-length}
+use Rattle.codes.proofs.ReadSteps.{word-length}
 
 pub word-bytes-length : (letters : List ℕ) (k m q : ℕ) → settingsGround letters k m ≡ none → q < classes (length letters) (mirrorOf m) k
     → length (wordBytes letters k m q) ≡ k

@@ -1,16 +1,22 @@
-// From bytes to ranks and back: the first byte that is no letter, a word's ranks, ranks in capitals.
+// Words of letters, from bytes to ranks and back: the first byte that is no letter, a word's ranks, ranks in capitals; the plain rank, the mirror and the
+// code of a word of letters, and the word with a code.
 ghost use mathlib.Core.Path.{_≡_};
 ghost use mathlib.Core.List.{_++_};
-ghost use Prim.Native.Nat.{_≤_};
+ghost use Prim.Native.Nat.{_<_, _≤_};
 ghost use lib.ListN.{length, drop};
+ghost use Rattle.settings.specs.Settings.{classes};
 ghost use Rattle.settings.specs.Limits.{Limits};
 ghost use Rattle.settings.specs.RankTables.{asRank, rankByTable};
 ghost use Rattle.encoding.specs.Words.{Ranks, mirror, plain};
+ghost use Rattle.encoding.specs.Codes.{code};
+ghost use Rattle.encoding.specs.WordsOfCodes.{wordOf};
 ghost use Rattle.encoding.specs.Calls.{rankOrZero, rankAt, ranksOf, inCapitals, foreignFrom};
 ghost use Rattle.words.specs.Answers.{ofPlace};
 ghost use Rattle.words.specs.Needs.{ranksBy};
-use crate::PlainRank;
-use crate::ranks;
+use codes::to_code::ranks_code;
+use codes::to_word::fill_word;
+use ranks::Code;
+use ranks::PlainRank;
 use settings::Mirror;
 use settings::Rank;
 
@@ -117,4 +123,30 @@ pub fn plain_of(letters: &[u8], word: &[u8]) -> PlainRank
     let mut own = [0u64; 64];
     fill_ranks(letters, word, &mut own);
     ranks::plain_rank(&own[..k], letters.len() as u64)
+}
+
+// The code of a word of letters.
+pub fn word_code(letters: &[u8], word: &[u8], m: Mirror) -> Code
+    requires { ⌜ Limits (length (now letters)) (length (now word)) ⌝ }
+    ensures { λ r.
+        ⌜ r .0 ≡ code (length (now (letters .entry))) m (length (now (word .entry))) (ranksOf (now (letters .entry)) (now (word .entry))) ⌝ }
+{
+    let s = letters.len() as u64;
+    let k = word.len();
+    let mut own = [0u64; 64];
+    fill_ranks(letters, word, &mut own);
+    let found = ranks_code(&own[..k], s, m);
+    found.code
+}
+
+// Writes the canonical word with code q in capitals to the start of out.
+pub fn write_word(letters: &[u8], k: usize, m: Mirror, q: u64, out: &mut [u8])
+    requires { ⌜ Limits (length (now letters)) k × (q < classes (length (now letters)) m k) × (k ≤ length (now out)) ⌝ }
+    ensures { λ _.
+        ⌜ now (out .exit) ≡ inCapitals (now (letters .entry)) (wordOf (length (now (letters .entry))) m k q) ++ drop k (now (out .entry)) ⌝ }
+{
+    let s = letters.len() as u64;
+    let mut ranks = [0u64; 64];
+    fill_word(&mut ranks[..k], s, m, q);
+    write_letters(letters, &ranks[..k], out);
 }

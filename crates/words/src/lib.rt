@@ -1,10 +1,6 @@
 // Words and their codes: the code of a word, the word of a code, a word's mirror, and the pick of the lower of two words.
-// The calls take the settings as they are and refuse what no rule allows; the modules below them work on good settings.
-pub mod to_code; // from a word to its code
+// The calls take the settings as they are and refuse what no rule allows; the functions below them work on good settings.
 pub mod letters; // from bytes to ranks and back
-pub mod pair_ranks; // the rank of a pair of ranks
-pub mod ranks; // words of ranks: mirror and plain rank
-mod to_word; // from a code to its word
 
 ghost use mathlib.Core.Path.{_≡_};
 ghost use lib.ListN.{length};
@@ -13,14 +9,10 @@ ghost use Rattle.encoding.specs.Calls.{codeGround, coding, readGround, wordByte
 ghost use Rattle.words.specs.Answers.{ofCoding, Picked};
 ghost use Rattle.words.specs.Needs.{noneApplies};
 use letters::Place;
+use ranks::Code;
 use settings::Checked;
 use settings::Filling;
 use settings::Refusal;
-
-// A plain rank counts all words, a code counts classes, and neither may pass for the other.
-pub struct PlainRank(pub u64);
-
-pub struct Code(pub u64);
 
 // What coding a word answers: its code, or why it is refused.
 pub enum Coding {
@@ -41,7 +33,7 @@ pub fn code_of(letters: &[u8], k: usize, mirror: u64, word: &[u8]) -> Coding
             let m = st.mirror;
             match letters::foreign_at(letters, word) {
                 Place::At(i) => Coding::Refused(Refusal::ForeignByte(i)),
-                Place::Nowhere => Coding::Coded(to_code::word_code(letters, word, m)),
+                Place::Nowhere => Coding::Coded(letters::word_code(letters, word, m)),
             }
         }
     }
@@ -63,7 +55,7 @@ pub fn word_of(letters: &[u8], k: usize, mirror: u64, q: Code, out: &mut [u8]) -
                 return Filling::Unfilled(Refusal::NoSuchCode);
             }
             let m = st.mirror;
-            to_word::write_word(letters, k, m, q.0, out);
+            letters::write_word(letters, k, m, q.0, out);
             Filling::Filled(k)
         }
     }

@@ -8,7 +8,7 @@ use lib.ListN.{length, drop}
 use Rattle.laws.proofs.Buffers.{Written, written-none, written-length, written-next, written-all}
 use Rattle.encoding.specs.Calls.{inCapitals}
 use Rattle.words.proofs.LetterLoops.{length-capitals, inCapitals-at}
-use Rattle.words.proofs.WordParts.{ranks-at}
+use Rattle.ranks.proofs.WordParts.{ranks-at}
 use Rattle.words.proofs.letters.write_letters.Statement.{statement}
 use Rattle.words.proofs.letters.write_letters.Tie as tie
 

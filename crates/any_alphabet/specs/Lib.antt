@@ -1,0 +1,2 @@
+-- What the kernel for every alphabet asks.
+pub mod Needs

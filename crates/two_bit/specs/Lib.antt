@@ -1,0 +1,2 @@
+-- What the kernel by two-bit numbers asks.
+pub mod Needs
