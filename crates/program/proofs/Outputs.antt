@@ -23,7 +23,7 @@ use Rattle.survey.specs.Reading.{readLine}
 use Rattle.listing.specs.Listing.{listingOf}
 use Rattle.listing.specs.Needs.{AllCounts, longest}
 use Rattle.listing.proofs.ListingAnswers.{all-counts}
-use Rattle.program.specs.Program.{fileLine, refusedLine, clearedTable, answerText, surveyText, programFile, lineText, programText, Prints}
+use Rattle.program.specs.Program.{fileLine, refusedLine, unreadLine, clearedTable, answerText, surveyText, programFile, lineText, programText, Prints}
 
 -- ---- lengths
 
@@ -33,6 +33,10 @@ printed P h = let m = measured P (omega arith) in record { answers = m; leaves =
 pub refused-short : (g : Ground) → g .0 < 100000000000000000000 → g .1 < 100000000000000000000 → length (refusedLine g) ≤ 100
 unfolding refusedLine
 refused-short g h i = simp length-append (omega (arith, decimal-length 19 (g .0) (omega arith), decimal-length 19 (g .1) (omega arith)))
+
+pub unread-short : (n : ℕ) → n < 100000000000000000000 → length (unreadLine n) ≤ 100
+unfolding unreadLine
+unread-short n h = simp length-append (omega (arith, decimal-length 19 n (omega arith)))
 
 -- Each of a file's numbers fits 64 bits.
 pub record SmallNumbers (n : Numbers) : Type 0 where

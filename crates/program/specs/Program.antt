@@ -31,6 +31,10 @@ fileLine n =
 unfoldable pub refusedLine : Ground → List ℕ
 refusedLine g = bytes "(refused " ++ (decimal (g .0) ++ (bytes " " ++ (decimal (g .1) ++ bytes ")\n")))
 
+-- Where standard input could not be read to its end, for which document 01 has no number: how many bytes were read before the read that failed, and LF.
+unfoldable pub unreadLine : ℕ → List ℕ
+unreadLine n = bytes "(unread " ++ (decimal n ++ bytes ")\n")
+
 -- "It has 16,384 places": the table, cleared.
 unfoldable pub clearedTable : List ℕ
 clearedTable = replicate 16384 0
