@@ -2,14 +2,18 @@
 use mathlib.Core.Path.{_≡_, refl}
 use mathlib.Core.List.{List, [], _∷_, map}
 use Prim.Native.Nat.{ℕ, zero, suc}
+use native.Mathlib.Omega.{arith}
+use borrow.Author.Needs.{needs}
 use Prim.Native.String.{String}
 use Rattle.laws.specs.Text.{bytes}
 use Rattle.settings.specs.Grounds.{Outcome, given, refused}
 use Rattle.settings.specs.Settings.{isCapital, isIn, differentCapitals, goodLetters, capitalOf, readsUAsT, readAs, placeFrom, isOdd, halfUp, classes, badSize, settingsGround}
-use Rattle.encoding.specs.Words.{mirrorRank, mirror, plain, canonical}
+use Rattle.encoding.specs.Words.{Complement, mirrorRank, mirror, plain, canonical}
 use Rattle.encoding.specs.Codes.{pairRank, digits, differingPair, shift, oddShift, codeOfCanonical, code}
+use Rattle.encoding.specs.Exact.{ExactRank, ExactShift, ExactPairs, NothingCutOff}
 use Rattle.encoding.specs.WordsOfCodes.{wordOfPlain, pairOfRank, middleOfCode, wordOf}
 use Rattle.encoding.specs.Calls.{ranksOf, inCapitals, foreignFrom, codeGround, readGround, coding, reading, wordBytes, mirrorBytes}
+use Rattle.encoding.proofs.Exact.{nothing-cut-off}
 
 -- 0, 1, .. and so on, n numbers from i.
 abbrev numbers : ℕ → ℕ → List ℕ
@@ -96,4 +100,36 @@ starred-cases = record {
   T-and-U = refl;
   only-U = refl;
   neither = refl;
+}
+
+-- The parts of a code, of TACGGCTA above, code 1571: it is its own canonical word, and its third pair is the first that differs, with l = 1 and r = 2. So R is
+-- 1 · 4/2 + 2 − 1, the digits are worth 1955, and the shift is (4^5 − 4^4)/2 = 384. What specs/Exact.antt says of subtractions and halves, it says of these.
+abbrev word : List ℕ
+word = 3 ∷ 0 ∷ 1 ∷ 2 ∷ 2 ∷ 1 ∷ 3 ∷ 0 ∷ []
+
+word-exact : NothingCutOff 4 Complement 8 word
+word-exact =
+    nothing-cut-off 4 Complement 8 (record { two = omega arith; few = omega arith; small = omega arith }) word
+    (record { letters = refl; ranks = search needs })
+
+pub parts-of-a-code : record {
+  own-canonical : canonical 4 Complement word ≡ word;
+  in-digits : digits 4 Complement 8 word ≡ (0 ∷ 0 ∷ 1 ∷ 3 ∷ 2 ∷ 2 ∷ 0 ∷ 3 ∷ []);
+  worth : plain 4 (digits 4 Complement 8 word) ≡ 1955;
+  pair : differingPair 4 Complement 8 word ≡ 3;
+  rank : pairRank 4 1 2 ≡ 3;
+  exact-rank : ExactRank 4 1 2;
+  shifted : shift 4 8 3 ≡ 384;
+  exact-shift : ExactShift 4 8 3;
+}
+unfolding mirrorRank mirror plain canonical pairRank digits differingPair shift halfUp ExactPairs
+parts-of-a-code = record {
+  own-canonical = refl;
+  in-digits = refl;
+  worth = refl;
+  pair = refl;
+  rank = refl;
+  exact-rank = word-exact .pairs .0 refl .0 refl .1 (λ e. omega arith) .1;
+  shifted = refl;
+  exact-shift = word-exact .shifted 2 refl;
 }

@@ -38,7 +38,7 @@ halfUp-le : (n : ℕ) → halfUp n ≤ n
 unfolding halfUp
 halfUp-le n = omega arith
 
-halfUp-twice : (n : ℕ) → (n ≤ 2 * halfUp n) × (2 * halfUp n ≤ n + 1)
+pub halfUp-twice : (n : ℕ) → 2 * halfUp n ≡ n + n % 2
 unfolding halfUp
 halfUp-twice n = omega arith
 
@@ -116,7 +116,7 @@ pub oddShift-reversal : (s n : ℕ) → oddShift s Reversal n ≡ 0
 unfolding oddShift
 oddShift-reversal s n = refl
 
-odd-palindromes : (s : ℕ) (m : Mirror) (n : ℕ) → palindromes s m n + 2 * oddShift s m n ≡ s ^ halfUp n
+pub odd-palindromes : (s : ℕ) (m : Mirror) (n : ℕ) → palindromes s m n + 2 * oddShift s m n ≡ s ^ halfUp n
 unfolding palindromes
 odd-palindromes s Reversal n = omega (arith, oddShift-reversal s n)
 odd-palindromes s Complement n = go (isOdd n) (isOdd s) refl refl

@@ -13,5 +13,6 @@ pub mod ByRanks
 pub mod EqualPairs
 pub mod Palindromes
 pub mod Copies
+pub mod Exact
 pub mod Cases
 pub mod Theorems

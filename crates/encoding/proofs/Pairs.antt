@@ -7,20 +7,23 @@ use native.Mathlib.Omega.{arith}
 use borrow.Author.Tests.{lt-ltb, le-ltb}
 use Rattle.laws.proofs.Powers.{pairCount, square}
 use Rattle.encoding.specs.Codes.{pairRank}
+use Rattle.encoding.specs.Exact.{ExactRank}
 use Rattle.encoding.specs.WordsOfCodes.{pairOfRank}
 
--- The rank with no subtraction and no division.
-rank-twice : (s l r : ℕ) → l < r → r < s → 2 * pairRank s l r + l * l + 3 * l + 2 ≡ 2 * (l * s) + 2 * r
+-- In the rank no subtraction is cut off, and the half is exact.
+pub exact-rank : (s l r : ℕ) → l < r → r < s → ExactRank s l r
 unfolding pairRank
-rank-twice s l r h g =
+exact-rank s l r h g =
     let d : ℕ = 2 * s - 3 - l in
     let e : d + l + 3 ≡ 2 * s = omega arith in
     let f : l * d + l * l + 3 * l ≡ 2 * (l * s) = omega (arith, ap (λ (x : ℕ). l * x) e) in
-    let q : l * l ≡ l + 2 * pairCount l = square l in
-    half (l * d) (l * s) l (pairCount l) r (omega arith) (omega arith) q
-  where
-    half : (x y l₀ t r₀ : ℕ) → x + l₀ * l₀ + 3 * l₀ ≡ 2 * y → 0 < r₀ → l₀ * l₀ ≡ l₀ + 2 * t → 2 * (x / 2 + r₀ - 1) + l₀ * l₀ + 3 * l₀ + 2 ≡ 2 * y + 2 * r₀
-    half x y l₀ t r₀ e p q = omega arith
+    record { less-l = e; halved = omega (arith, square l); less-one = omega arith }
+
+-- So the rank with no subtraction and no division.
+rank-twice : (s l r : ℕ) → l < r → r < s → 2 * pairRank s l r + l * l + 3 * l + 2 ≡ 2 * (l * s) + 2 * r
+rank-twice s l r h g =
+    let E = exact-rank s l r h g in
+    omega (arith, ap (λ (x : ℕ). l * x) (E .less-l), E .halved, E .less-one)
 
 rank-zero : (s r : ℕ) → 0 < r → r < s → pairRank s 0 r ≡ r - 1
 rank-zero s r h g = omega (arith, rank-twice s 0 r h g)

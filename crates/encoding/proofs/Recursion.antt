@@ -46,7 +46,7 @@ pub codeRec-differ : (s : ℕ) (m : Mirror) (n a b : ℕ) (u : List ℕ) → len
 codeRec-differ s m n a b u l e = codeRec-ends s m n a b u l ∙ rw (ne-eqb a (mirrorRank s m b) e)
 
 -- The pair that differs is one of the n/2 pairs.
-differingPair-le : (s : ℕ) (m : Mirror) (n : ℕ) (w : List ℕ) → 2 * differingPair s m n w ≤ n
+pub differingPair-le : (s : ℕ) (m : Mirror) (n : ℕ) (w : List ℕ) → 2 * differingPair s m n w ≤ n
 unfolding differingPair
 differingPair-le s m zero w = omega arith
 differingPair-le s m (suc zero) w = omega arith

@@ -1,4 +1,5 @@
--- Document 01, "Code of a word": the digits from the outside inwards, the shift, the code; and the word that a code gives.
+-- Document 01, "Code of a word": the digits from the outside inwards, the shift, the code; and the word that a code gives. That no subtraction in these formulas
+-- is cut off at 0 and each division by 2 is exact is stated in Exact.
 use mathlib.Core.Path.{_≡_}
 use mathlib.Core.Bool.{cond}
 use mathlib.Core.List.{List, [], _∷_, _++_}

@@ -33,7 +33,7 @@ unfolding programText lineText kindByFirstByte surveyText refusedLine fileLine c
     isOdd halfUp classes badSize tooLong tooMany faultFrom itemsFrom item next lineItem isLetter lfNext
     recordsIn lettersIn foreignIn oneIfForeign marks runs onFirst windowsOf windows edgesOf edge placeFrom capitalOf readsUAsT readAs windowsOfFile full change changes oneMore
     code codeOfCanonical canonical plain mirror digits pairRank differingPair shift oddShift
-    reading.readLine reading.lineFrom reading.headOf reading.byOrder reading.inOrder reading.eachOnce reading.lineEnd reading.endAfter reading.nextForm reading.formAt
+    reading.readInput reading.readLine reading.lineFrom reading.headOf reading.byOrder reading.inOrder reading.eachOnce reading.lineEnd reading.endAfter reading.nextForm reading.formAt
     reading.formFrom reading.formOf reading.numberOf reading.mirrorNumber reading.sized reading.valueByte reading.stretch
     reading.startsWith spelt
     lines textOf firstByteIs isThere unlessAt firstFailing isQuality recordFault fastqFault

@@ -18,8 +18,9 @@ use Rattle.tally.proofs.Changes.{length-changes}
 use Rattle.texts.proofs.Decimals.{decimal-length}
 use Rattle.texts.specs.Needs.{Puts}
 use Rattle.texts.proofs.Writing.{measured, then}
-use Rattle.survey.specs.declared.Head.the-variants.{Survey, OtherOrder, NoSurvey}
-use Rattle.survey.specs.Reading.{readLine}
+use Rattle.survey.specs.declared.Head.the-variants.{Survey}
+use Rattle.survey.specs.Claims.{ofHead}
+use Rattle.survey.specs.Reading.{readInput}
 use Rattle.listing.specs.Listing.{listingOf}
 use Rattle.listing.specs.Needs.{AllCounts, longest}
 use Rattle.listing.proofs.ListingAnswers.{all-counts}
@@ -138,16 +139,12 @@ module _ (input : List ℕ) where
   long-text h = rw (lt-ltb 65536 (length input) h)
 
   module _ (short : length input ≤ 65536) where
-    pub no-survey-text : readLine input ≡ NoSurvey → programText input ≡ refusedLine (13, 0)
+    pub refusal-text : {g : Ground} → readInput input ≡ refused g → programText input ≡ refusedLine g
     unfolding programText lineText
-    no-survey-text e = rw (le-ltb 65536 (length input) short, e)
-
-    pub other-order-text : readLine input ≡ OtherOrder → programText input ≡ refusedLine (19, 0)
-    unfolding programText lineText
-    other-order-text e = rw (le-ltb 65536 (length input) short, e)
+    refusal-text e = rw (le-ltb 65536 (length input) short, e)
 
     -- The letters end at the place from + len.
-    pub line-text : {from len k m next : ℕ} → readLine input ≡ Survey from len k m next
+    pub line-text : (from len k m next : ℕ) → readInput input ≡ ofHead input (Survey from len k m next)
         → programText input ≡ surveyText (take (from + len - from) (drop from input)) k m (programFile (drop next input))
     unfolding programText lineText
-    line-text {from} {len} e = let n : from + len - from ≡ len = omega arith in rw (le-ltb 65536 (length input) short, e, n)
+    line-text from len k m next e = let n : from + len - from ≡ len = omega arith in rw (le-ltb 65536 (length input) short, e, n)

@@ -9,10 +9,10 @@ use Prim.Native.Nat.{ℕ}
 use native.Mathlib.Decide.{ℕ-discrete}
 use borrow.Author.Tests.{ne-eqb}
 use lib.Dec.{eqb, ltb}
-use lib.ListN.{length, getD, take, drop}
+use lib.ListN.{length, getD}
 use Rattle.laws.specs.Each.{Each}
 use Rattle.laws.proofs.Tests.{by-test}
-use Rattle.settings.specs.Grounds.{Ground, ground, outcome}
+use Rattle.settings.specs.Grounds.{Ground, Outcome, refused, ground, outcome}
 use Rattle.settings.specs.Settings.{isIn, rankIn, RefusedOnlyBy}
 use Rattle.settings.proofs.FirstGround.{NumberIn}
 use Rattle.files.specs.File.{File, fileNumbers}
@@ -21,13 +21,11 @@ use Rattle.files.specs.declared.Kind.the-variants.{Fasta, Fastq}
 use Rattle.tally.specs.Table.{tableFull, callGround}
 use Rattle.tally.proofs.RefusalNumbers.{callNumbers, call-numbers}
 use Rattle.texts.specs.Decimals.{decimalFrom, decimal}
-use Rattle.survey.specs.declared.Head.{Head}
-use Rattle.survey.specs.declared.Head.the-variants.{Survey, OtherOrder, NoSurvey}
 use Rattle.survey.specs.Line.{surveyLine}
 use Rattle.survey.specs.Grammar.{OtherOrderInput}
-use Rattle.survey.specs.Claims.{Neither}
-use Rattle.survey.specs.Reading.{readLine}
-use Rattle.survey.proofs.Theorems.{other-order-only, refuses}
+use Rattle.survey.specs.Claims.{InputParts, Neither}
+use Rattle.survey.specs.Reading.{readInput}
+use Rattle.survey.proofs.Theorems.{other-order-only, refuses, one-of-three}
 use Rattle.listing.specs.Listing.{listingOf}
 use Rattle.program.specs.Program.{refusedLine, clearedTable, answerText, surveyText, programFile, lineText, programText}
 
@@ -66,20 +64,19 @@ module _ (a b : ℕ) where
 
   -- If 14 does not show them either, they tell which answer the reader gave: one of the two whose refusal shows them.
   module _ (of-an-add : (kind : Kind) → ShownByNone a b (callNumbers 12 kind)) (of-length : shows a b (refusedLine (14, 0)) ≡ false)
-      (Q : Head → Type 0) (no-survey : shows a b (refusedLine (13, 0)) ≡ true → Q NoSurvey)
-      (other-order : shows a b (refusedLine (19, 0)) ≡ true → Q OtherOrder) (input : List ℕ) where
-    of-a-line : (h : Head) → shows a b (lineText input h) ≡ true → Q h
+      (Q : Outcome InputParts → Type 0) (no-survey : shows a b (refusedLine (13, 0)) ≡ true → Q (refused (13, 0)))
+      (other-order : shows a b (refusedLine (19, 0)) ≡ true → Q (refused (19, 0))) (input : List ℕ) where
+    of-a-line : shows a b (lineText (readInput input)) ≡ true → Q (readInput input)
     unfolding lineText
-    of-a-line (Survey from len k m next) z =
-        absurd (false≢true (sym (of-a-survey of-an-add (take len (drop from input)) k m (programFile (drop next input))) ∙ z))
-    of-a-line NoSurvey z = no-survey z
-    of-a-line OtherOrder z = other-order z
+    of-a-line =
+        one-of-three input (λ (o : Outcome InputParts). shows a b (lineText o) ≡ true → Q o)
+        (λ p z. absurd (false≢true (sym (of-a-survey of-an-add (p .letters) (p .k) (p .mirror) (programFile (p .file))) ∙ z))) no-survey other-order
 
-    only-by : shows a b (programText input) ≡ true → Q (readLine input)
+    only-by : shows a b (programText input) ≡ true → Q (readInput input)
     unfolding programText
     only-by =
-        by-test (λ (text : List ℕ). shows a b text ≡ true → Q (readLine input)) (ltb 65536 (length input))
-        (λ _ z. absurd (false≢true (sym of-length ∙ z))) (λ _. of-a-line (readLine input))
+        by-test (λ (text : List ℕ). shows a b text ≡ true → Q (readInput input)) (ltb 65536 (length input))
+        (λ _ z. absurd (false≢true (sym of-length ∙ z))) (λ _. of-a-line)
 
 -- ---- 3
 
@@ -93,7 +90,7 @@ no-add-refused-3 Fastq =
 pub never-prints-refusal-3 : (input : List ℕ) (p : ℕ) → programText input ≡ refusedLine (3, p) → ⊥
 unfolding shows refusedLine decimal decimalFrom
 never-prints-refusal-3 input p e =
-    only-by 51 32 no-add-refused-3 refl (λ (_ : Head). ⊥) (λ z. false≢true z) (λ z. false≢true z) input (ap (shows 51 32) e)
+    only-by 51 32 no-add-refused-3 refl (λ (_ : Outcome InputParts). ⊥) (λ z. false≢true z) (λ z. false≢true z) input (ap (shows 51 32) e)
 
 -- ---- 19 and 13
 
@@ -108,7 +105,7 @@ pub prints-19-only : (input : List ℕ) (p : ℕ) → programText input ≡ refu
 unfolding shows refusedLine decimal decimalFrom
 prints-19-only input p e =
     other-order-only input
-    (only-by 49 57 no-add-refused-19 refl (λ (h : Head). h ≡ OtherOrder) (λ z. absurd (false≢true z)) (λ _. refl) input (ap (shows 49 57) e))
+    (only-by 49 57 no-add-refused-19 refl (λ (o : Outcome InputParts). o ≡ refused (19, 0)) (λ z. absurd (false≢true z)) (λ _. refl) input (ap (shows 49 57) e))
 
 no-add-refused-13 : (kind : Kind) → ShownByNone 49 51 (callNumbers 12 kind)
 unfolding shows refusedLine decimal decimalFrom
@@ -120,4 +117,5 @@ no-add-refused-13 Fastq =
 pub prints-13-only : (input : List ℕ) (p : ℕ) → programText input ≡ refusedLine (13, p) → Neither input
 unfolding shows refusedLine decimal decimalFrom
 prints-13-only input p e =
-    refuses input (only-by 49 51 no-add-refused-13 refl (λ (h : Head). h ≡ NoSurvey) (λ _. refl) (λ z. absurd (false≢true z)) input (ap (shows 49 51) e))
+    refuses input
+    (only-by 49 51 no-add-refused-13 refl (λ (o : Outcome InputParts). o ≡ refused (13, 0)) (λ _. refl) (λ z. absurd (false≢true z)) input (ap (shows 49 51) e))

@@ -20,13 +20,13 @@ use Rattle.survey.specs.Forms.{unclosed}
 use Rattle.survey.specs.Line.{printedForms, surveyLine}
 use Rattle.survey.specs.Grammar.{SurveyInput, OtherOrderInput}
 use Rattle.survey.specs.Claims.{Neither}
-use Rattle.survey.specs.Reading.{readLine}
+use Rattle.survey.specs.Reading.{readInput}
 use Rattle.survey.proofs.Theorems.{reads-all, other-order-all, refuses-all, reads-no-printed-line}
 use Rattle.survey.proofs.Written.{printed-line}
 use Rattle.survey.proofs.OneLine.{the-settings-line}
 use Rattle.listing.specs.Listing.{listingOf, listing}
 use Rattle.program.specs.Program.{fileLine, refusedLine, clearedTable, surveyText, programFile, lineText, programText}
-use Rattle.program.proofs.Outputs.{no-survey-text, other-order-text}
+use Rattle.program.proofs.Outputs.{refusal-text}
 
 -- A text that begins with the line that we print begins with the settings' part of it and then has the number of classes.
 begins : (letters : List ℕ) (k m : ℕ) (second third : List ℕ)
@@ -36,9 +36,9 @@ begins letters k m second third = rw (printed-line letters k m) (simp append-ass
 
 module _ {input letters file : List ℕ} {k m : ℕ} (S : SurveyInput input letters k m file) where
   -- What is printed for a survey line and a file.
-  pub survey-line-text : lineText input (readLine input) ≡ surveyText letters k m (programFile file)
+  pub survey-line-text : lineText (readInput input) ≡ surveyText letters k m (programFile file)
   unfolding lineText
-  survey-line-text = let A = reads-all S in rw (A .is, A .letters-there, A .file-there)
+  survey-line-text = rw (reads-all S)
 
   -- Where no ground applies, it begins with that line, in which the number of classes stands before the bracket that closes it, and LF.
   pub listing-repeats-the-line : length input ≤ 65536 → tableGround letters k m clearedTable (add (programFile file)) ≡ none
@@ -55,14 +55,14 @@ module _ {input letters file : List ℕ} {k m : ℕ} (S : SurveyInput input lett
 
 -- "it precedes 1": nothing is asked of the letters, k, the mirror or the file, but that the input is not too long (14).
 pub refuses-another-order : {input : List ℕ} → OtherOrderInput input → length input ≤ 65536 → programText input ≡ refusedLine (19, 0)
-refuses-another-order {input} o short = other-order-text input short (other-order-all o)
+refuses-another-order {input} o short = refusal-text input short (other-order-all o)
 
 -- What starts neither with a survey line nor with one in another order is refused 13.
 pub refuses-neither : {input : List ℕ} → Neither input → length input ≤ 65536 → programText input ≡ refusedLine (13, 0)
-refuses-neither {input} n short = no-survey-text input short (refuses-all input n)
+refuses-neither {input} n short = refusal-text input short (refuses-all input n)
 
 -- So is the line that we print, whatever follows it: a listing is no input.
 pub refuses-the-printed-line : (letters : List ℕ) (k m : ℕ) (rest : List ℕ) → settingsGround letters k m ≡ none
     → length (surveyLine letters k m ++ rest) ≤ 65536 → programText (surveyLine letters k m ++ rest) ≡ refusedLine (13, 0)
 refuses-the-printed-line letters k m rest passed short =
-    no-survey-text (surveyLine letters k m ++ rest) short (reads-no-printed-line letters k m rest passed)
+    refusal-text (surveyLine letters k m ++ rest) short (reads-no-printed-line letters k m rest passed)

@@ -3,7 +3,7 @@ use mathlib.Core.Path.{_≡_}
 use Prim.Native.Nat.{ℕ, _≤_}
 use mathlib.Core.Bool.{cond}
 use mathlib.Core.List.{List, _++_}
-use lib.ListN.{length, take, drop, replicate}
+use lib.ListN.{length, replicate}
 use lib.Dec.{ltb}
 use lib.Seq.{sets}
 use Rattle.laws.specs.Text.{bytes}
@@ -16,9 +16,8 @@ use Rattle.files.specs.declared.Kind.the-variants.{Fasta, Fastq}
 use Rattle.files.specs.File.{File, fileOf, fileNumbers}
 use Rattle.tally.specs.Table.{add, tableGround, tableAfter}
 use Rattle.texts.specs.Decimals.{decimal}
-use Rattle.survey.specs.declared.Head.{Head}
-use Rattle.survey.specs.declared.Head.the-variants.{Survey, OtherOrder, NoSurvey}
-use Rattle.survey.specs.Reading.{readLine}
+use Rattle.survey.specs.Claims.{InputParts}
+use Rattle.survey.specs.Reading.{readInput}
 use Rattle.listing.specs.Listing.{listing}
 
 -- (file (records 2) (letters 9) (foreign 1) (edge 2) (windows 6)) and LF
@@ -56,16 +55,14 @@ kindByFirstByte bytes = cond (firstByteIs 64 bytes) Fastq Fasta
 abbrev pub programFile : (bytes : List ℕ) → File
 programFile bytes = fileOf (kindByFirstByte bytes) bytes
 
--- "a survey line, then a sequence file"; 13: "standard input's first line is no survey line"; "19, not 13, when just these three forms are there .. in
--- another order; it precedes 1" (document 02, K5).
-unfoldable pub lineText : (input : List ℕ) → Head → List ℕ
-lineText input (Survey from len k m next) = surveyText (take len (drop from input)) k m (programFile (drop next input))
-lineText input NoSurvey = refusedLine (13, 0)
-lineText input OtherOrder = refusedLine (19, 0)
+-- "a survey line, then a sequence file": what is printed for what the input is read as; 13 and 19 (document 02, K5: "it precedes 1") are the reader's.
+unfoldable pub lineText : Outcome InputParts → List ℕ
+lineText (given p) = surveyText (p .letters) (p .k) (p .mirror) (programFile (p .file))
+lineText (refused g) = refusedLine g
 
 -- 14, "standard input above 65,536 bytes", comes before 13 and 19.
 unfoldable pub programText : (input : List ℕ) → List ℕ
-programText input = cond (ltb 65536 (length input)) (refusedLine (14, 0)) (lineText input (readLine input))
+programText input = cond (ltb 65536 (length input)) (refusedLine (14, 0)) (lineText (readInput input))
 
 -- The contract of the program's function: the text stands at the start of the buffer, as far as the buffer goes; r is its length, and 2 MiB are
 -- room enough for it.

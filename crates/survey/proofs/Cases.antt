@@ -1,18 +1,17 @@
 -- Computed checks of the line that we print, and of the reading's definition: lines with their answers, lines in another order, and inputs that start with no
--- survey line, by the rule that they keep or break. A place counts from the first byte: `Survey 17 4 2 1 50` has its letters in the 4 bytes from 17 on, k 2,
--- mirror 1, and the file from 50 on.
+-- survey line, by the rule that they keep or break.
 use mathlib.Core.Path.{_≡_, refl}
-use mathlib.Core.List.{List, _∷_, _++_}
+use mathlib.Core.List.{List, [], _∷_, _++_}
 use Prim.Native.Nat.{ℕ}
 use Prim.Native.String.{String}
 use Rattle.laws.specs.Text.{bytes}
-use Rattle.survey.specs.declared.Head.{Head}
-use Rattle.survey.specs.declared.Head.the-variants.{Survey, OtherOrder, NoSurvey}
+use Rattle.settings.specs.Grounds.{Outcome, given, refused}
 use Rattle.settings.specs.Settings.{isIn, isOdd, halfUp, classes}
 use Rattle.texts.specs.Decimals.{decimalFrom, decimal}
 use Rattle.survey.specs.Line.{surveyLine}
 use Rattle.survey.specs.Grammar.{spelt}
-use Rattle.survey.specs.Reading.{startsWith, stretch, valueByte, sized, mirrorNumber, numberOf, formOf, formFrom, formAt, nextForm, endAfter, lineEnd, inOrder, eachOnce, byOrder, headOf, lineFrom, readLine}
+use Rattle.survey.specs.Claims.{InputParts, inputParts}
+use Rattle.survey.specs.Reading.{startsWith, stretch, valueByte, sized, mirrorNumber, numberOf, formOf, formFrom, formAt, nextForm, endAfter, lineEnd, inOrder, eachOnce, byOrder, headOf, lineFrom, readLine, readInput}
 
 -- ---- lines that we print
 
@@ -29,47 +28,48 @@ printed = (refl, refl, refl, refl)
 -- ---- lines that are read
 
 -- What an input is read as. A case that unfolds it computes with all that its `unfolding` line names.
-unfoldable reading : List ℕ → Head
-unfolding readLine lineFrom headOf byOrder inOrder eachOnce lineEnd endAfter nextForm formAt formFrom formOf numberOf mirrorNumber
+unfoldable reading : List ℕ → Outcome InputParts
+unfolding readInput readLine lineFrom headOf byOrder inOrder eachOnce lineEnd endAfter nextForm formAt formFrom formOf numberOf mirrorNumber
     sized valueByte isIn stretch startsWith spelt
-reading input = readLine input
+reading input = readInput input
 
-abbrev Reads : String → Head → Type 0
-Reads line answer = reading (bytes line) ≡ answer
+-- The line is read as these letters, this k and this mirror, and the file is what follows it.
+abbrev Reads : (line letters : String) (k mirror : ℕ) (file : String) → Type 0
+Reads line letters k mirror file = reading (bytes line) ≡ given (inputParts (bytes letters) k mirror (bytes file))
 
 abbrev ToldAsOther : String → Type 0
-ToldAsOther line = Reads line OtherOrder
+ToldAsOther line = reading (bytes line) ≡ refused (19, 0)
 
 abbrev Refused : String → Type 0
-Refused line = Reads line NoSurvey
+Refused line = reading (bytes line) ≡ refused (13, 0)
 
 -- ---- survey lines
 
 -- The worked example's line.
-in-order : Reads "(survey (letters ACGT) (k 2) (mirror complement))\n>a" (Survey 17 4 2 1 50)
+in-order : Reads "(survey (letters ACGT) (k 2) (mirror complement))\n>a" "ACGT" 2 1 ">a"
 unfolding reading
 in-order = refl
 
 -- "ends in LF, CR LF or with the input"
 line-ends :
-    Reads "(survey (letters AB) (k 7) (mirror reversal))\n" (Survey 17 2 7 0 46)
-    × Reads "(survey (letters AB) (k 7) (mirror reversal))\r\n>a" (Survey 17 2 7 0 47)
-    × Reads "(survey (letters AB) (k 7) (mirror reversal))" (Survey 17 2 7 0 45)
+    Reads "(survey (letters AB) (k 7) (mirror reversal))\n" "AB" 7 0 ""
+    × Reads "(survey (letters AB) (k 7) (mirror reversal))\r\n>a" "AB" 7 0 ">a"
+    × Reads "(survey (letters AB) (k 7) (mirror reversal))" "AB" 7 0 ""
 unfolding reading
 line-ends = (refl, refl, refl)
 
 -- Whether k, the letters and the mirror are good settings is judged later: "`reversal` is 0, `complement` 1, others give 2".
 values :
-    Reads "(survey (letters AB) (k 0) (mirror reversal))\n" (Survey 17 2 0 0 46)
-    × Reads "(survey (letters AB) (k 999) (mirror reversal))\n" (Survey 17 2 999 0 48)
-    × Reads "(survey (letters acgt) (k 10) (mirror foo))\n" (Survey 17 4 10 2 44)
-    × Reads "(survey (letters A-Z>\"{}) (k 7) (mirror reversals))\n" (Survey 17 7 7 2 52)
-    × Reads "(survey (letters A) (k 7) (mirror complemen))\n" (Survey 17 1 7 2 46)
+    Reads "(survey (letters AB) (k 0) (mirror reversal))\n" "AB" 0 0 ""
+    × Reads "(survey (letters AB) (k 999) (mirror reversal))\n" "AB" 999 0 ""
+    × Reads "(survey (letters acgt) (k 10) (mirror foo))\n" "acgt" 10 2 ""
+    × Reads "(survey (letters A-Z>\"{}) (k 7) (mirror reversals))\n" "A-Z>\"{}" 7 2 ""
+    × Reads "(survey (letters A) (k 7) (mirror complemen))\n" "A" 7 2 ""
 unfolding reading
 values = (refl, refl, refl, refl, refl)
 
 -- Bytes above 127 are letters too.
-high-bytes : reading (bytes "(survey (letters A" ++ (128 ∷ 255 ∷ bytes ") (k 7) (mirror reversal))\n")) ≡ Survey 17 3 7 0 47
+high-bytes : reading (bytes "(survey (letters A" ++ (128 ∷ 255 ∷ bytes ") (k 7) (mirror reversal))\n")) ≡ given (inputParts (65 ∷ 128 ∷ 255 ∷ []) 7 0 [])
 unfolding reading
 high-bytes = refl
 

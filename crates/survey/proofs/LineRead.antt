@@ -1,6 +1,7 @@
 -- From the reader to the grammar, `line-good`: where the reader finds a survey line, the input is one, with these letters, k, mirror and file; where it
--- finds a line in another order, the input is one. From the laws of one form (FormLaws) and of the line's end (LineEnds).
-use mathlib.Core.Path.{_≡_, sym, _∙_}
+-- finds a line in another order, the input is one. And what it points to lies inside the input: so `read_line` keeps its contract (`reads-line`). From the laws
+-- of one form (FormLaws) and of the line's end (LineEnds).
+use mathlib.Core.Path.{_≡_, sym, ap, _∙_}
 use mathlib.Core.Bool.{true}
 use mathlib.Core.List.{List, [], _∷_, _++_}
 use Prim.Native.Nat.{ℕ, _+_, _≤_}
@@ -16,9 +17,9 @@ use Rattle.survey.specs.declared.End.the-variants.{At, Nowhere}
 use Rattle.survey.specs.declared.Head.{Head}
 use Rattle.survey.specs.declared.Head.the-variants.{Survey, OtherOrder, NoSurvey}
 use Rattle.survey.specs.Forms.{settingsForms, lineOf}
-use Rattle.survey.specs.Grammar.{as-listed, InAnotherOrder, xzy, yxz, yzx, zxy, zyx, LineEnd, LettersText, KText, MirrorText, LineInput, OtherOrderInput}
-use Rattle.survey.specs.Claims.{Says}
-use Rattle.survey.specs.Reading.{startsWith, formAt, nextForm, endAfter, lineEnd, inOrder, eachOnce, byOrder, headOf, lineFrom, readLine}
+use Rattle.survey.specs.Grammar.{as-listed, InAnotherOrder, xzy, yxz, yzx, zxy, zyx, LineEnd, LettersText, KText, MirrorText, LineInput, SurveyInput, OtherOrderInput}
+use Rattle.survey.specs.Claims.{Inside, ReadsLine, ofHead}
+use Rattle.survey.specs.Reading.{startsWith, formAt, nextForm, endAfter, lineEnd, inOrder, eachOnce, byOrder, headOf, lineFrom, readLine, readInput}
 use Rattle.survey.proofs.TextLaws.{starts-at}
 use Rattle.survey.proofs.ValueLaws.{ValueText}
 use Rattle.survey.proofs.FormLaws.{opening, written, row, flat-forms, flat-of, row-is, FormRead, FormGood, form-good}
@@ -37,7 +38,7 @@ joined a x b y c z end file p q r s u v w =
 abbrev pub Fine : List ℕ → Head → Type 0
 Fine t NoSurvey = Unit
 Fine t OtherOrder = OtherOrderInput t
-Fine t (Survey from len k mirror next) = Says t from len k mirror next
+Fine t (Survey from len k mirror next) = Inside t (Survey from len k mirror next) × SurveyInput t (take len (drop from t)) k mirror (drop next t)
 
 -- Three forms and an end, as they were read: the names are a, b and c, the values the l, m and n bytes from f, g and h on, the numbers v, w
 -- and x, and the line ends before the place `next`.
@@ -84,7 +85,7 @@ module _ (t : List ℕ) (next f l v g m w h n x : ℕ) where
   by-order Letters K Letters r = tt
   by-order Letters K K r = tt
   by-order Letters K Mirror r =
-      record { letters-inside = r .first-in; file-inside = r .next-in; survey = line-in r (r .first .0) (r .second) (r .third) as-listed }
+      ((r .first-in, r .next-in), line-in r (r .first .0) (r .second) (r .third) as-listed)
   by-order Letters Mirror Letters r = tt
   by-order Letters Mirror K r = other (line-in r (r .first .0) (r .third) (r .second) xzy)
   by-order Letters Mirror Mirror r = tt
@@ -162,3 +163,13 @@ module _ (t : List ℕ) where
   pub line-good : Fine t (readLine t)
   unfolding readLine lineFrom
   line-good = by-test (Fine t) (startsWith (bytes "(survey ") t) (λ s. first-good s (formAt t 8) (form-good t 8)) (λ s. tt)
+
+fine-inside : (t : List ℕ) (h : Head) → Fine t h → Inside t h
+fine-inside t NoSurvey F = tt
+fine-inside t OtherOrder F = tt
+fine-inside t (Survey from len k mirror next) F = F .0
+
+-- What `read_line` answers, in the documents' terms.
+pub reads-line : (t : List ℕ) {r : Head} → r ≡ readLine t → ReadsLine t (readInput t) r
+unfolding readInput
+reads-line t e = record { answers = ap (ofHead t) e; inside = rw e (fine-inside t (readLine t) (line-good t)) }

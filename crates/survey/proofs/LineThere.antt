@@ -16,8 +16,9 @@ use Rattle.survey.specs.declared.End.the-variants.{At}
 use Rattle.survey.specs.declared.Head.the-variants.{OtherOrder, NoSurvey}
 use Rattle.survey.specs.Forms.{settingsForms, unclosed, lineOf}
 use Rattle.survey.specs.Grammar.{InOrder, as-listed, InAnotherOrder, xzy, yxz, yzx, zxy, zyx, LineEnd, LettersText, KText, MirrorText}
-use Rattle.survey.specs.Claims.{Answers}
-use Rattle.survey.specs.Reading.{startsWith, formAt, nextForm, endAfter, lineEnd, inOrder, eachOnce, byOrder, headOf, lineFrom, readLine}
+use Rattle.settings.specs.Grounds.{given}
+use Rattle.survey.specs.Claims.{inputParts}
+use Rattle.survey.specs.Reading.{startsWith, formAt, nextForm, endAfter, lineEnd, inOrder, eachOnce, byOrder, headOf, lineFrom, readLine, readInput}
 use Rattle.survey.proofs.ValueLaws.{ValueText}
 use Rattle.survey.proofs.FormLaws.{opening, written, row, flat-forms, row-is, form-there, drop-more}
 use Rattle.survey.proofs.LineEnds.{end-there, end-open}
@@ -119,11 +120,11 @@ line-there t a b c {x} {y} {z} {end} {file} A B C E whole =
 -- The letters are those of the first form.
 pub in-order : {t letters kText mirrorText line end file : List ℕ} {k mirror : ℕ} → LettersText letters → KText kText k → MirrorText mirrorText mirror
     → LineEnd end file → InOrder (settingsForms letters kText mirrorText) line → t ≡ line ++ (end ++ file)
-    → Answers t letters k mirror file
-unfolding headOf byOrder inOrder
+    → readInput t ≡ given (inputParts letters k mirror file)
+unfolding readInput headOf byOrder inOrder
 in-order {t} letters k mirror end as-listed e =
     let r = line-there t Letters K Mirror (letters, refl) k mirror end e in
-    record { from = _; len = _; next = _; is = r .is; letters-there = r .at-first; file-there = r .rest }
+    rw (r .is, r .at-first, r .rest)
 
 pub in-another-order : {t letters kText mirrorText line end file : List ℕ} {k mirror : ℕ} → LettersText letters → KText kText k
     → MirrorText mirrorText mirror → LineEnd end file → InAnotherOrder (settingsForms letters kText mirrorText) line

@@ -1,4 +1,4 @@
--- The survey line as it is read, from left to right with no way back: `read_line` answers what `readLine` says. That what is read is `SurveyInput` and what is
+-- The survey line as it is read, from left to right with no way back: `read_line` answers what `readInput` says. That what is read is `SurveyInput` and what is
 -- told to be in another order (document 02, K5) is `OtherOrderInput`, and no others, is proved in proofs/Theorems.antt. t is the whole input, and a place
 -- counts from its first byte.
 use Prim.Native.Nat.{ℕ, suc, _+_}
@@ -7,8 +7,10 @@ use mathlib.Core.List.{List, [], _∷_}
 use lib.ListN.{length, take, drop}
 use lib.Dec.{leb, eqb}
 use Rattle.laws.specs.Text.{bytes}
+use Rattle.settings.specs.Grounds.{Outcome}
 use Rattle.settings.specs.Settings.{isIn}
 use Rattle.survey.specs.Grammar.{spelt}
+use Rattle.survey.specs.Claims.{InputParts, ofHead}
 use Rattle.survey.specs.declared.Name.{Name}
 use Rattle.survey.specs.declared.Name.the-variants.{Letters, K, Mirror}
 use Rattle.survey.specs.declared.Form.{Form}
@@ -122,3 +124,7 @@ lineFrom t at =
 -- with no survey line.
 unfoldable pub readLine : List ℕ → Head
 readLine t = cond (startsWith (bytes "(survey ") t) (lineFrom t 8) NoSurvey
+
+-- What the input is read as, in the documents' terms.
+unfoldable pub readInput : List ℕ → Outcome InputParts
+readInput t = ofHead t (readLine t)

@@ -5,7 +5,8 @@ pub mod values; // the value of a form
 ghost use mathlib.Core.Path.{_≡_};
 ghost use Rattle.survey.specs.declared.End.the-variants.{At};
 ghost use Rattle.survey.specs.Needs.{Within};
-ghost use Rattle.survey.specs.Reading.{formFrom, formAt, nextForm, endAfter, lineEnd, position as Position, inOrder, eachOnce, byOrder, headOf, lineFrom, readLine};
+ghost use Rattle.survey.specs.Reading.{formFrom, formAt, nextForm, endAfter, lineEnd, position as Position, inOrder, eachOnce, byOrder, headOf, lineFrom, readInput};
+ghost use Rattle.survey.specs.Claims.{ReadsLine};
 use values::number_of;
 use values::sized;
 use values::starts;
@@ -235,7 +236,7 @@ fn line_from(input: &[u8], at: usize) -> Head
 
 // Reads the survey line that an input starts with.
 pub fn read_line(input: &[u8]) -> Head
-    ensures { λ r. ⌜ r ≡ readLine (now (input .entry)) ⌝ }
+    ensures { λ r. ⌜ ReadsLine (now (input .entry)) (readInput (now (input .entry))) r ⌝ }
 {
     if starts(input, 0, b"(survey ") {
         return line_from(input, 8);

@@ -1,7 +1,8 @@
--- `survey::read_line` meets its contract: the opening text, and then the forms.
+-- `survey::read_line` meets its contract: the opening text, and then the forms; what it answers, in the documents' terms, by `reads-line`.
 use mathlib.Core.Path.{sym, _∙_}
 use borrow.Author.Needs.{needs}
 use Rattle.survey.specs.Reading.{readLine}
+use Rattle.survey.proofs.LineRead.{reads-line}
 use Rattle.survey.proofs.read_line.Statement.{statement}
 use Rattle.survey.proofs.read_line.Tie as tie
 
@@ -16,11 +17,11 @@ line-from-requires c κs = search needs
 
 returns : tie.Need-returns
 unfolding readLine
-returns c = rw (sym (c .before .before .starts .ensures) ∙ c .before .if1 .taken) (c .line-from .ensures)
+returns c = reads-line _ (rw (sym (c .before .before .starts .ensures) ∙ c .before .if1 .taken) (c .line-from .ensures))
 
 returns-2 : tie.Need-returns-2
 unfolding readLine
-returns-2 c = rw (sym (c .before .starts .ensures) ∙ c .if1 .left)
+returns-2 c = reads-line _ (rw (sym (c .before .starts .ensures) ∙ c .if1 .left))
 
 pub read-line-spec : {M : Type 1} → statement M
 read-line-spec =
