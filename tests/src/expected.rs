@@ -102,6 +102,15 @@ pub fn mirroring(settings: &Settings, word: &[u8], room: usize) -> Result<Vec<u8
     Ok(spelled(&settings.letters, &coder(settings).mirror(&ranks)))
 }
 
+/// The pick: "hands back the one with the lower plain rank; the first if they are equal". A refused one gives no
+/// number: none, by grounds 1, 2, 4, and 5 and 9 of either word.
+pub fn picking<'a>(settings: &Settings, first: &'a [u8], second: &'a [u8]) -> Option<&'a [u8]> {
+    coding(settings, first).and(coding(settings, second)).ok()?;
+    // Of words of one length the one of lower plain rank is lexicographically smaller.
+    let lower = ranks(settings, second).ok()? < ranks(settings, first).ok()?;
+    Some(if lower { second } else { first })
+}
+
 /// Compares kmer_code with an expectation. Its refusals carry no P.
 pub fn check_code(settings: &Settings, word: &[u8], expected: Result<u64, Refusal>) {
     let answer = calls::code(settings, word);

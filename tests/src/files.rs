@@ -15,7 +15,7 @@ pub enum Kind {
 }
 
 impl Kind {
-    /// "A caller names the kind of file."
+    /// "A caller names the kind of file".
     pub fn named(fastq: u64) -> Kind {
         match fastq {
             FASTA => Kind::Fasta,

@@ -26,9 +26,12 @@ fn path() -> PathBuf {
     root.join(env::var_os("COUNTER_BIN").unwrap_or(BUILT.into()))
 }
 
-fn start(stdin: Stdio) -> Child {
-    let mut command = Command::new(path());
-    command.stdin(stdin).stdout(Stdio::piped()).stderr(Stdio::piped());
+fn start(stdin: Stdio, stdout: Stdio) -> Child {
+    started(Command::new(path()).stdin(stdin).stdout(stdout))
+}
+
+fn started(command: &mut Command) -> Child {
+    command.stderr(Stdio::piped());
     command.spawn().unwrap_or_else(|error| panic!("{} does not start: {error}", path().display()))
 }
 
@@ -80,22 +83,63 @@ fn printed_by(mut child: Child, input: impl Fn() -> String) -> Vec<u8> {
 
 /// What the program prints for an input that reaches it in pieces of so many bytes.
 pub fn run_in_pieces(input: &[u8], piece: usize) -> Vec<u8> {
-    let mut child = start(Stdio::piped());
-    let stdin = child.stdin.take().expect("a pipe");
-    let (fed, printed) = thread::scope(|scope| {
-        let fed = scope.spawn(|| feed(stdin, input, piece));
-        let printed = printed_by(child, || shown_file(input));
-        (fed.join().expect("feeding"), printed)
-    });
+    let (fed, printed) = run_fed(|pipe| feed(pipe, input, piece), || shown_file(input));
     // The program must know whether there are more than MOST_INPUT bytes: only then may it leave some unread.
     assert!(fed.is_ok() || input.len() > MOST_INPUT, "{fed:?}: input {}", shown_file(input));
     printed
 }
 
-/// What the program prints where it cannot read its standard input, here a folder.
-pub fn run_on_a_folder() -> Vec<u8> {
-    let folder = File::open("/").expect("the root folder opens");
-    printed_by(start(folder.into()), || "a folder".to_string())
+/// What the program prints where a pipe goes on with these bytes until nobody reads it any more.
+pub fn run_without_end(piece: &[u8]) -> Vec<u8> {
+    let go_on = |mut pipe: ChildStdin| {
+        while pipe.write_all(piece).is_ok() {}
+        Ok(())
+    };
+    run_fed(go_on, || "without end".to_string()).1
+}
+
+/// What the program prints while another thread feeds it, and whether that could write all.
+fn run_fed(
+    feed: impl FnOnce(ChildStdin) -> io::Result<()> + Send,
+    input: impl Fn() -> String,
+) -> (io::Result<()>, Vec<u8>) {
+    let mut child = start(Stdio::piped(), Stdio::piped());
+    let stdin = child.stdin.take().expect("a pipe");
+    thread::scope(|scope| {
+        let fed = scope.spawn(|| feed(stdin));
+        let printed = printed_by(child, input);
+        (fed.join().expect("feeding"), printed)
+    })
+}
+
+/// What the program prints where a file, a folder or a device is its standard input.
+pub fn run_reading(stdin: File) -> Vec<u8> {
+    let what = format!("{stdin:?}");
+    printed_by(start(stdin.into(), Stdio::piped()), || what.clone())
+}
+
+/// The program as a shell starts it with this redirection, which may close what is standard.
+fn shell(redirection: &str) -> Command {
+    let mut command = Command::new("sh");
+    command.arg("-c").arg(format!("exec \"$0\" {redirection}")).arg(path());
+    command
+}
+
+/// What the program prints where its standard input is closed.
+pub fn run_with_closed_input() -> Vec<u8> {
+    printed_by(started(shell("<&-").stdout(Stdio::piped())), || "closed".to_string())
+}
+
+/// The program ends in time, without a word on standard error, where its standard output is this; none is closed.
+pub fn check_ends_without_output(input: File, output: Option<File>) {
+    let mut child = match output {
+        Some(output) => start(input.into(), output.into()),
+        None => started(shell(">&-").stdin(input)),
+    };
+    let stderr = child.stderr.take().expect("a pipe");
+    assert!(ended(&mut child).is_some(), "no end within {LONGEST:?}");
+    let complaints = collected(stderr);
+    assert!(complaints.is_empty(), "{}", shown_file(&complaints));
 }
 
 /// The program prints just this for an input.

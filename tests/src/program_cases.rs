@@ -24,7 +24,7 @@ pub struct Case {
 }
 
 /// The bytes of a piece.
-fn unescaped(text: &str) -> Vec<u8> {
+pub fn unescaped(text: &str) -> Vec<u8> {
     let mut found = Vec::new();
     let mut rest = text;
     while let Some(at) = rest.find('\\') {

@@ -97,7 +97,7 @@ impl Coder {
 
     /// How many smaller digit strings encode no canonical word: the paper's sum over m from
     /// ceil(k/2) - 1 to k - place - 2, and for odd k under complement half of s^c more. With odd s "the
-    /// extra subtraction becomes (s - 1)/2 times s^(k/2 rounded down)" (document 02, K10).
+    /// extra subtraction becomes (s − 1)/2 times s^(k/2 rounded down)" (document 02, K10).
     pub fn missing(&self, place: Option<usize>) -> u128 {
         let outer = self.k.div_ceil(2);
         let pairs = (self.s * (self.s - 1) / 2) as u128;

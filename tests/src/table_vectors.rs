@@ -73,6 +73,16 @@ pub fn stored_loads(count: usize) -> Vec<Stored> {
     rows(LOADS, "load", count).into_iter().map(|row| parsed(None, row)).collect()
 }
 
+impl Stored {
+    /// The reference answers as stored, and leaves the stored table: these counts at its start, all else as it was.
+    pub fn check_second(&self, answer: Result<Vec<u64>, Refusal>, counts: &[u32]) {
+        assert_eq!(answer, self.outcome, "{}: the reference", self.line);
+        let mut table = self.table.clone();
+        table[..counts.len()].copy_from_slice(counts);
+        assert_eq!(table, self.after, "{}: the reference", self.line);
+    }
+}
+
 /// The call and the book answer as stored, and leave the stored table. Stored calls have no answer list: it is long
 /// enough here.
 pub fn check_stored_call(call: Call, stored: &Stored) {
@@ -82,6 +92,10 @@ pub fn check_stored_call(call: Call, stored: &Stored) {
     let mut book = Book::starting(&stored.settings, counts);
     let fastq = stored.fastq.expect("a sequence file");
     let answer = check_call(call, &mut book, &mut table, fastq, &stored.file, 5);
-    assert_eq!(answer.map(|numbers| numbers.to_vec()), stored.outcome, "{}", stored.line);
     assert_eq!(table.slice(), stored.after, "{}", stored.line);
+    let mut counts = counts.to_vec();
+    if answer.is_ok() {
+        book.write_counts(&mut counts);
+    }
+    stored.check_second(answer.map(|numbers| numbers.to_vec()), &counts);
 }

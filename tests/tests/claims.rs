@@ -1,160 +1,116 @@
 //! docs/CLAIMS.md cites files, must-fail edits, functions, definitions and theorems. Each of them is there: a
 //! path is a file, an edit is in its crate's must-fail folder, a function is in its crate's source, and every
-//! other name is declared in the file that the page's index says. And what must be believed has as many lines
-//! as the page says.
+//! other name is declared in the file that the page's index says. The index, and how many lines must be believed,
+//! are what the command `claims` writes. And what the page, the definitions, the proofs, the sources and the tests
+//! quote of the demands and of documents 01 and 02 stands there word for word.
 
-use std::collections::BTreeSet;
-use std::fs;
-use std::path::{Path, PathBuf};
-
-fn root() -> PathBuf {
-    Path::new(env!("CARGO_MANIFEST_DIR")).join("..")
-}
-
-/// What stands between backticks in a text, in order.
-fn quoted(text: &str) -> Vec<&str> {
-    text.split('`').skip(1).step_by(2).collect()
-}
-
-/// A name as the index lists it: letters, digits and the signs that names of definitions have.
-fn is_name(text: &str) -> bool {
-    text.chars().all(|c| c.is_alphanumeric() || "_-'′".contains(c))
-}
-
-/// Whether a line of a specs, proofs or source file declares a name.
-fn declares(line: &str, name: &str) -> bool {
-    let words = ["pub", "unfoldable", "abbrev", "record", "data", "fn", "struct", "enum", "extern", "\"C\""];
-    let first = line
-        .split(|c: char| c.is_whitespace() || "(:{<,;".contains(c))
-        .find(|w| !w.is_empty() && !words.contains(w));
-    first == Some(name)
-}
-
-fn read(path: &Path) -> String {
-    fs::read_to_string(path).unwrap_or_else(|error| panic!("{}: {error}", path.display()))
-}
-
-/// All source of a crate.
-fn source(name: &str) -> String {
-    let folder = root().join("crates").join(name).join("src");
-    let files = fs::read_dir(&folder).unwrap_or_else(|error| panic!("{}: {error}", folder.display()));
-    files.map(|file| read(&file.expect("an entry of the folder").path())).collect()
-}
-
-/// All tests.
-fn tests() -> String {
-    let files = fs::read_dir(root().join("tests/tests")).expect("the folder of the tests");
-    files.map(|file| read(&file.expect("an entry of the folder").path())).collect()
-}
-
-/// Words of the language that the page speaks of.
-const WORDS: [&str; 2] = ["requires", "returns"];
-
-/// Whether a quoted text with a slash or a colon in it, or a file's name, is there.
-fn is_there(text: &str) -> bool {
-    if let Some((first, rest)) = text.split_once("::") {
-        let name = rest.rsplit("::").next().expect("a last part");
-        // What is no crate is a type that has functions, as in `Reader::next`; those are in records.
-        let folder = if root().join("crates").join(first).is_dir() { first } else { "records" };
-        return source(folder).lines().any(|line| declares(line.trim(), name));
-    }
-    if is_name(text) && tests().contains(&format!("fn {text}(")) {
-        return true;
-    }
-    let crates = || fs::read_dir(root().join("crates")).expect("the folder of the crates");
-    if text.ends_with(".antt") && !text.contains('/') {
-        let folders = crates().map(|folder| folder.expect("an entry of the folder").path());
-        return folders.flat_map(|f| [f.join("specs"), f.join("proofs")]).any(|f| f.join(text).exists());
-    }
-    let edit = text.split_once('/').map(|(first, name)| format!("crates/{first}/must-fail/{name}.edit"));
-    let places =
-        [format!("crates/{text}"), text.to_string(), format!("tests/tests/{text}"), edit.unwrap_or_default()];
-    places.iter().any(|place| !place.is_empty() && root().join(place).exists())
-}
+use kmer_tests::claims::*;
+use kmer_tests::quotations::*;
+use kmer_tests::repository::{crate_texts, read, texts};
 
 #[test]
 fn what_the_page_cites_is_there() {
-    let page = read(&root().join("docs/CLAIMS.md"));
-    let (body, index) = page.split_once("\n## Index of names\n").expect("the page has an index");
-    let mut indexed = BTreeSet::new();
-    for row in index.lines().filter(|row| row.starts_with("| `")) {
-        let cells = quoted(row);
-        let file = read(&root().join("crates").join(cells[0]));
-        for name in &cells[1..] {
-            assert!(
-                file.lines().any(|line| declares(line.trim(), name)),
-                "{} does not declare {name}",
-                cells[0]
-            );
-            indexed.insert(*name);
-        }
-    }
-    assert!(indexed.len() > 150, "the index has only {} names", indexed.len());
-    for text in quoted(body) {
-        let known = WORDS.contains(&text)
-            || indexed.contains(text)
-            || (!is_name(text) && text.contains([' ', '&', '(']))
-            || is_there(text);
-        assert!(known, "`{text}` is neither in the index nor a file, an edit or a function");
-    }
-}
-
-/// How many lines of a specs file are neither blank, nor a comment, nor an import.
-fn lines_of_definitions(text: &str) -> usize {
-    let skipped = ["--", "use ", "pub use ", "unfoldable pub use ", "pub mod "];
-    let line_counts = |line: &&str| !line.is_empty() && !skipped.iter().any(|start| line.starts_with(start));
-    text.lines().map(str::trim).filter(line_counts).count()
-}
-
-/// The files of a passage of the page, each `path` with a number behind it, and the sum of the numbers.
-fn counted_files(passage: &str) -> (BTreeSet<&str>, usize) {
-    let mut files = BTreeSet::new();
-    let mut sum = 0;
-    let parts: Vec<&str> = passage.split('`').collect();
-    for pair in parts[1..].chunks(2).filter(|pair| pair[0].contains("/specs/")) {
-        let digits: String = pair[1].trim_start().chars().take_while(char::is_ascii_digit).collect();
-        let Ok(said) = digits.parse::<usize>() else { continue };
-        let path = root().join("crates").join(pair[0]);
-        assert_eq!(lines_of_definitions(&read(&path)), said, "{} has another number of lines", pair[0]);
-        files.insert(pair[0]);
-        sum += said;
-    }
-    (files, sum)
-}
-
-/// The files of all specs folders, by path below crates/, without those that only name the others.
-fn specs_files() -> Vec<String> {
-    let crates = fs::read_dir(root().join("crates")).expect("the folder of the crates");
-    let names = crates
-        .map(|folder| folder.expect("an entry of the folder").file_name().into_string().expect("a name"));
-    let files = names.flat_map(|name| {
-        let specs = fs::read_dir(root().join("crates").join(&name).join("specs")).into_iter().flatten();
-        specs.map(move |file| {
-            let file = file.expect("an entry of the folder").file_name().into_string().expect("a name");
-            format!("{name}/specs/{file}")
-        })
-    });
-    files.filter(|file| !file.ends_with("/Lib.antt")).collect()
+    let page = read(PAGE);
+    let missing = missing(&page);
+    assert!(missing.is_empty(), "neither in the index nor a file, an edit or a function: {missing:?}");
 }
 
 #[test]
-fn what_must_be_believed_is_counted() {
-    let page = read(&root().join("docs/CLAIMS.md"));
-    let (_, rest) = page.split_once("\n## What must be believed\n").expect("the page has a list");
-    let (list, rest) = rest.split_once("\nTwo more files, ").expect("and two files that theorems tie to it");
-    let (tied, rest) = rest.split_once(" What functions below the").expect("and what stands apart");
-    let (believed, sum) = counted_files(list);
-    assert!(list.contains(&format!(": {sum} in all.")), "the list adds up to {sum}");
-    let (tied_files, sum) = counted_files(tied);
-    assert!(tied.starts_with(&format!("{sum} lines, ")), "the two files have {sum} lines");
-    let mut sum = 0;
-    for file in specs_files() {
-        if believed.contains(file.as_str()) || tied_files.contains(file.as_str()) {
-            continue;
-        }
-        let apart = file.ends_with("/Needs.antt") || file.ends_with("/RankTables.antt");
-        assert!(apart, "{file} is in neither list");
-        sum += lines_of_definitions(&read(&root().join("crates").join(&file)));
+fn the_index_and_the_counts_are_as_the_command_writes_them() {
+    let page = read(PAGE);
+    let written = written(&page).unwrap_or_else(|what| panic!("{PAGE}: {what}"));
+    for (line, right) in page.lines().zip(written.lines()) {
+        assert_eq!(line, right, "{PAGE} is not up to date. Run, from the repository's root: {COMMAND}");
     }
-    assert!(rest.contains(&format!(": {sum} lines on which no sentence")), "{sum} lines stand apart");
+    assert!(page == written, "{PAGE} is not up to date. Run, from the repository's root: {COMMAND}");
+}
+
+/// The command mends an index that lacks a name, has one too many or another order, and numbers that are off.
+#[test]
+fn the_command_mends_the_page() {
+    let page = written(&read(PAGE)).unwrap_or_else(|what| panic!("{PAGE}: {what}"));
+    let edits = [
+        ("| `classes-suc`, `twice-classes` |", "| `twice-classes` |"),
+        ("| `classes-suc`, `twice-classes` |", "| `twice-classes`, `classes-suc` |"),
+        ("| `encoding/proofs/Cases.antt` | `starred-cases` |\n", ""),
+        ("| `starred-cases` |", "| `made-up`, `starred-cases` |"),
+        ("`settings/specs/Grounds.antt` ", "`settings/specs/Grounds.antt` 1"),
+        (" in all.", "0 in all."),
+        (" lines on which no sentence", "7 lines on which no sentence"),
+    ];
+    for (old, new) in edits {
+        let edited = page.replacen(old, new, 1);
+        assert!(edited != page, "the page has no more {old:?}");
+        assert!(written(&edited).as_ref() == Ok(&page), "{new:?} is not mended");
+    }
+}
+
+/// The quotations of the page's tables, each with the document that it is of.
+fn quoted_in_tables() -> Vec<(String, &'static str)> {
+    let page = read(PAGE);
+    let sections = [("Demands", DEMANDS), ("Document 01", DOCUMENT_01), ("Document 02", DOCUMENT_02)];
+    let mut found = Vec::new();
+    for part in page.split("\n## ").skip(1) {
+        let document = sections.iter().find(|(head, _)| part.starts_with(head)).map(|(_, path)| *path);
+        found.extend(
+            document.into_iter().flat_map(|path| first_cells(part).into_iter().map(move |q| (q, path))),
+        );
+    }
+    found
+}
+
+#[test]
+fn the_tables_quote_word_for_word() {
+    let quotations = quoted_in_tables();
+    assert!(quotations.len() > 180, "{} quotations", quotations.len());
+    for (quotation, path) in quotations {
+        assert!(stands(&paragraphs(path), &quotation), "{path} has no such words: {quotation}");
+    }
+}
+
+/// A quotation with one of its words left out does not stand, if it is not the first or the last of a part.
+#[test]
+fn a_word_left_out_is_noticed() {
+    for (quotation, path) in quoted_in_tables() {
+        let (words, document) = (quotation.split(' ').collect::<Vec<&str>>(), paragraphs(path));
+        for place in 1..words.len().saturating_sub(1) {
+            if words[place - 1..=place + 1].contains(&"..") {
+                continue;
+            }
+            let without = [&words[..place], &words[place + 1..]].concat().join(" ");
+            assert!(!stands(&document, &without), "not noticed: {without}");
+        }
+    }
+}
+
+/// Quotations of four words or more, in the page's other cells and passages. They may also be of the pages on
+/// decisions and claims, whose rows and sections have names.
+#[test]
+fn the_page_quotes_word_for_word() {
+    let pages = [DEMANDS, DOCUMENT_01, DOCUMENT_02, "docs/DECISIONS.md"];
+    let mut known: Vec<String> = pages.into_iter().flat_map(paragraphs).collect();
+    let page = read(PAGE);
+    known.extend(page.lines().filter(|line| line.starts_with('#')).map(str::to_string));
+    assert!(page.matches('"').count() % 2 == 0, "a quotation has no end");
+    for quotation in quotations(&page) {
+        assert!(stands(&known, quotation), "no page has such words: {quotation}");
+    }
+}
+
+#[test]
+fn comments_quote_word_for_word() {
+    let known: Vec<String> = [DEMANDS, DOCUMENT_01, DOCUMENT_02].into_iter().flat_map(paragraphs).collect();
+    let crates = ["specs", "proofs", "src"].into_iter().flat_map(crate_texts);
+    let tests = ["tests/src", "tests/tests"].into_iter().flat_map(texts);
+    let (mut count, mut wrong) = (0, Vec::new());
+    for (path, text) in crates.chain(tests) {
+        for comment in comments(&text, if path.ends_with(".antt") { "--" } else { "//" }) {
+            assert!(comment.matches('"').count() % 2 == 0, "{path}: a quotation has no end: {comment}");
+            let quoted = quotations(&comment);
+            count += quoted.len();
+            wrong.extend(quoted.iter().filter(|q| !stands(&known, q)).map(|q| format!("{path}: {q}")));
+        }
+    }
+    assert!(wrong.is_empty(), "no document has such words: {wrong:#?}");
+    assert!(count > 400, "{count} quotations");
 }

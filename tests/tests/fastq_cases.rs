@@ -62,7 +62,7 @@ fn whole_files() {
     check_each(&cases, check);
 }
 
-/// "For a missing line the file's length." An empty line needs its end to be one.
+/// "For a missing line the file's length". An empty line needs its end to be one.
 #[test]
 fn files_that_end_before_a_fourth_line() {
     let cases: [Case; 16] = [
@@ -169,7 +169,7 @@ fn quality_lines_at_fault() {
     check_each(&cases, check);
 }
 
-/// "The earliest record at fault wins, within it the order is 15, 10, 16, 17."
+/// "The earliest record at fault wins, within it the order is 15, 10, 16, 17".
 #[test]
 fn several_faults() {
     let cases: [Case; 16] = [

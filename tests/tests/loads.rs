@@ -66,7 +66,8 @@ fn stored_answers_to_loads() {
     for stored in stored_loads(240) {
         let classes = |counts: Vec<u32>| vec![counts.len() as u64];
         let second = loading(&stored.settings, stored.table.len(), &stored.file);
-        assert_eq!(second.map(classes), stored.outcome, "{}: the second loader", stored.line);
+        let counts = second.clone().unwrap_or_default();
+        stored.check_second(second.map(classes), &counts);
         let mut table = Table::new(&stored.table);
         let right = stored.outcome.as_ref().map_or_else(Refusal::packed, |answer| answer[0]);
         assert_eq!(load(&stored.settings, &mut table, &stored.file), right, "{}", stored.line);

@@ -130,12 +130,6 @@ fn inputs_that_come_in_pieces() {
     }
 }
 
-/// A read that fails counts as the end of the input, and an empty input has no survey line.
-#[test]
-fn an_input_that_cannot_be_read() {
-    assert_eq!(shown_file(&run_on_a_folder()), shown_file(b"(refused 13 0)\n"));
-}
-
 /// The settings of the cases about 16,384 places are the ones that come nearest to it.
 #[test]
 fn the_cases_come_as_near_as_possible_to_the_number_of_places() {

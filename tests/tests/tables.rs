@@ -123,9 +123,13 @@ fn empty_files_are_taken_in() {
     }
 }
 
+/// The stored answers against the grounds and the call.
 #[test]
 fn stored_clears() {
     for stored in stored("clear", [54, 14, 0, 0, 0, 0, 0]) {
+        let classes = table_ground(&stored.settings, false, stored.table.len());
+        let zeros = vec![0; classes.unwrap_or(0)];
+        stored.check_second(classes.map(|classes| vec![classes as u64]), &zeros);
         let mut table = Table::new(&stored.table);
         check_clear(&stored.settings, &mut table);
         assert_eq!(table.slice(), stored.after, "{}", stored.line);

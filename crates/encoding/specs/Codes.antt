@@ -14,8 +14,8 @@ unfoldable pub pairRank : ℕ → ℕ → ℕ → ℕ
 pairRank s l r = l * (2 * s - 3 - l) / 2 + r - 1
 
 -- The digits of a canonical word w of n letters.
--- "let l be the first letter's rank, and r the last letter's rank (reversal) or s − 1 minus it (complement)
---   l = r: digit 0, then the digits of the inner word, then r.
+-- "let l be the first letter's rank, and r the last letter's rank (reversal) or s − 1 minus it (complement)"
+--   "l = r: digit 0, then the digits of the inner word, then r.
 --   l < r: .. The digits are R/s rounded down plus 1, then R mod s, then the inner letters by plain rank.
 --   Scanning stops at the first pair whose digits differ.
 --   One letter left: digit r. None left: no digit."

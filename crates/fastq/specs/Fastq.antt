@@ -31,9 +31,9 @@ firstFailing test at (b ∷ bs) = cond (test b) (firstFailing test (suc at) bs) 
 unfoldable pub isQuality : ℕ → Bool
 isQuality b = leb 33 b && leb b 126
 
--- The first ground that applies to a record, whose header line starts at an offset: "within it the order is 15, 10, 16, 17". 15 "when a first line lacks @
--- (64), a third lacks + (43), or the file ends before a fourth line", the first of these; 10, a stray byte of the sequence line; 16 "when a quality line's length
--- differs"; 17. "P is the offset of the line (for a missing line the file's length, for 10 and 17 that of the byte)": a line that the file lacks, [], would
+-- The first ground that applies to a record, whose header line starts at an offset: "within it the order is 15, 10, 16, 17". 15 "when a first line lacks @,
+-- a third lacks +, or the file ends before a fourth line" (@ is 64, + is 43), the first of these; 10, a stray byte of the sequence line; 16 "when a quality line's
+-- length differs"; 17. "P is the offset of the line (for a missing line the file's length, for 10 and 17 that of the byte)": a line that the file lacks, [], would
 -- start at the file's end, and a missing second line is met where the third is.
 unfoldable pub recordFault : (at : ℕ) (header sequence plus quality : List ℕ) → Option Ground
 recordFault at h s p q =
