@@ -1,2 +1,3 @@
--- What the functions on counts ask of each other; no claim rests on it.
+-- Which call a way names (Calls), which a reader must believe; and what the functions on counts ask of each other, on which no claim rests.
+pub mod Calls
 pub mod Needs

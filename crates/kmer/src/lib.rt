@@ -4,7 +4,7 @@ ghost use mathlib.Core.Path.{_≡_};
 ghost use lib.ListN.{length, replicate};
 ghost use Rattle.tally.specs.Table.{classCount, clearGround};
 ghost use Rattle.files.specs.File.{fileOf};
-ghost use Rattle.table.specs.Calls.{callOf};
+ghost use Rattle.counts.specs.Calls.{callOf};
 ghost use Rattle.returned.specs.FileNumbers.{kindOfNumber};
 ghost use Rattle.kmer.specs.FileCalls.{CallsInto, AddsInto, WithdrawsInto};
 ghost use Rattle.encoding.specs.Calls.{coding, readGround, wordBytes, mirrorGround, mirrorBytes};

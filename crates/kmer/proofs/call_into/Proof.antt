@@ -5,7 +5,8 @@ use lib.ListN.{length}
 use borrow.Author.Needs.{needs}
 use Rattle.fasta.specs.Scan.{ofAnswer}
 use Rattle.tally.specs.Table.{readyGround}
-use Rattle.table.proofs.CallGrounds.{ready-passed, file-of}
+use Rattle.second_pass.proofs.SecondPass.{file-of}
+use Rattle.table.proofs.CallGrounds.{ready-passed}
 use Rattle.kmer.proofs.FileCalls.{call-fits, ready-refuses, ready-fits, into-bad, into-short, into-refused, into-taken}
 use Rattle.kmer.proofs.call_into.Statement.{statement}
 use Rattle.kmer.proofs.call_into.Tie as tie

@@ -1,7 +1,8 @@
 -- `table::call` meets its contract: a refusal by `ready` stands, and else `call_checked` answers.
 use mathlib.Core.Path.{sym, ap, _∙_}
 use Rattle.settings.specs.Settings.{ofChecked}
-use Rattle.table.proofs.CallGrounds.{ready-passed, file-of, not-ready}
+use Rattle.second_pass.proofs.SecondPass.{file-of}
+use Rattle.table.proofs.CallGrounds.{ready-passed, not-ready}
 use borrow.Author.Needs.{needs}
 use Rattle.table.proofs.call.Statement.{statement}
 use Rattle.table.proofs.call.Tie as tie

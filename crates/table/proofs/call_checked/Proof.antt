@@ -6,8 +6,9 @@ use Rattle.fasta.specs.declared.Numbers.{Numbers}
 use Rattle.fasta.specs.Scan.{ofAnswer}
 use Rattle.files.specs.File.{fileOf}
 use Rattle.tally.proofs.Ready.{ready-settings, ready-room}
-use Rattle.table.specs.Needs.{CleanFile}
-use Rattle.table.proofs.CallGrounds.{ready-file, file-of, faulty, clean, called}
+use Rattle.second_pass.specs.Needs.{CleanFile}
+use Rattle.second_pass.proofs.SecondPass.{file-of}
+use Rattle.table.proofs.CallGrounds.{ready-file, faulty, clean, called}
 use borrow.Author.Needs.{needs}
 use Rattle.table.proofs.call_checked.Statement.{statement}
 use Rattle.table.proofs.call_checked.Tie as tie

@@ -1,5 +1,5 @@
--- `table::call_scanned` meets its contract: what `change_counts` does to the first places is what the call does to the table.
-use Rattle.table.proofs.CallGrounds.{takes-letters, classes-of, places-by-table, n-windows-by-table, few-windows, whole-table}
+-- `second_pass::call_scanned` meets its contract: what `change_counts` does to the first places is what the call does to the table.
+use Rattle.second_pass.proofs.SecondPass.{takes-letters, classes-of, places-by-table, n-windows-by-table, few-windows, whole-table}
 use mathlib.Core.Path.{_≡_, sym, ap, _∙_}
 use Prim.Native.Nat.{_≤_}
 use native.Mathlib.Omega.{arith}
@@ -12,11 +12,11 @@ use Rattle.files.specs.File.{fileOf}
 use Rattle.kernels.specs.declared.Coder.{Coder}
 use Rattle.kernels.specs.Needs.{Takes, coderOf}
 use Rattle.tally.specs.Table.{classCount}
-use Rattle.table.specs.Needs.{codesOf}
+use Rattle.second_pass.specs.Needs.{codesOf}
 use Rattle.kernels.proofs.GoodSettings.{coder-is, coder-ready, ranks-ready, palindromes-fit, power-ready}
 use borrow.Author.Needs.{needs}
-use Rattle.table.proofs.call_scanned.Statement.{statement}
-use Rattle.table.proofs.call_scanned.Tie as tie
+use Rattle.second_pass.proofs.call_scanned.Statement.{statement}
+use Rattle.second_pass.proofs.call_scanned.Tie as tie
 
 -- Where the function began, from the place at which its kernel was chosen; and that this kernel is one for the settings' letters.
 abbrev start : tie.After-kernel-for → tie.Start

@@ -1,8 +1,8 @@
--- `table::change_counts` meets its contract: each way's own function does what the way asks.
-use Rattle.table.proofs.CallGrounds.{by-way}
+-- `second_pass::change_counts` meets its contract: each way's own function does what the way asks.
+use Rattle.second_pass.proofs.SecondPass.{by-way}
 use borrow.Author.Needs.{needs}
-use Rattle.table.proofs.change_counts.Statement.{statement}
-use Rattle.table.proofs.change_counts.Tie as tie
+use Rattle.second_pass.proofs.change_counts.Statement.{statement}
+use Rattle.second_pass.proofs.change_counts.Tie as tie
 
 enum-told : tie.Need-enum-told
 enum-told c = search needs

@@ -1,13 +1,13 @@
--- `table::count_unless_full` meets its contract: ground 12 by `too_full`, and else the counts that `change_file` leaves.
+-- `second_pass::count_unless_full` meets its contract: ground 12 by `too_full`, and else the counts that `change_file` leaves.
 use mathlib.Core.Path.{sym, _∙_}
 use Rattle.files.specs.File.{fileOf}
 use denote.Ref.{now}
 use Rattle.counts.proofs.CountLoops.{all-in}
-use Rattle.table.specs.Needs.{codesOf}
-use Rattle.table.proofs.CallGrounds.{counts-full, counts-free, counts-grown}
+use Rattle.second_pass.specs.Needs.{codesOf}
+use Rattle.second_pass.proofs.SecondPass.{counts-full, counts-free, counts-grown}
 use borrow.Author.Needs.{needs}
-use Rattle.table.proofs.count_unless_full.Statement.{statement}
-use Rattle.table.proofs.count_unless_full.Tie as tie
+use Rattle.second_pass.proofs.count_unless_full.Statement.{statement}
+use Rattle.second_pass.proofs.count_unless_full.Tie as tie
 
 too-full-requires : tie.Need-too-full-requires
 too-full-requires c κs = search needs

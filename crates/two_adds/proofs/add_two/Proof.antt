@@ -1,10 +1,10 @@
--- `table::survey_two` meets its contract: the contracts of its calls make a list of adds after a clearing, of which demand 3 is proved.
+-- `two_adds::add_two` meets its contract: the contracts of its calls make a list of adds after a clearing, of which demand 3 is proved.
 use denote.Ref.{now}
 use Rattle.tally.specs.Demand.Calls.{done, then}
 use Rattle.tally.proofs.DemandThree.{demand-three}
 use borrow.Author.Needs.{needs}
-use Rattle.table.proofs.survey_two.Statement.{statement}
-use Rattle.table.proofs.survey_two.Tie as tie
+use Rattle.two_adds.proofs.add_two.Statement.{statement}
+use Rattle.two_adds.proofs.add_two.Tie as tie
 
 clear-requires : tie.Need-clear-requires
 clear-requires c κs = search needs
@@ -33,6 +33,6 @@ returns c =
       demand-three = λ none-applies. demand-three (now (a .letters)) (a .k) (a .mirror) none-applies clearing adds;
     }
 
-pub survey-two-spec : {M : Type 1} → statement M
-survey-two-spec =
+pub add-two-spec : {M : Type 1} → statement M
+add-two-spec =
     tie.close (tie.spec clear-requires add-requires add-requires-2 same-length returns)

@@ -1,11 +1,11 @@
--- `table::take_unless_lacking` meets its contract: ground 18 and the counts by `counting::batches::take_file`.
+-- `second_pass::take_unless_lacking` meets its contract: ground 18 and the counts by `counting::batches::take_file`.
 use denote.Ref.{now}
 use Rattle.files.specs.File.{fileOf}
-use Rattle.table.specs.Needs.{codesOf}
-use Rattle.table.proofs.CallGrounds.{counts-lack, counts-fallen}
+use Rattle.second_pass.specs.Needs.{codesOf}
+use Rattle.second_pass.proofs.SecondPass.{counts-lack, counts-fallen}
 use borrow.Author.Needs.{needs}
-use Rattle.table.proofs.take_unless_lacking.Statement.{statement}
-use Rattle.table.proofs.take_unless_lacking.Tie as tie
+use Rattle.second_pass.proofs.take_unless_lacking.Statement.{statement}
+use Rattle.second_pass.proofs.take_unless_lacking.Tie as tie
 
 start-of-requires : tie.Need-start-of-requires
 start-of-requires c κs = search needs

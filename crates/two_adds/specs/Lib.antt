@@ -1,0 +1,2 @@
+-- What a clearing with two adds after it promises.
+pub mod TwoAdds
