@@ -6,7 +6,7 @@ use mathlib.Core.Path.{_≡_, sym, ap₂, _∙_}
 use mathlib.Core.Bool.{true}
 use mathlib.Core.Option.{Option}
 use mathlib.Core.List.{List, Forall₂}
-use Prim.Native.Nat.{ℕ, _≤_}
+use Prim.Native.Nat.{ℕ}
 use lib.ListN.{length}
 use Rattle.settings.specs.Grounds.{Ground, overwritten}
 use Rattle.settings.specs.Settings.{readsUAsT}
@@ -17,7 +17,7 @@ use Rattle.tally.specs.Copies.{CallCopy}
 use Rattle.tally.proofs.Copies.{same-calls, copied-file, same-last, same-after, same-ready-ground}
 use Rattle.returned.specs.FileNumbers.{fiveNumbers}
 use Rattle.kmer.specs.FileCalls.{intoGround, CallsInto}
-use Rattle.kmer.specs.Demand.{FileCalls}
+use Rattle.kmer.specs.Demand.{Asked, Told, FileCalls}
 use Rattle.kmer.specs.Copies.{AskedAlike}
 
 module _ (letters : List ℕ) (reads : readsUAsT letters ≡ true) (k m : ℕ) where
@@ -30,24 +30,26 @@ module _ (letters : List ℕ) (reads : readsUAsT letters ≡ true) (k m : ℕ) w
 
     -- Of one call, with a lent list of any length.
     pub copy-called-into : {t lent t′ u′ new new′ : List ℕ} {r r′ : ℕ} → CallsInto letters k m t c lent r t′ new → CallsInto letters k m t d lent r′ u′ new′
-        → _≡_ {A = ℕ × List ℕ} (r, new) (r′, new′) × (t′ ≡ u′)
+        → (r ≡ r′) × (new ≡ new′) × (t′ ≡ u′)
     copy-called-into {t} {lent} A B =
         let ground = same-ground t (length lent) in
         let numbers = same-file-numbers (copied-file C) letters reads k in
         let list = ap₂ (λ (g : Option Ground) (n : Numbers). overwritten g (fiveNumbers n) lent) ground numbers in (
-          ap₂ (λ (x : ℕ) (l : List ℕ). (x, l)) (A .returns ∙ rw ground (sym (B .returns))) (A .answer-left ∙ list ∙ sym (B .answer-left)),
+          A .returns ∙ rw ground (sym (B .returns)),
+          A .answer-left ∙ list ∙ sym (B .answer-left),
           A .table-left ∙ rw (ground, same-after letters reads k m C t) (sym (B .table-left)),
         )
 
-  call-alike : (t : List ℕ) (c d : Call × List ℕ) (a b : ℕ × List ℕ) (t′ u′ : List ℕ) → AskedAlike c d
-      → (5 ≤ length (c .1)) × CallsInto letters k m t (c .0) (c .1) (a .0) t′ (a .1)
-      → (5 ≤ length (d .1)) × CallsInto letters k m t (d .0) (d .1) (b .0) u′ (b .1)
+  call-alike : (t : List ℕ) (c d : Asked) (a b : Told) (t′ u′ : List ℕ) → AskedAlike c d
+      → CallsInto letters k m t (c .call) (c .lent) (a .number) t′ (a .list)
+      → CallsInto letters k m t (d .call) (d .lent) (b .number) u′ (b .list)
       → (a ≡ b) × (t′ ≡ u′)
   call-alike t c d a b t′ u′ C A B =
-      let other : CallsInto letters k m t (d .0) (c .1) (b .0) u′ (b .1) = rw (C .1) (B .1) in
-      copy-called-into (C .0) (A .1) other
+      let other : CallsInto letters k m t (d .call) (c .lent) (b .number) u′ (b .list) = rw (C .1) B in
+      let (number, list, table) = copy-called-into (C .0) A other in
+      (ap₂ (λ (x : ℕ) (l : List ℕ). record { number = x; list = l }) number list, table)
 
-  pub copies-from-c : {asked asked′ : List (Call × List ℕ)} → Forall₂ AskedAlike asked asked′
-      → {t t′ u′ : List ℕ} {told told′ : List (ℕ × List ℕ)} → FileCalls letters k m t asked told t′ → FileCalls letters k m t asked′ told′ u′
+  pub copies-from-c : {asked asked′ : List Asked} → Forall₂ AskedAlike asked asked′
+      → {t t′ u′ : List ℕ} {told told′ : List Told} → FileCalls letters k m t asked told t′ → FileCalls letters k m t asked′ told′ u′
       → (told ≡ told′) × (t′ ≡ u′)
   copies-from-c = same-calls _ AskedAlike call-alike

@@ -1,17 +1,18 @@
--- What adding and withdrawing through the C calls rest on: which ground applies at each test, that the P of each refusal is at most 16,777,216, and the
--- answer, table and list from those of `table::call`.
-use mathlib.Core.Path.{_≡_, sym, ap, _∙_}
-use mathlib.Core.Bool.{_||_}
-use mathlib.Core.Option.{none, some}
+-- What adding and withdrawing through the C calls rest on: which ground applies at each test, that the P of each refusal is at most 16,777,216, the
+-- answer, table and list from those of `table::call`, and that the table stays as long as it was.
+use mathlib.Core.Path.{_≡_, refl, sym, ap, _∙_}
+use mathlib.Core.Bool.{true, _||_}
+use mathlib.Core.Option.{Option, none, some, Option·getD}
 use mathlib.Core.List.{List, _++_}
 use Prim.Native.Nat.{ℕ, _^_, _<_, _≤_}
 use native.Mathlib.Omega.{arith}
 use borrow.Author.Tests.{lt-ltb, le-ltb}
 use lib.ListN.{length, drop}
+use lib.Dec.{ltb}
 use Rattle.settings.specs.declared.Refusal.{Refusal}
 use Rattle.settings.specs.declared.Checked.{Checked}
 use Rattle.settings.specs.declared.Checked.the-variants.{Bad}
-use Rattle.settings.specs.Grounds.{Ground, Outcome, given, refused, groundOf, groundAt, tooShort, outcome, _orElse_}
+use Rattle.settings.specs.Grounds.{Ground, Outcome, given, refused, groundOf, groundAt, tooShort, outcome, unlessRefused, _orElse_}
 use Rattle.settings.specs.Settings.{rankIn, settingsOf, ofChecked}
 use Rattle.settings.proofs.Outcomes.{refused-is, passed, first-none, later-none, nowhere-met, room-enough}
 use Rattle.settings.proofs.FirstGround.{PlaceUpTo, Small, test-small, then-small}
@@ -19,7 +20,8 @@ use Rattle.fasta.specs.declared.Numbers.{Numbers}
 use Rattle.files.specs.File.{File, fileFault, fileNumbers}
 use Rattle.files.specs.Scan.{tooLong}
 use Rattle.files.proofs.FaultNumbers.{fault-has}
-use Rattle.tally.specs.Table.{classCount, tooMany, readyGround, callGround, Call, add, withdraw, callFile, tableFull, tableLacks, lastGround, tableGround, Called}
+use Rattle.tally.specs.Table.{classCount, places, tooMany, readyGround, callGround, Call, add, withdraw, callFile, tableFull, tableLacks, lastGround, tableGround, perWindow, tableAfter, Called}
+use Rattle.tally.proofs.Changes.{length-changes}
 use Rattle.table.proofs.CallGrounds.{classes-few, ready-file}
 use Rattle.returned.proofs.Refusals.{refused-fits}
 use Rattle.kmer.proofs.Refusals.{sizes-small}
@@ -71,6 +73,16 @@ module _ (letters : List ℕ) (k m : ℕ) (t : List ℕ) (c : Call) (old : List 
   unfolding intoGround callGround
   same-ground h = rw (le-ltb (length old) 5 h)
 
+  -- Without it they are those before the list's own, and then that one, so that there is always one.
+  pub short-ground : ltb (length old) 5 ≡ true
+      → intoGround letters k m t c (length old) ≡ some (Option·getD (readyGround letters k m (length t) (callFile c .bytes)) (7, 5))
+  unfolding intoGround
+  short-ground e = rw e (go (readyGround letters k m (length t) (callFile c .bytes)))
+    where
+      go : (g : Option Ground) → g orElse some (7, 5) ≡ some (Option·getD g (7, 5))
+      go none = refl
+      go (some f) = refl
+
   -- Where no ground applies there is room for it.
   pub room-for-five : intoGround letters k m t c (length old) ≡ none → 5 ≤ length old
   unfolding intoGround
@@ -81,6 +93,14 @@ module _ (letters : List ℕ) (k m : ℕ) (t : List ℕ) (c : Call) (old : List 
   kept : (f : Ground) → intoGround letters k m t c (length old) ≡ some f → (x : ℕ) → x ≡ returnedWithPlace (refused f)
       → CallsInto letters k m t c old x t old
   kept f e x h = record { returns = rw e h; table-left = rw e; answer-left = rw e }
+
+  -- No call changes the table's length.
+  pub as-long : {r : ℕ} {t′ new : List ℕ} → CallsInto letters k m t c old r t′ new → length t′ ≡ length t
+  as-long A = ap length (A .table-left) ∙ go (intoGround letters k m t c (length old))
+    where
+      go : (g : Option Ground) → length (unlessRefused g (tableAfter letters k m t c) t) ≡ length t
+      go none = length-changes (perWindow c) (places letters k m (callFile c)) t
+      go (some f) = refl
 
   -- Before the file is read.
   module _ (file : File) (of : callFile c ≡ file) where

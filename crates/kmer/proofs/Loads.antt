@@ -10,7 +10,7 @@ use lib.ListN.{length, take}
 use Rattle.settings.specs.Grounds.{Ground, Outcome, given, outcome, _orElse_}
 use Rattle.settings.proofs.Outcomes.{first-none}
 use Rattle.settings.proofs.FirstGround.{Small, then-small}
-use Rattle.tally.specs.Table.{classCount, clearGround, Call}
+use Rattle.tally.specs.Table.{classCount, clearGround}
 use Rattle.tally.specs.Demand.{counts}
 use Rattle.tally.proofs.Clearing.{settings-good}
 use Rattle.listing.specs.Listing.{listing, listingGround, Lists}
@@ -20,7 +20,7 @@ use Rattle.loading.proofs.Theorems.{loads-what-was-listed, lists-what-was-loade
 use Rattle.loading.proofs.RefusalNumbers.{load-place}
 use Rattle.returned.specs.Returned.{returnedWithPlace, returnedUpTo, ReturnsPlaces}
 use Rattle.kmer.specs.Loads.{LoadsInto}
-use Rattle.kmer.specs.Demand.{FileCalls, KeptFromC}
+use Rattle.kmer.specs.Demand.{Asked, Told, FileCalls, KeptFromC}
 use Rattle.kmer.proofs.Refusals.{clear-small}
 use Rattle.kmer.proofs.DemandThree.{kept-from-c}
 
@@ -31,7 +31,7 @@ load-from-c letters k m text {t} R =
     (outcome (loadGround letters k m (length t) text) (classCount letters k m), R .returns, record { answers = refl; leaves = R .leaves })
 
 -- "After a load, every list of adds and withdrawals starts from the loaded counts."
-pub kept-from-loaded-c : (letters : List ℕ) (k m : ℕ) (text : List ℕ) {t₀ t t′ : List ℕ} {r : ℕ} {asked : List (Call × List ℕ)} {told : List (ℕ × List ℕ)}
+pub kept-from-loaded-c : (letters : List ℕ) (k m : ℕ) (text : List ℕ) {t₀ t t′ : List ℕ} {r : ℕ} {asked : List Asked} {told : List Told}
     → loadGround letters k m (length t₀) text ≡ none
     → LoadsInto letters k m text t₀ r t
     → FileCalls letters k m t asked told t′
