@@ -5,7 +5,7 @@
 use kmer_tests::expected::picking;
 use kmer_tests::files::Kind;
 use kmer_tests::program_cases::unescaped;
-use kmer_tests::second_reader::{next_record, scanning};
+use kmer_tests::second_reader::{next_record, scanning, Record};
 use kmer_tests::settings::Settings;
 use kmer_tests::vectors::number;
 
@@ -41,14 +41,33 @@ fn stored_picks() {
     }
 }
 
+/// A record as the program writes it.
+fn shown(found: Option<Record>) -> String {
+    let record = found.map(|r| format!("record {} {} {} {}", r.header.0, r.header.1, r.rest.0, r.rest.1));
+    record.unwrap_or("none".to_string())
+}
+
+/// The record with a number, from 0: each from where the one before it ended, until there is none.
+fn record_number(file: &[u8], wanted: usize) -> Option<Record> {
+    let (mut found, mut offset) = next_record(file, 0);
+    for _ in 0..wanted {
+        found.as_ref()?;
+        (found, offset) = next_record(file, offset);
+    }
+    found
+}
+
 /// What the second implementation answers to a case of crates/file_cases, as the program writes it.
 fn answer(case: &str) -> String {
     let (call, rest) = case.split_once(' ').expect("a call");
-    if call == "read" {
-        let (offset, file) = rest.split_once(' ').expect("an offset and a file");
-        let (found, after) = next_record(&unescaped(file), number(offset));
-        let record = found.map(|r| format!("record {} {} {} {}", r.header.0, r.header.1, r.rest.0, r.rest.1));
-        return format!("{} after {after}", record.unwrap_or("none".to_string()));
+    if call == "read" || call == "nth" {
+        let (place, file) = rest.split_once(' ').expect("an offset or a number, and a file");
+        let file = unescaped(file);
+        if call == "nth" {
+            return shown(record_number(&file, number(place)));
+        }
+        let (found, after) = next_record(&file, number(place));
+        return format!("{} after {after}", shown(found));
     }
     let kind = match call {
         "scan" => Kind::Fasta,
@@ -68,11 +87,11 @@ fn stored_scans_and_reads() {
     let inputs = include_str!("../../crates/file_cases/stdin").lines();
     let outputs = include_str!("../../crates/file_cases/stdout").lines();
     assert_eq!(inputs.clone().count(), outputs.clone().count(), "lines");
-    let mut cases = [0; 3];
+    let calls = ["scan", "fastq", "read", "nth"];
+    let mut cases = [0; 4];
     for (input, output) in inputs.zip(outputs).filter(|(input, _)| !input.starts_with('#')) {
         assert_eq!(answer(input), output, "{input}");
-        cases[["scan", "fastq", "read"].iter().position(|call| input.starts_with(call)).expect("a call")] +=
-            1;
+        cases[calls.iter().position(|call| input.starts_with(call)).expect("a call")] += 1;
     }
-    assert_eq!(cases, [111, 93, 83], "scans, FASTQ scans and reads");
+    assert_eq!(cases, [111, 93, 83, 40], "scans, FASTQ scans, reads and records by number");
 }

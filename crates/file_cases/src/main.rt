@@ -1,7 +1,9 @@
 // Runs test cases from standard input, one a line, and answers each with one line:
 //   scan LETTERS K MIRROR FILE    of a FASTA file: taken, with its records, letters, foreign, edge and windows; or refused, with number and P
 //   fastq LETTERS K MIRROR FILE   the same of a FASTQ file
-//   read OFFSET FILE              record, with the offset and length of its header line and of what follows; or none; then the offset after
+//   read OFFSET FILE              what a reader of the file at the offset gives: record, with the offset and length of its header line and of what
+//                                 follows, or none; then the offset where it is moved
+//   nth NUMBER FILE               the same of the record with the number, from 0, without an offset
 //   # ..                          copied, to say what the next cases are about
 // A line under six bytes is skipped.
 // FILE is the rest of the line: \n is LF, \r is CR, \xHH is any byte, and every other byte stands for itself.
@@ -152,7 +154,7 @@ fn put_scanned(r: Answer) {
     io::write_all(1, b"\n");
 }
 
-fn put_found(f: Found, after: usize) {
+fn put_found(f: Found) {
     match f {
         Found::Record {
             header,
@@ -170,8 +172,11 @@ fn put_found(f: Found, after: usize) {
             io::write_all(1, b"none");
         }
     }
+}
+
+fn put_after(at: usize) {
     io::write_all(1, b" after");
-    put(after);
+    put(at);
     io::write_all(1, b"\n");
 }
 
@@ -201,11 +206,20 @@ fn read_case(s: &[u8], file: &mut [u8]) {
     let b = after_field(s, a);
     let at = decimal(&s[..a]);
     let n = unescape(&s[b..], file);
-    let f = records::record_at(&file[..n], at);
-    put_found(f, records::offset_after(&file[..n], at));
+    put_found(records::read_from(&file[..n], at));
+    put_after(records::moved_from(&file[..n], at));
 }
 
-// One line: one under six bytes is skipped, one that begins with s, f or r is run as a case, every other is copied.
+fn nth_case(s: &[u8], file: &mut [u8]) {
+    let a = find(s, 0, b' ');
+    let b = after_field(s, a);
+    let number = decimal(&s[..a]);
+    let n = unescape(&s[b..], file);
+    put_found(records::record_number(&file[..n], number));
+    io::write_all(1, b"\n");
+}
+
+// One line: one under six bytes is skipped, one that begins with s, f, r or n is run as a case, every other is copied.
 fn case(s: &[u8], file: &mut [u8]) {
     if s.len() < 6 {
         return;
@@ -214,6 +228,7 @@ fn case(s: &[u8], file: &mut [u8]) {
         b's' => scan_case(Kind::Fasta, &s[5..], file),
         b'f' => scan_case(Kind::Fastq, &s[6..], file),
         b'r' => read_case(&s[5..], file),
+        b'n' => nth_case(&s[4..], file),
         _ => {
             io::write_all(1, s);
             io::write_all(1, b"\n");

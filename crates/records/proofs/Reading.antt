@@ -1,18 +1,21 @@
--- Reading a file from any offset until none is given gives the file's records from there, each once and in file order: there is such a
--- reading (`reads-all`), and it is the only one (`reads-only`). Each record's end is past its header, and no header stands between.
-use mathlib.Core.Path.{_≡_, refl, sym, ap, _∙_}
+-- Reading with a reader until none is given gives the file's records from the reader's offset on, each once and in file order: there is such a
+-- reading (`reads-all`), and it is the only one (`reads-only`); so a reader that `new` made reads all records of the file and nothing else
+-- (`reads-whole`, `reads-whole-only`). Each record's end is past its header, and no header stands between. Then what the search for the record
+-- with a number does, step by step.
+use mathlib.Core.Path.{_≡_, refl, sym, ap, subst, _∙_}
 use Prim.Native.Nat.{ℕ, zero, suc, _+_, _-_, _<_, _≤_}
 use native.Mathlib.Numerals.{add-one}
 use native.Mathlib.Decide.{decLt, ℕ-discrete}
 use native.Mathlib.Omega.{arith}
 use mathlib.Core.Bool.{Bool, true, false, cond, _||_, and-false, and-eq-true-iff}
+use mathlib.Core.Option.{Option, none, some}
 use mathlib.Core.List.{List, [], _∷_, map}
-use lib.ListN.{length, getD}
+use lib.ListN.{length, getD, getElem?}
 use lib.Dec.{eqb}
+use denote.Ref.{RefT, now}
 use borrow.Author.Tests.{ne-eqb, eqb-true, lt-ltb, le-ltb}
-use Rattle.records.specs.declared.Found.{Found}
-use Rattle.records.specs.declared.Found.the-variants.{Record, Nothing}
-use Rattle.records.specs.Records.{isLf, isHeader, firstFrom, headerAt, lineEnd, headerLength, recordTo, recordOf, recordFrom, headersFrom, recordsFrom, allRecords, Reads, ended, given}
+use Rattle.records.specs.declared.Reader.{Reader}
+use Rattle.records.specs.Records.{Parts, endOf, isLf, isHeader, firstFrom, headerAt, lineEnd, headerLength, recordTo, recordOf, recordFrom, offsetAfter, headersFrom, recordsFrom, allRecords, recordNumber, Starts, Reads, ended, given}
 
 -- ---- the first of some places
 
@@ -71,10 +74,10 @@ no-places file p n e = rw e
 -- The headers from p on are those from h on, where none stands between.
 skip-to : (file : List ℕ) (p h : ℕ) → p ≤ h → h ≤ p + (length file - p) → ((j : ℕ) → p ≤ j → j < h → isHeader file j ≡ false)
     → headersFrom file p (length file - p) ≡ headersFrom file h (length file - h)
-skip-to file p h low high none =
+skip-to file p h low high missed =
     let e : length file - p ≡ h - p + (length file - h) = omega arith in
     let g : p + (h - p) ≡ h = omega arith in
-    rw e (skip file (h - p) p (length file - h) (λ j a b. none j a (omega arith)) ∙ ap (λ (x : ℕ). headersFrom file x (length file - h)) g)
+    rw e (skip file (h - p) p (length file - h) (λ j a b. missed j a (omega arith)) ∙ ap (λ (x : ℕ). headersFrom file x (length file - h)) g)
 
 -- So they are those from the first of them on.
 from-first : (file : List ℕ) (p h : ℕ) → First (isHeader file) p (length file - p) h
@@ -92,16 +95,11 @@ inside : (file : List ℕ) (j : ℕ) → 0 < j → isLf file (j - 1) ≡ false �
 unfolding isHeader
 inside file j h e = rw (ne-eqb j 0 (λ z. omega arith), e) (and-false (eqb (getD file j 0) 62))
 
--- What the record f of the header at h says of what comes after it.
-record After (file : List ℕ) (h : ℕ) (f : Found) : Type 0 where
-  header : ℕ
-  header-len : ℕ
-  body : ℕ
-  body-len : ℕ
-  found : f ≡ Record header header-len body body-len
-  later : h < body + body-len
-  within : body + body-len ≤ length file
-  same : headersFrom file (h + 1) (length file - (h + 1)) ≡ headersFrom file (body + body-len) (length file - (body + body-len))
+-- What the record p of the header at h says of what comes after it.
+record After (file : List ℕ) (h : ℕ) (p : Parts) : Type 0 where
+  later : h < endOf p
+  within : endOf p ≤ length file
+  same : headersFrom file (h + 1) (length file - (h + 1)) ≡ headersFrom file (endOf p) (length file - endOf p)
 
 module _ (file : List ℕ) (h : ℕ) (low : h < length file) (is : isHeader file h ≡ true) where
   abbrev lf : ℕ
@@ -120,36 +118,36 @@ module _ (file : List ℕ) (h : ℕ) (low : h < length file) (is : isHeader file
   no-header : (j : ℕ) → h + 1 ≤ j → j < lf + 1 → isHeader file j ≡ false
   no-header j a b = inside file j (omega arith) (no-lf (j - 1) (omega arith) (omega arith))
 
-  with-line : lf < length file → After file h (recordOf file h)
+  whole : lf < length file → recordOf file h ≡ ((h, headerLength file h lf), (lf + 1, headerAt file (lf + 1) - (lf + 1)))
   unfolding recordTo
+  whole g = rw (lt-ltb lf (length file) g)
+
+  with-line : lf < length file → After file h (recordOf file h)
   with-line g =
       let hd = first (isHeader file) (lf + 1) (length file - (lf + 1)) in
       let end : lf + 1 + (headerAt file (lf + 1) - (lf + 1)) ≡ headerAt file (lf + 1) = omega (arith, hd .low) in
       let passed = skip-to file (h + 1) (lf + 1) (omega (arith, lf-first .low)) (omega arith) no-header in
-      record {
-        header = h;
-        header-len = headerLength file h lf;
-        body = lf + 1;
-        body-len = headerAt file (lf + 1) - (lf + 1);
-        found = rw (lt-ltb lf (length file) g);
+      rw
+      (whole g)
+      (record {
         later = omega (arith, lf-first .low);
         within = omega (arith, hd .high);
         same = rw end (passed ∙ from-first file (lf + 1) (headerAt file (lf + 1)) hd);
-      }
+      })
+
+  cut : length file ≤ lf → recordOf file h ≡ ((h, length file - h), (length file, 0))
+  unfolding recordTo
+  cut g = rw (le-ltb lf (length file) g)
 
   cut-off : length file ≤ lf → After file h (recordOf file h)
-  unfolding recordTo
   cut-off g =
-      record {
-        header = h;
-        header-len = length file - h;
-        body = length file;
-        body-len = 0;
-        found = rw (le-ltb lf (length file) g);
+      rw
+      (cut g)
+      (record {
         later = omega arith;
         within = omega arith;
         same = skip-to file (h + 1) (length file + 0) (omega arith) (omega arith) (λ j a b. no-header j a (omega arith));
-      }
+      })
 
   after : After file h (recordOf file h)
   after =
@@ -162,9 +160,9 @@ module _ (file : List ℕ) (h : ℕ) (low : h < length file) (is : isHeader file
 
 -- Either none, and there are no records from there; or the first of the records from there, after which the others are left.
 data Next (file : List ℕ) (at : ℕ) : Type 0 where
-  none-left : recordFrom file at ≡ Nothing → recordsFrom file at ≡ [] → Next file at
-  one-more : (h hl b bl : ℕ) → recordFrom file at ≡ Record h hl b bl → recordsFrom file at ≡ Record h hl b bl ∷ recordsFrom file (b + bl)
-      → at < b + bl → b + bl ≤ length file → Next file at
+  none-left : recordFrom file at ≡ none → recordsFrom file at ≡ [] → Next file at
+  one-more : (p : Parts) → recordFrom file at ≡ some p → recordsFrom file at ≡ p ∷ recordsFrom file (endOf p) → at < endOf p
+      → endOf p ≤ length file → Next file at
 
 no-more : (file : List ℕ) (at : ℕ) → length file ≤ headerAt file at → Next file at
 unfolding recordFrom
@@ -185,8 +183,8 @@ one-found : (file : List ℕ) (at h : ℕ) → h ≡ headerAt file at → First 
     → isHeader file h ≡ true → After file h (recordOf file h) → Next file at
 unfolding recordFrom
 one-found file at h f hd g is a =
-    one-more (a .header) (a .header-len) (a .body) (a .body-len) (rw (← f, lt-ltb h (length file) g) (a .found))
-    (rw (headers-split file at h (a .body + a .body-len) hd g is (a .same), a .found))
+    one-more (recordOf file h) (rw (← f, lt-ltb h (length file) g))
+    (ap (map (recordOf file)) (headers-split file at h (endOf (recordOf file h)) hd g is (a .same)))
     (omega (arith, a .later, hd .low))
     (a .within)
 
@@ -200,46 +198,101 @@ next file at =
       | no g ↦ no-more file at (omega arith)
     ]
 
+not-both : {p : Parts} {o : Option Parts} → o ≡ none → o ≡ some p → ⊥
+not-both e f = let z : _≡_ {A = ℕ} 0 1 = cc in omega arith
+
 -- A record ends within the file.
-pub ends-within : (file : List ℕ) (at h hl b bl : ℕ) → recordFrom file at ≡ Record h hl b bl → b + bl ≤ length file
-ends-within file at h hl b bl e = go (next file at)
+pub ends-within : (file : List ℕ) (at : ℕ) (p : Parts) → recordFrom file at ≡ some p → endOf p ≤ length file
+ends-within file at p e = go (next file at)
   where
-    go : Next file at → b + bl ≤ length file
-    go (none-left f g) = let z : _≡_ {A = ℕ} 0 1 = cc in absurd (omega arith)
-    go (one-more h′ hl′ b′ bl′ f g k l) = let p : b′ ≡ b = cc in let q : bl′ ≡ bl = cc in omega arith
+    go : Next file at → endOf p ≤ length file
+    go (none-left f g) = absurd (not-both f e)
+    go (one-more q f g k l) = let s : q ≡ p = cc in rw (← s) l
 
 -- ---- all records
 
-by-next : (file : List ℕ) (at : ℕ) → Next file at → ((end : ℕ) → at < end → end ≤ length file → Reads file end (recordsFrom file end))
-    → Reads file at (recordsFrom file at)
-by-next file at (none-left e f) ih = rw f (ended e)
-by-next file at (one-more h hl b bl e f k l) ih = rw f (given e (ih (b + bl) k l))
+module _ (file : RefT (List ℕ)) where
+  abbrev bytes : List ℕ
+  bytes = now file
 
-reads-some : (file : List ℕ) (n at : ℕ) → length file < at + n → Reads file at (recordsFrom file at)
-reads-some file zero at h = by-next file at (next file at) (λ end k l. absurd (omega arith))
-reads-some file (suc n) at h = by-next file at (next file at) (λ end k l. reads-some file n end (omega arith))
+  abbrev reader : ℕ → Reader
+  reader at = record { file = file; at = at }
+
+  by-next : (at : ℕ) → Next bytes at → ((end : ℕ) → at < end → end ≤ length bytes → Reads (reader end) (recordsFrom bytes end))
+      → Reads (reader at) (recordsFrom bytes at)
+  by-next at (none-left e f) ih = rw f (ended (sym e))
+  by-next at (one-more p e f k l) ih = rw f (given (sym e) (refl, ap (offsetAfter at) (sym e)) (ih (endOf p) k l))
+
+  reads-some : (n at : ℕ) → length bytes < at + n → Reads (reader at) (recordsFrom bytes at)
+  reads-some zero at h = by-next at (next bytes at) (λ end k l. absurd (omega arith))
+  reads-some (suc n) at h = by-next at (next bytes at) (λ end k l. reads-some n end (omega arith))
 
 -- "It gives each record, in file order, .. after the last, none", from any offset.
-pub reads-all : (file : List ℕ) (at : ℕ) → Reads file at (recordsFrom file at)
-reads-all file at = reads-some file (suc (length file)) at (omega arith)
-
--- From offset 0 these are all records of the file.
-pub reads-whole : (file : List ℕ) → Reads file 0 (allRecords file)
-reads-whole file = reads-all file 0
+pub reads-all : (r : Reader) → Reads r (recordsFrom (now (r .file)) (r .at))
+reads-all r = reads-some (r .file) (suc (length (now (r .file)))) (r .at) (omega arith)
 
 -- Nothing else can be read.
-pub reads-only : (file : List ℕ) {at : ℕ} {l : List Found} → Reads file at l → l ≡ recordsFrom file at
-reads-only file {at} (ended e) = go (next file at)
+pub reads-only : {r : Reader} {l : List Parts} → Reads r l → l ≡ recordsFrom (now (r .file)) (r .at)
+reads-only {r} (ended e) = go (next (now (r .file)) (r .at))
   where
-    go : Next file at → [] ≡ recordsFrom file at
+    go : Next (now (r .file)) (r .at) → [] ≡ recordsFrom (now (r .file)) (r .at)
     go (none-left f g) = sym g
-    go (one-more h hl b bl f g k m) = let z : _≡_ {A = ℕ} 0 1 = cc in absurd (omega arith)
-reads-only file {at} (given {h = h} {hl = hl} {b = b} {bl = bl} {rest = rest} e r) = go (next file at) (reads-only file r)
+    go (one-more p f g k m) = absurd (not-both (sym e) f)
+reads-only {r} (given {moved = s} {p = p} {rest = rest} e m reads) = go (next (now (r .file)) (r .at)) (reads-only reads)
   where
-    go : Next file at → rest ≡ recordsFrom file (b + bl) → Record h hl b bl ∷ rest ≡ recordsFrom file at
-    go (none-left f g) ih = let z : _≡_ {A = ℕ} 0 1 = cc in absurd (omega arith)
-    go (one-more h′ hl′ b′ bl′ f g k m) ih =
-        let s : Record h hl b bl ≡ Record h′ hl′ b′ bl′ = sym e ∙ f in
-        let p : b ≡ b′ = cc in
-        let q : bl ≡ bl′ = cc in
-        cc
+    go : Next (now (r .file)) (r .at) → rest ≡ recordsFrom (now (s .file)) (s .at) → p ∷ rest ≡ recordsFrom (now (r .file)) (r .at)
+    go (none-left f g) ih = absurd (not-both f (sym e))
+    go (one-more q f g k l) ih =
+        let same : q ≡ p = cc in
+        let at : s .at ≡ endOf p = m .1 ∙ ap (offsetAfter (r .at)) (sym e) in
+        let tail : rest ≡ recordsFrom (now (r .file)) (endOf p) = ih ∙ rw (m .0, at) in
+        let whole : recordsFrom (now (r .file)) (r .at) ≡ p ∷ rest = g ∙ rw (same, tail) in
+        sym whole
+
+-- A reader that `new` made reads all records of the file, and nothing else.
+from-start : {file : RefT (List ℕ)} {r : Reader} → Starts file r → recordsFrom (now (r .file)) (r .at) ≡ allRecords (now file)
+from-start s = rw (s .0, s .1)
+
+pub reads-whole : {file : RefT (List ℕ)} {r : Reader} → Starts file r → Reads r (allRecords (now file))
+reads-whole {file} {r} s = subst (Reads r) (from-start s) (reads-all r)
+
+pub reads-whole-only : {file : RefT (List ℕ)} {r : Reader} {l : List Parts} → Starts file r → Reads r l → l ≡ allRecords (now file)
+reads-whole-only s reads = reads-only reads ∙ from-start s
+
+-- ---- the record with a number
+
+-- A search for it starts with all records of the file and the whole number.
+pub number-start : (file : List ℕ) (n at i : ℕ) → at ≡ 0 → i ≡ 0 → recordNumber file n ≡ getElem? (recordsFrom file at) (n - i)
+number-start file n at i a z = let whole : n - i ≡ n = omega arith in rw (a, whole)
+
+-- Of the records from an offset, the first is that of a reader there; where the reader is moved, the others are those from there on, and where it
+-- is not, there are none.
+module _ (file : List ℕ) (at : ℕ) where
+  pub number-here : (n : ℕ) → n ≡ 0 → recordFrom file at ≡ getElem? (recordsFrom file at) n
+  number-here n z = go (next file at)
+    where
+      go : Next file at → recordFrom file at ≡ getElem? (recordsFrom file at) n
+      go (none-left e f) = rw (e, f)
+      go (one-more p e f k l) = rw (e, f, z)
+
+  module _ (moved : ℕ) (m : moved ≡ offsetAfter at (recordFrom file at)) where
+    pub moved-on : (moved ≡ at → ⊥) → (at < moved) × (moved ≤ length file)
+    moved-on other = go (next file at)
+      where
+        go : Next file at → (at < moved) × (moved ≤ length file)
+        go (none-left e f) = absurd (other (m ∙ ap (offsetAfter at) e))
+        go (one-more p e f k l) = let end : moved ≡ endOf p = m ∙ ap (offsetAfter at) e in rw end (k, l)
+
+    pub number-later : (moved ≡ at → ⊥) → (n less : ℕ) → n ≡ suc less → getElem? (recordsFrom file at) n ≡ getElem? (recordsFrom file moved) less
+    number-later other n less s = go (next file at)
+      where
+        go : Next file at → getElem? (recordsFrom file at) n ≡ getElem? (recordsFrom file moved) less
+        go (none-left e f) = absurd (other (m ∙ ap (offsetAfter at) e))
+        go (one-more p e f k l) = let end : moved ≡ endOf p = m ∙ ap (offsetAfter at) e in rw (end, f, s)
+
+    pub no-number : moved ≡ at → (n : ℕ) → none ≡ getElem? (recordsFrom file at) n
+    no-number kept n = go (next file at)
+      where
+        go : Next file at → none ≡ getElem? (recordsFrom file at) n
+        go (none-left e f) = rw f
+        go (one-more p e f k l) = let end : moved ≡ endOf p = m ∙ ap (offsetAfter at) e in absurd (omega arith)

@@ -4,12 +4,12 @@ use Prim.Native.Nat.{ℕ, zero, suc, _+_, _-_, _<_, _≤_}
 use native.Mathlib.Numerals.{add-one}
 use native.Mathlib.Omega.{arith}
 use mathlib.Core.Bool.{Bool, true, false}
+use mathlib.Core.Option.{none, some}
 use mathlib.Core.List.{List}
 use lib.ListN.{length, getD}
 use lib.Dec.{ltb}
 use borrow.Author.Tests.{eq-eqb, ne-eqb, lt-ltb, le-ltb, ltb-true, ltb-false}
 use Rattle.lines.specs.Needs.{LineEnd}
-use Rattle.records.specs.declared.Found.the-variants.{Record, Nothing}
 use Rattle.records.specs.Records.{isLf, isHeader, firstFrom, headerAt, lineEnd, recordTo, recordFrom}
 
 -- A search of the places below an end, from i on: the first is at i, or it is that from i + 1 on, or no place is left.
@@ -35,14 +35,14 @@ module _ (test : ℕ → Bool) (end i : ℕ) where
 -- The whole search: e is the first place that passes, or the end.
 first-is : (test : ℕ → Bool) (end e : ℕ) → e ≤ end → (e < end → test e ≡ true) → (d i : ℕ) → i + d ≡ e
     → ((j : ℕ) → i ≤ j → j < e → test j ≡ false) → firstFrom test i (end - i) ≡ e
-first-is test end e h there zero i z none = let same : i ≡ e = omega arith in rw same (at-last (ltb e end) refl)
+first-is test end e h there zero i z missed = let same : i ≡ e = omega arith in rw same (at-last (ltb e end) refl)
   where
     at-last : (t : Bool) → ltb e end ≡ t → firstFrom test e (end - e) ≡ e
     at-last true g = let below = ltb-true e end g in first-here test end e below (there below)
     at-last false g = first-none test end e (ltb-false e end g)
-first-is test end e h there (suc d) i z none =
-    first-next test end i (omega arith) (none i (omega arith) (omega arith))
-    ∙ first-is test end e h there d (i + 1) (omega arith) (λ j x y. none j (omega arith) y)
+first-is test end e h there (suc d) i z missed =
+    first-next test end i (omega arith) (missed i (omega arith) (omega arith))
+    ∙ first-is test end e h there d (i + 1) (omega arith) (λ j x y. missed j (omega arith) y)
 
 -- The end of a header's line, as `lines::line_end` finds it.
 pub line-end-is : {file : List ℕ} {h e : ℕ} → h < length file → LineEnd file (h + 1) e → e ≡ lineEnd file h
@@ -76,24 +76,24 @@ module _ (file : List ℕ) (i : ℕ) where
 
 module _ (file : List ℕ) (h e : ℕ) where
   pub with-cr : e < length file → (end : ℕ) → end ≡ headerAt file (e + 1) → getD file (e - 1) 0 ≡ 13
-      → Record h (e - 1 - h) (e + 1) (end - (e + 1)) ≡ recordTo file h e
+      → some ((h, e - 1 - h), (e + 1, end - (e + 1))) ≡ some (recordTo file h e)
   unfolding recordTo
   with-cr g end f c = rw (lt-ltb e (length file) g, eq-eqb (getD file (e - 1) 0) 13 c, f)
 
   pub with-lf : e < length file → (end : ℕ) → end ≡ headerAt file (e + 1) → (getD file (e - 1) 0 ≡ 13 → ⊥)
-      → Record h (e - h) (e + 1) (end - (e + 1)) ≡ recordTo file h e
+      → some ((h, e - h), (e + 1, end - (e + 1))) ≡ some (recordTo file h e)
   unfolding recordTo
   with-lf g end f c = rw (lt-ltb e (length file) g, ne-eqb (getD file (e - 1) 0) 13 c, f)
 
-  pub cut-off : e ≡ length file → Record h (e - h) e 0 ≡ recordTo file h e
+  pub cut-off : e ≡ length file → some ((h, e - h), (e, 0)) ≡ some (recordTo file h e)
   unfolding recordTo
   cut-off g = rw (le-ltb e (length file) (omega arith), g)
 
 module _ (file : List ℕ) (at h : ℕ) (f : h ≡ headerAt file at) where
-  pub some-record : h < length file → (e : ℕ) → e ≡ lineEnd file h → recordTo file h e ≡ recordFrom file at
+  pub some-record : h < length file → (e : ℕ) → e ≡ lineEnd file h → some (recordTo file h e) ≡ recordFrom file at
   unfolding recordFrom
   some-record g e k = rw (← f, lt-ltb h (length file) g, k)
 
-  pub no-record : length file ≤ h → Nothing ≡ recordFrom file at
+  pub no-record : length file ≤ h → none ≡ recordFrom file at
   unfolding recordFrom
   no-record g = rw (← f, le-ltb h (length file) g)

@@ -1,12 +1,33 @@
--- Document 01, "A record reader keeps the lent file with the offset reached": the record from an offset, and all records of a file.
+-- Document 01, "A record reader keeps the lent file with the offset reached": the record from an offset, all records of a file, what a reader
+-- promises, and reading with one until none is given.
 use mathlib.Core.Path.{_≡_}
 use Prim.Native.Nat.{ℕ, zero, suc, _+_, _-_}
 use mathlib.Core.Bool.{Bool, cond, _&&_, _||_}
+use mathlib.Core.Option.{Option, none, some}
 use mathlib.Core.List.{List, [], _∷_, map}
-use lib.ListN.{length, getD}
+use lib.ListN.{length, getD, getElem?}
 use lib.Dec.{eqb, ltb}
+use denote.Ref.{RefT, now}
 use Rattle.records.specs.declared.Found.{Found}
 use Rattle.records.specs.declared.Found.the-variants.{Record, Nothing}
+use Rattle.records.specs.declared.Reader.{Reader}
+
+-- ---- a record
+
+-- A record, "as two offsets with lengths": those of its header line, and those of what follows it.
+abbrev pub Parts : Type 0
+Parts = (ℕ × ℕ) × (ℕ × ℕ)
+
+-- The record's end.
+abbrev pub endOf : Parts → ℕ
+endOf p = p .1 .0 + p .1 .1
+
+-- The code's answer in these terms: a record, or none.
+abbrev pub ofFound : Found → Option Parts
+ofFound (Record h hl b bl) = some ((h, hl), (b, bl))
+ofFound Nothing = none
+
+-- ---- the record from an offset
 
 -- Whether the byte at p is LF.
 abbrev pub isLf : List ℕ → ℕ → Bool
@@ -37,23 +58,23 @@ headerLength file h e = cond (eqb (getD file (e - 1) 0) 13) (e - 1 - h) (e - h)
 -- The record whose header starts at h and whose header line's LF is at e, the file's length where it is cut off: "the header line without its
 -- end, and all bytes from the next line to the next header or the file's end"; "A header that the file's end cuts off has a second part of
 -- length 0 at the file's length."
-unfoldable pub recordTo : List ℕ → ℕ → ℕ → Found
+unfoldable pub recordTo : List ℕ → ℕ → ℕ → Parts
 recordTo file h e =
     cond (ltb e (length file))
-    (Record h (headerLength file h e) (e + 1) (headerAt file (e + 1) - (e + 1)))
-    (Record h (length file - h) (length file) 0)
+    ((h, headerLength file h e), (e + 1, headerAt file (e + 1) - (e + 1)))
+    ((h, length file - h), (length file, 0))
 
-abbrev pub recordOf : List ℕ → ℕ → Found
+abbrev pub recordOf : List ℕ → ℕ → Parts
 recordOf file h = recordTo file h (lineEnd file h)
 
 -- What the reader gives from an offset: the record of the next header; "past the file's end there is none".
-unfoldable pub recordFrom : List ℕ → ℕ → Found
-recordFrom file at = cond (ltb (headerAt file at) (length file)) (recordOf file (headerAt file at)) Nothing
+unfoldable pub recordFrom : List ℕ → ℕ → Option Parts
+recordFrom file at = cond (ltb (headerAt file at) (length file)) (some (recordOf file (headerAt file at))) none
 
 -- "A record moves the offset to the record's end; none keeps it."
-abbrev pub offsetAfter : ℕ → Found → ℕ
-offsetAfter at (Record h hl b bl) = b + bl
-offsetAfter at Nothing = at
+abbrev pub offsetAfter : ℕ → Option Parts → ℕ
+offsetAfter at (some p) = endOf p
+offsetAfter at none = at
 
 -- ---- all records
 
@@ -63,14 +84,31 @@ headersFrom file p zero = []
 headersFrom file p (suc n) = cond (isHeader file p) (p ∷ headersFrom file (suc p) n) (headersFrom file (suc p) n)
 
 -- The records of a file whose headers stand at an offset or after it, one a header, in file order.
-abbrev pub recordsFrom : List ℕ → ℕ → List Found
+abbrev pub recordsFrom : List ℕ → ℕ → List Parts
 recordsFrom file at = map (recordOf file) (headersFrom file at (length file - at))
 
-abbrev pub allRecords : List ℕ → List Found
+abbrev pub allRecords : List ℕ → List Parts
 allRecords file = recordsFrom file 0
 
--- Reading a file from an offset until none is given: what is given, in order. Each call starts at the offset where the one before left it.
-pub data Reads (file : List ℕ) : ℕ → List Found → Type 0 where
-  ended : {at : ℕ} → recordFrom file at ≡ Nothing → Reads file at []
-  given : {at h hl b bl : ℕ} {rest : List Found} → recordFrom file at ≡ Record h hl b bl → Reads file (offsetAfter at (Record h hl b bl)) rest
-      → Reads file at (Record h hl b bl ∷ rest)
+-- The record with the number n, from 0; none where the file has no more.
+abbrev pub recordNumber : List ℕ → ℕ → Option Parts
+recordNumber file n = getElem? (allRecords file) n
+
+-- ---- a reader
+
+-- What `Reader::new` promises: it "keeps the lent file" and "starts at offset 0".
+abbrev pub Starts : RefT (List ℕ) → Reader → Type 0
+Starts file r = (r .file ≡ file) × (r .at ≡ 0)
+
+-- What `Reader::next` promises: the record from the offset reached, or none.
+abbrev pub Gives : Reader → Option Parts → Type 0
+Gives r answer = answer ≡ recordFrom (now (r .file)) (r .at)
+
+-- What `Reader::advanced` promises: the same file, and the offset moved or kept.
+abbrev pub Moves : Reader → Reader → Type 0
+Moves r moved = (moved .file ≡ r .file) × (moved .at ≡ offsetAfter (r .at) (recordFrom (now (r .file)) (r .at)))
+
+-- Reading with a reader until none is given: what `next` gives, in order, each time of the reader that `advanced` made of the one before.
+pub data Reads : Reader → List Parts → Type 0 where
+  ended : {r : Reader} → Gives r none → Reads r []
+  given : {r moved : Reader} {p : Parts} {rest : List Parts} → Gives r (some p) → Moves r moved → Reads moved rest → Reads r (p ∷ rest)

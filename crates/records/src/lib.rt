@@ -1,8 +1,21 @@
-// The record reader: each record of a file as two offsets with lengths, from any offset. It takes any bytes and refuses nothing.
+// The record reader: each record of a file as two offsets with lengths, from any offset. It takes any bytes and refuses nothing. First the scanner
+// of a slice, then the reader over it, then the functions with plain parameters that use a reader.
 ghost use mathlib.Core.Path.{_≡_};
+ghost use mathlib.Core.Option.{some};
 ghost use Prim.Native.Nat.{_<_, _≤_};
 ghost use lib.ListN.{length};
-ghost use Rattle.records.specs.Records.{isHeader, headerAt, recordTo, recordFrom, offsetAfter};
+ghost use Rattle.records.specs.Records.{
+  ofFound,
+  isHeader,
+  headerAt,
+  recordTo,
+  recordFrom,
+  offsetAfter,
+  recordNumber,
+  Starts,
+  Gives,
+  Moves,
+};
 
 // A record as the offset and length of its header line and of what follows it.
 pub enum Found {
@@ -52,7 +65,7 @@ fn header_at(file: &[u8], at: usize) -> usize
 // The record whose header starts at h and whose header line's LF is at e, the file's length where the file's end cuts it off.
 fn record_to(file: &[u8], h: usize, e: usize) -> Found
     requires { ⌜ (h < e) × (e ≤ length (now file)) ⌝ }
-    ensures { λ r. ⌜ r ≡ recordTo (now (file .entry)) h e ⌝ }
+    ensures { λ r. ⌜ ofFound r ≡ some (recordTo (now (file .entry)) h e) ⌝ }
 {
     if e == file.len() {
         return Found::Record {
@@ -81,8 +94,8 @@ fn record_to(file: &[u8], h: usize, e: usize) -> Found
 }
 
 // The record of the next header at or after an offset, if there is one. Any bytes are taken.
-pub fn record_at(file: &[u8], at: usize) -> Found
-    ensures { λ r. ⌜ r ≡ recordFrom (now (file .entry)) at ⌝ }
+fn record_at(file: &[u8], at: usize) -> Found
+    ensures { λ r. ⌜ ofFound r ≡ recordFrom (now (file .entry)) at ⌝ }
 {
     let h = header_at(file, at);
     if h < file.len() {
@@ -94,7 +107,7 @@ pub fn record_at(file: &[u8], at: usize) -> Found
 }
 
 // The offset after that record: its end, or the same offset where there is none.
-pub fn offset_after(file: &[u8], at: usize) -> usize
+fn offset_after(file: &[u8], at: usize) -> usize
     ensures { λ r. ⌜ r ≡ offsetAfter at (recordFrom (now (file .entry)) at) ⌝ }
 {
     match record_at(file, at) {
@@ -108,17 +121,16 @@ pub fn offset_after(file: &[u8], at: usize) -> usize
     }
 }
 
-// A reader by value: `next` gives the record from the offset reached, `advanced` the reader moved past it. Both leave the work to a function
-// of the slice and the offset, which serves callers that hold no reader.
+// A reader by value: `next` gives the record from the offset reached, `advanced` the reader moved past it. Both leave the work to the scanner.
 impl<'a> Reader<'a> {
     pub fn new(file: &'a [u8]) -> Reader<'a>
-        ensures { λ r. ⌜ (r .file ≡ file .entry) × (r .at ≡ 0) ⌝ }
+        ensures { λ r. ⌜ Starts (file .entry) r ⌝ }
     {
         Reader { file, at: 0 }
     }
 
     pub fn next(self) -> Found
-        ensures { λ f. ⌜ f ≡ recordFrom (now (self .entry .file)) (self .entry .at) ⌝ }
+        ensures { λ f. ⌜ Gives (self .entry) (ofFound f) ⌝ }
     {
         let file = self.file;
         let at = self.at;
@@ -126,13 +138,50 @@ impl<'a> Reader<'a> {
     }
 
     pub fn advanced(self) -> Reader<'a>
-        ensures { λ r.
-            ⌜ (r .file ≡ self .entry .file)
-            × (r .at ≡ offsetAfter (self .entry .at) (recordFrom (now (self .entry .file)) (self .entry .at))) ⌝ }
+        ensures { λ r. ⌜ Moves (self .entry) r ⌝ }
     {
         let file = self.file;
         let mut at = self.at;
         at = offset_after(file, at);
         Reader { file, at }
     }
+}
+
+// Where a reader of the file starts.
+fn start_of(file: &[u8]) -> usize
+    ensures { λ r. ⌜ r ≡ 0 ⌝ }
+{
+    Reader::new(file).at
+}
+
+// What a reader at an offset gives.
+pub fn read_from(file: &[u8], at: usize) -> Found
+    ensures { λ r. ⌜ ofFound r ≡ recordFrom (now (file .entry)) at ⌝ }
+{
+    Reader { file, at }.next()
+}
+
+// Where a reader at an offset is moved.
+pub fn moved_from(file: &[u8], at: usize) -> usize
+    ensures { λ r. ⌜ r ≡ offsetAfter at (recordFrom (now (file .entry)) at) ⌝ }
+{
+    Reader { file, at }.advanced().at
+}
+
+// The record with the number n, from 0, if the file has one: a reader that starts is moved past n records. One that is not moved has none left, so
+// the loop ends with the file's records, however large n is.
+pub fn record_number(file: &[u8], n: usize) -> Found
+    ensures { λ r. ⌜ ofFound r ≡ recordNumber (now (file .entry)) n ⌝ }
+{
+    let mut at = start_of(file);
+    let mut i = 0;
+    while i < n {
+        let moved = moved_from(file, at);
+        if moved == at {
+            return Found::Nothing;
+        }
+        at = moved;
+        i += 1;
+    }
+    read_from(file, at)
 }

@@ -29,26 +29,29 @@ part-unescape-end c = search needs
 unescape-requires : tie.Need-unescape-requires
 unescape-requires c κs = search needs
 
-slice-reshare-prefix-record-at : tie.Need-slice-reshare-prefix-record-at
-slice-reshare-prefix-record-at c = search needs
+slice-reshare-prefix-read-from : tie.Need-slice-reshare-prefix-read-from
+slice-reshare-prefix-read-from c = search needs
 
-slice-aggregate-record-at : tie.Need-slice-aggregate-record-at
-slice-aggregate-record-at c = sym (length-take-le _ _ (search needs))
+slice-aggregate-read-from : tie.Need-slice-aggregate-read-from
+slice-aggregate-read-from c = sym (length-take-le _ _ (search needs))
 
-record-at-requires : tie.Need-record-at-requires
-record-at-requires c κs = search needs
-
-slice-reshare-prefix-offset-after : tie.Need-slice-reshare-prefix-offset-after
-slice-reshare-prefix-offset-after c = search needs
-
-slice-aggregate-offset-after : tie.Need-slice-aggregate-offset-after
-slice-aggregate-offset-after c = sym (length-take-le _ _ (search needs))
-
-offset-after-requires : tie.Need-offset-after-requires
-offset-after-requires c κs = search needs
+read-from-requires : tie.Need-read-from-requires
+read-from-requires c κs = search needs
 
 put-found-requires : tie.Need-put-found-requires
 put-found-requires c κs = search needs
+
+slice-reshare-prefix-moved-from : tie.Need-slice-reshare-prefix-moved-from
+slice-reshare-prefix-moved-from c = search needs
+
+slice-aggregate-moved-from : tie.Need-slice-aggregate-moved-from
+slice-aggregate-moved-from c = sym (length-take-le _ _ (search needs))
+
+moved-from-requires : tie.Need-moved-from-requires
+moved-from-requires c κs = search needs
+
+put-after-requires : tie.Need-put-after-requires
+put-after-requires c κs = search needs
 
 same-length : tie.Need-same-length
 same-length c = search needs
@@ -68,12 +71,13 @@ read-case-spec =
     part-unescape-start
     part-unescape-end
     unescape-requires
-    slice-reshare-prefix-record-at
-    slice-aggregate-record-at
-    record-at-requires
-    slice-reshare-prefix-offset-after
-    slice-aggregate-offset-after
-    offset-after-requires
+    slice-reshare-prefix-read-from
+    slice-aggregate-read-from
+    read-from-requires
     put-found-requires
+    slice-reshare-prefix-moved-from
+    slice-aggregate-moved-from
+    moved-from-requires
+    put-after-requires
     same-length
     returns)

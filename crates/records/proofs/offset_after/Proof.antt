@@ -1,7 +1,7 @@
 -- `records::offset_after` meets its contract: the record that `record_at` answers says where it ends.
 use mathlib.Core.Path.{sym, ap, _∙_}
 use native.Mathlib.Omega.{arith}
-use Rattle.records.specs.Records.{offsetAfter}
+use Rattle.records.specs.Records.{ofFound, offsetAfter}
 use Rattle.records.proofs.Reading.{ends-within}
 use borrow.Author.Needs.{needs}
 use Rattle.records.proofs.offset_after.Statement.{statement}
@@ -17,8 +17,8 @@ add-result : tie.Need-add-result
 add-result c =
     let call = c .before .before .before in
     let a = call .before .before .args in
-    let found = sym (call .record-at .ensures) ∙ c .before .body .given .1 in
-    record { fits = omega (arith, ends-within (a .file .now) (a .at) _ _ _ _ found, call .before .before .good .0 .0) }
+    let found = sym (call .record-at .ensures) ∙ ap ofFound (c .before .body .given .1) in
+    record { fits = omega (arith, ends-within (a .file .now) (a .at) _ found, call .before .before .good .0 .0) }
 
 enum-told : tie.Need-enum-told
 enum-told c = search needs
@@ -26,12 +26,12 @@ enum-told c = search needs
 returns : tie.Need-returns
 returns c =
     let call = c .before .before .before in
-    ap (offsetAfter (call .before .before .args .at)) (sym (c .before .body .given .1) ∙ call .record-at .ensures)
+    ap (offsetAfter (call .before .before .args .at)) (ap ofFound (sym (c .before .body .given .1)) ∙ call .record-at .ensures)
 
 returns-2 : tie.Need-returns-2
 returns-2 c =
     let call = c .before .before in
-    ap (offsetAfter (call .before .before .args .at)) (sym (c .enum-told .given .1) ∙ call .record-at .ensures)
+    ap (offsetAfter (call .before .before .args .at)) (ap ofFound (sym (c .enum-told .given .1)) ∙ call .record-at .ensures)
 
 pub offset-after-spec : {M : Type 1} → statement M
 offset-after-spec =

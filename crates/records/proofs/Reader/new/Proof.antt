@@ -42,7 +42,7 @@ module _ {M : Type 1} (𝓤 : URA M) (H : Heap 𝓤) (A : Atoms 𝓤) (W : Given
       -- [the locals, of which the one numbered i stands at 2 * i; the reader; the tokens]
       params1 ! $ pass1 ! (init ! 2 refl (file-typed (named 0) (r .file) fits)) $ pass0 ! $
       assigns ! (agg ! (and-then ! (load ! (from ! (stop !)) (look ! 2 refl)) (and-then ! (lit ! tt) (no-more !)))) (from ! (stop !))
-      (init ! 0 refl (reader-typed r fits small)) $
+      (init ! 0 refl (reader-typed (named 0) r fits small)) $
       returns ! (look ! 0 refl) $ frees-one ! $ frees-one ! $ free0 ! $
       ends W new.ended (new.clauses 𝓤 H A mem run) ! y (lowered r) r (tt, tt) (emp∗ 𝓤 (emp 𝓤)) (factI 𝓤 _ (emp 𝓤) (refl, refl))))))
 
