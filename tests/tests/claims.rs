@@ -32,8 +32,8 @@ fn the_command_mends_the_page() {
     let edits = [
         ("| `classes-suc`, `twice-classes` |", "| `twice-classes` |"),
         ("| `classes-suc`, `twice-classes` |", "| `twice-classes`, `classes-suc` |"),
-        ("| `encoding/proofs/Cases.antt` | `starred-cases` |\n", ""),
-        ("| `starred-cases` |", "| `made-up`, `starred-cases` |"),
+        ("| `encoding/proofs/Bounds.antt` | `value-lt` |\n", ""),
+        ("| `value-lt` |", "| `made-up`, `value-lt` |"),
         ("`settings/specs/Grounds.antt` ", "`settings/specs/Grounds.antt` 1"),
         (" in all.", "0 in all."),
         (" lines on which no sentence", "7 lines on which no sentence"),
