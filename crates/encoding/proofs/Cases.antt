@@ -1,5 +1,8 @@
--- The starred cases of document 01, all of them, and the cases of document 02, K10 and K2, with more of their kind, as one check of the definitions by computing.
+-- The starred cases of document 01, all of them, and the cases of document 02, K10 and K2, with more of their kind, as one check of the definitions by computing;
+-- the order of the word calls' grounds; the pick.
 use mathlib.Core.Path.{_≡_, refl}
+use mathlib.Core.Bool.{true, false}
+use mathlib.Core.Option.{some}
 use mathlib.Core.List.{List, [], _∷_, map}
 use Prim.Native.Nat.{ℕ, zero, suc}
 use native.Mathlib.Omega.{arith}
@@ -12,7 +15,7 @@ use Rattle.encoding.specs.Words.{Complement, mirrorRank, mirror, plain, 
 use Rattle.encoding.specs.Codes.{pairRank, digits, differingPair, shift, oddShift, codeOfCanonical, code}
 use Rattle.encoding.specs.Exact.{ExactRank, ExactShift, ExactPairs, NothingCutOff}
 use Rattle.encoding.specs.WordsOfCodes.{wordOfPlain, pairOfRank, middleOfCode, wordOf}
-use Rattle.encoding.specs.Calls.{ranksOf, inCapitals, foreignFrom, codeGround, readGround, coding, reading, wordBytes, mirrorBytes}
+use Rattle.encoding.specs.Calls.{ranksOf, inCapitals, foreignFrom, codeGround, readGround, mirrorGround, coding, reading, wordBytes, mirrorBytes, firstPicked}
 use Rattle.encoding.proofs.Exact.{nothing-cut-off}
 
 -- 0, 1, .. and so on, n numbers from i.
@@ -101,6 +104,32 @@ starred-cases = record {
   only-U = refl;
   neither = refl;
 }
+
+-- "Checks go in number order": where two grounds apply to coding, reading or mirroring, the one with the lower number is given; and of two bytes that are no
+-- letters the place of the first.
+pub number-order : record {
+  coded-5-9 : codeOf "ACGT" 2 1 "N" ≡ refused (5, 0);
+  read-7-8 : reading (bytes "ACGT") 2 1 10 1 ≡ refused (7, 2);
+  mirrored-5-7 : mirrorGround (bytes "ACGT") 2 1 (bytes "A") 1 ≡ some (5, 0);
+  mirrored-7-9 : mirrorGround (bytes "ACGT") 2 1 (bytes "AN") 1 ≡ some (7, 2);
+  first-place : codeOf "ACGT" 4 1 "ANAN" ≡ refused (9, 1);
+}
+unfolding isCapital isIn differentCapitals goodLetters capitalOf readsUAsT readAs placeFrom isOdd halfUp classes badSize settingsGround foreignFrom codeGround readGround
+    mirrorGround coding
+number-order = record {
+  coded-5-9 = refl;
+  read-7-8 = refl;
+  mirrored-5-7 = refl;
+  mirrored-7-9 = refl;
+  first-place = refl;
+}
+
+-- "the one with the lower plain rank; the first if they are equal": AC is the lower of AC and AG, and ac has AC's ranks.
+pub picks : (firstPicked (bytes "ACGT") (bytes "AC") (bytes "AG") ≡ true)
+    × (firstPicked (bytes "ACGT") (bytes "AG") (bytes "AC") ≡ false)
+    × (firstPicked (bytes "ACGT") (bytes "AC") (bytes "ac") ≡ true)
+unfolding firstPicked plain ranksOf capitalOf readsUAsT readAs placeFrom isIn
+picks = (refl, refl, refl)
 
 -- The parts of a code, of TACGGCTA above, code 1571: it is its own canonical word, and its third pair is the first that differs, with l = 1 and r = 2. So R is
 -- 1 · 4/2 + 2 − 1, the digits are worth 1955, and the shift is (4^5 − 4^4)/2 = 384. What specs/Exact.antt says of subtractions and halves, it says of these.

@@ -149,7 +149,7 @@ pub fn call_scanned(
     let kernel = kernel_for(st.s, m);
     let powers = kernels::power_table(st.s, k);
     let mirrors = packed::mirror_table();
-    let classes = st.classes as usize;
+    let classes = st.classes as usize; // later places are not lent on
     let c = kernels::coder_of(st, kernel);
     change_counts(
         way,

@@ -60,10 +60,10 @@ mul-fill-batch : tie.Need-mul-fill-batch Inv-loop μ-loop
 mul-fill-batch c = omega (arith, from (c .before), written-length (c .before .before .before .loop .inv .0), start (c .before) .good)
 
 sub-fill-batch-2 : tie.Need-sub-fill-batch-2 Inv-loop μ-loop
-sub-fill-batch-2 c = from (c .before)
+sub-fill-batch-2 c = omega (arith, from (c .before))
 
 part-fill-batch-start-2 : tie.Need-part-fill-batch-start-2 Inv-loop μ-loop
-part-fill-batch-start-2 c = from (c .before)
+part-fill-batch-start-2 c = omega (arith, from (c .before))
 
 part-fill-batch-end-2 : tie.Need-part-fill-batch-end-2 Inv-loop μ-loop
 part-fill-batch-end-2 c = omega arith

@@ -59,7 +59,7 @@ mul-out : tie.Need-mul-out Inv-loop μ-loop
 mul-out c = let turn = c .before .before .before in omega (arith, place turn, turn .before .loop .inv .1, start turn .good)
 
 slice-write-out : tie.Need-slice-write-out Inv-loop μ-loop
-slice-write-out c = place (c .before .before .before)
+slice-write-out c = omega (arith, place (c .before .before .before))
 
 add-j : tie.Need-add-j Inv-loop μ-loop
 add-j c = let turn = c .before .before .before in omega (arith, turn .loop-test .taken, start turn .good)
