@@ -254,7 +254,7 @@ uint64_t kmer_load(const uint8_t *letters, size_t letters_len, size_t k, uint64_
  *   start         any 64-bit number: the first state.
  *   records       how many records: each has a header line, > and its number from 1, and then its letters in lines
  *                 of 60, the last perhaps shorter. Each line ends in LF. With 0 letters there is only the header.
- *   each          how many letters each record has. For each the state, which runs on from record to record,
+ *   letters_each  how many letters each record has. For each the state, which runs on from record to record,
  *                 becomes state * 6364136223846793005 + 1442695040888963407 modulo 2^64; the letter has as its rank
  *                 the state's top 32 bits times s, divided by 2^32 and rounded down.
  *   out, out_len  the buffer for the file and its length in bytes. Its first bytes receive the file; later bytes
@@ -267,7 +267,7 @@ uint64_t kmer_load(const uint8_t *letters, size_t letters_len, size_t k, uint64_
  * refused).
  */
 uint64_t kmer_generate(const uint8_t *letters, size_t letters_len, size_t k, uint64_t mirror, uint64_t start,
-                       size_t records, size_t each, uint8_t *out, size_t out_len);
+                       size_t records, size_t letters_each, uint8_t *out, size_t out_len);
 
 /* How many numbers kmer_add and kmer_withdraw answer with. */
 #define KMER_NUMBERS 5

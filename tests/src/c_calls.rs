@@ -37,5 +37,5 @@ extern "C" {
                      table: *mut u32, table_len: usize, text: *const u8, text_len: usize) -> u64;
 
     pub fn kmer_generate(letters: *const u8, letters_len: usize, k: usize, mirror: u64, start: u64,
-                         records: usize, each: usize, out: *mut u8, out_len: usize) -> u64;
+                         records: usize, letters_each: usize, out: *mut u8, out_len: usize) -> u64;
 }

@@ -130,14 +130,15 @@ pub fn run_with_closed_input() -> Vec<u8> {
     printed_by(started(shell("<&-").stdout(Stdio::piped())), || "closed".to_string())
 }
 
-/// The program ends in time, without a word on standard error, where its standard output is this; none is closed.
+/// The program ends in time with status 0, without a word on standard error, where its standard output is this; none is closed.
 pub fn check_ends_without_output(input: File, output: Option<File>) {
     let mut child = match output {
         Some(output) => start(input.into(), output.into()),
         None => started(shell(">&-").stdin(input)),
     };
     let stderr = child.stderr.take().expect("a pipe");
-    assert!(ended(&mut child).is_some(), "no end within {LONGEST:?}");
+    let status = ended(&mut child).unwrap_or_else(|| panic!("no end within {LONGEST:?}"));
+    assert_eq!(status.code(), Some(0), "{status}");
     let complaints = collected(stderr);
     assert!(complaints.is_empty(), "{}", shown_file(&complaints));
 }

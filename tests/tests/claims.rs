@@ -16,6 +16,17 @@ fn what_the_page_cites_is_there() {
 }
 
 #[test]
+fn every_edit_is_named() {
+    let page = read(PAGE);
+    let edits = crate_texts("must-fail");
+    assert!(edits.len() > 150, "only {} edits", edits.len());
+    for path in edits.keys() {
+        let name = path.replace("/must-fail/", "/").replace(".edit", "");
+        assert!(page.contains(&format!("`{name}`")), "{PAGE} does not name {name}");
+    }
+}
+
+#[test]
 fn the_index_and_the_counts_are_as_the_command_writes_them() {
     let page = read(PAGE);
     let written = written(&page).unwrap_or_else(|what| panic!("{PAGE}: {what}"));

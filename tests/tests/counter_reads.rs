@@ -167,7 +167,7 @@ fn a_read_that_fails_after_some_bytes() {
     }
 }
 
-/// Nobody can be told where standard output takes nothing: the program ends, no more is said.
+/// Nobody can be told where standard output takes nothing: the program ends with status 0, no more is said.
 #[test]
 fn an_output_that_cannot_be_written() {
     let full = || Some(File::options().write(true).open("/dev/full").expect("a device"));

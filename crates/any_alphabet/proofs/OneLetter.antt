@@ -1,4 +1,4 @@
--- The code of a word of one letter, as `general::middle_code` works it out: by cases on the mirror and, under complement, on the half of the ranks.
+-- The code of a word of one letter, as `middle_code` works it out: by cases on the mirror and, under complement, on the half of the ranks.
 use mathlib.Core.Path.{_≡_, sym, ap, _∙_}
 use mathlib.Core.List.{[], _∷_}
 use Prim.Native.Nat.{ℕ, _-_, _/_, _<_, _≤_, min}

@@ -4,7 +4,7 @@ ghost use mathlib.Core.Path.{_≡_};
 ghost use Prim.Native.Nat.{_≤_};
 ghost use lib.ListN.{length};
 ghost use Rattle.program.specs.Program.{unreadLine, Prints};
-ghost use Rattle.counter.specs.Needs.{bytesRead};
+ghost use Rattle.counter.specs.Needs.{bytesRead, textFor};
 
 // How many bytes of standard input were read: to its end, or to the buffer's; or before a read that failed.
 enum Input {
@@ -56,7 +56,7 @@ fn put_unread(out: &mut [u8], n: usize) -> usize
 // The output for what was read.
 fn put_answer(out: &mut [u8], read: Input, input: &[u8]) -> usize
     requires { ⌜ bytesRead read ≤ length (now input) ⌝ }
-    ensures { λ r. ⌜ (r ≤ 2097152) × (length (now (out .exit)) ≡ length (now (out .entry))) ⌝ }
+    ensures { λ r. ⌜ Prints (textFor read (now (input .entry))) (now (out .entry)) r (now (out .exit)) ⌝ }
 {
     match read {
         Input::Whole(n) => program::run(&input[..n], out),

@@ -154,7 +154,7 @@ fn carry(array: &mut [u8], n: usize, k: usize, ended: bool) -> usize
 }
 
 // Room for the codes of a batch.
-fn no_codes() -> [u64; 1024]
+fn code_buffer() -> [u64; 1024]
     ensures { λ r. ⌜ length r ≡ 1024 ⌝ }
 {
     [0u64; 1024]
@@ -186,14 +186,14 @@ fn change_batch(
     ensures { λ r.
         ⌜ Changed way (now (counts .entry)) (take limit (windowCodes (c .s) (c .mirror) (c .k) (now (ranks .entry)))) r (now (counts .exit)) ⌝ }
 {
-    let mut codes = no_codes();
+    let mut codes = code_buffer();
     fill_codes(ranks, c, powers, mirrors, &mut codes);
     let n = smaller(limit, kernels::window_count(ranks.len(), c.k));
     change_codes(counts, &codes[..n], way)
 }
 
 // Room for the letters of a batch.
-fn no_ranks() -> [u8; 1024]
+fn rank_buffer() -> [u8; 1024]
     ensures { λ r. ⌜ length r ≡ 1024 ⌝ }
 {
     [0u8; 1024]
@@ -219,7 +219,7 @@ pub fn change_file(
     ensures { λ r.
         ⌜ Changed way (now (counts .entry)) (take limit (codesOfFile c (now (table .entry)) (now (file .entry)) start)) r (now (counts .exit)) ⌝ }
 {
-    let mut array = no_ranks();
+    let mut array = rank_buffer();
     let mut at: usize = 0;
     let mut mode = start;
     let mut n: usize = 0;

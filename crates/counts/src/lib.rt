@@ -55,7 +55,7 @@ pub fn too_full(counts: &[u32], n: usize) -> bool
     ensures { λ r. ⌜ r ≡ full n (now (counts .entry)) ⌝ }
 {
     let most = highest(counts) as usize;
-    4294967295 - n < most
+    settings::HIGHEST_COUNT as usize - n < most
 }
 
 // One more for the class with a code. A plain rank is no code, and indexes no table.

@@ -1,4 +1,4 @@
--- What the laws of the encoding, and functions of `words` and `kernels`, speak of on the way; no sentence of document 01 rests on it: how many outer
+-- What the laws of the encoding, and functions of `codes` and of the kernels, speak of on the way; no sentence of document 01 rests on it: how many outer
 -- pairs of a word are equal, and the number of palindromes.
 use mathlib.Core.Bool.{not, cond, _&&_}
 use mathlib.Core.List.{List}

@@ -17,7 +17,7 @@ use Rattle.fasta.specs.declared.Item.{Item}
 use Rattle.fasta.specs.declared.Item.the-variants.{Opens, Skip, Stray, Letter}
 use Rattle.fasta.specs.declared.Mode.{Mode}
 use Rattle.fasta.specs.declared.Numbers.{Numbers}
-use Rattle.fasta.specs.declared.Tally.{Tally}
+use Rattle.fasta.specs.declared.Scanned.{Scanned}
 use Rattle.fasta.specs.declared.Step.{Step}
 use Rattle.fasta.specs.declared.Step.the-variants.{On, AtStray, AtEarly}
 use Rattle.fasta.specs.Items.{recordsIn, lettersIn, oneIfForeign, foreignIn, marks, numbersIn}
@@ -28,26 +28,26 @@ use Rattle.fasta.proofs.Stream.{closes, windowsFrom, windows-stream, ed
 -- ---- the machine and the definitions
 
 -- The answer after one step at the offset `at`: the rest's, where the step goes on.
-abbrev pub afterStep : Step → ℕ → (Tally → Outcome Numbers) → Outcome Numbers
+abbrev pub afterStep : Step → ℕ → (Scanned → Outcome Numbers) → Outcome Numbers
 afterStep (On t) at rest = rest t
 afterStep AtStray at rest = refused (10, at)
 afterStep AtEarly at rest = refused (11, at)
 
 -- The answer of a scan of all items that are left, the first of them at the offset `at`.
-unfoldable pub scanFrom : (ℕ → Option ℕ) → ℕ → ℕ → Tally → List Item → Outcome Numbers
+unfoldable pub scanFrom : (ℕ → Option ℕ) → ℕ → ℕ → Scanned → List Item → Outcome Numbers
 scanFrom rank k at t [] = given (numbersOf t)
-scanFrom rank k at t (i ∷ is) = afterStep (took rank k t i) at (λ (u : Tally). scanFrom rank k (suc at) u is)
+scanFrom rank k at t (i ∷ is) = afterStep (took rank k t i) at (λ (u : Scanned). scanFrom rank k (suc at) u is)
 
 -- The tally that a scan begins with.
-abbrev pub nothingYet : Tally
+abbrev pub nothingYet : Scanned
 nothingYet = record { records = 0; letters = 0; foreign = 0; edge = 0; windows = 0; run = 0 }
 
 -- The numbers of a tally, with so much more of each.
-abbrev plus : Tally → ℕ → ℕ → ℕ → ℕ → ℕ → Numbers
+abbrev plus : Scanned → ℕ → ℕ → ℕ → ℕ → ℕ → Numbers
 plus t a b c d e = record { records = t .records + a; letters = t .letters + b; foreign = t .foreign + c; edge = t .edge + d; windows = t .windows + e }
 
 -- What is still to come, after a run of the letters r.
-abbrev rest : (ℕ → Option ℕ) → ℕ → Tally → List ℕ → List Item → Numbers
+abbrev rest : (ℕ → Option ℕ) → ℕ → Scanned → List ℕ → List Item → Numbers
 rest rank k t r is =
     plus t (recordsIn is) (lettersIn is) (foreignIn rank is) (edgesFrom k (length r) (marks rank is)) (length (windowsFrom k r (marks rank is)))
 
@@ -72,7 +72,7 @@ closes-one k r x ms =
 
 module _ (rank : ℕ → Option ℕ) (k : ℕ) where
   Told : List Item → Type 0
-  Told is = (at : ℕ) (t : Tally) (r : List ℕ) → t .run ≡ length r
+  Told is = (at : ℕ) (t : Scanned) (r : List ℕ) → t .run ≡ length r
       → scanFrom rank k at t is ≡ outcome (faultFrom (ltb 0 (t .records)) at is) (rest rank k t r is)
 
   opened : (is : List Item) → Told is → Told (Opens ∷ is)
@@ -82,7 +82,7 @@ module _ (rank : ℕ → Option ℕ) (k : ℕ) where
       ∙ rw (lt-ltb 0 (t .records + 1) (omega arith)) (ap (outcome (faultFrom true (suc at) is)) (same-numbers (omega arith) refl refl refl refl))
 
   -- A letter after a header, by its rank.
-  ranked : (is : List Item) → Told is → (o : Option ℕ) (at : ℕ) (t : Tally) (r : List ℕ) → t .run ≡ length r → ltb 0 (t .records) ≡ true
+  ranked : (is : List Item) → Told is → (o : Option ℕ) (at : ℕ) (t : Scanned) (r : List ℕ) → t .run ≡ length r → ltb 0 (t .records) ≡ true
       → scanFrom rank k (suc at) (withLetter k t o) is
       ≡ outcome (faultFrom true (suc at) is)
       (plus t (recordsIn is) (suc (lettersIn is)) (oneIfForeign o + foreignIn rank is) (edgesFrom k (length r) (o ∷ marks rank is))
@@ -102,7 +102,7 @@ module _ (rank : ℕ → Option ℕ) (k : ℕ) where
   lettered b is ih at t r e = go (eqb (t .records) 0) refl
     where
       go : (c : Bool) → eqb (t .records) 0 ≡ c
-          → afterStep (cond c AtEarly (On (withLetter k t (rank b)))) at (λ (u : Tally). scanFrom rank k (suc at) u is)
+          → afterStep (cond c AtEarly (On (withLetter k t (rank b)))) at (λ (u : Scanned). scanFrom rank k (suc at) u is)
           ≡ outcome (cond (ltb 0 (t .records)) (faultFrom (ltb 0 (t .records)) (suc at) is) (some (11, at))) (rest rank k t r (Letter b ∷ is))
       go true f = rw (le-ltb 0 (t .records) (omega (arith, eqb-true (t .records) 0 f)))
       go false f =
@@ -151,12 +151,12 @@ at-most-one : (c : Bool) → (cond c 0 1 ≤ 1) × (cond c 1 0 ≤ 1)
 at-most-one true = omega arith
 at-most-one false = omega arith
 
-small-letter : (k n : ℕ) (t : Tally) (o : Option ℕ) → Small n t → Small (n + 1) (withLetter k t o)
+small-letter : (k n : ℕ) (t : Scanned) (o : Option ℕ) → Small n t → Small (n + 1) (withLetter k t o)
 unfolding withLetter
 small-letter k n t none s = search needs
 small-letter k n t (some x) s = let h = at-most-one (leb k (t .run + 1)) in search needs
 
-small-step : (rank : ℕ → Option ℕ) (k n : ℕ) (t : Tally) (it : Item) → Small n t → SmallStep (n + 1) (took rank k t it)
+small-step : (rank : ℕ → Option ℕ) (k n : ℕ) (t : Scanned) (it : Item) → Small n t → SmallStep (n + 1) (took rank k t it)
 unfolding SmallStep
 small-step rank k n t Opens s = search needs
 small-step rank k n t Skip s = search needs
@@ -168,7 +168,7 @@ small-step rank k n t (Letter b) s = go (eqb (t .records) 0)
     go false = small-letter k n t (rank b) s
 
 -- At the head: the scan's answer is that of the items that are left, from here.
-pub record Scanning (file : List ℕ) (from : Mode) (rank : ℕ → Option ℕ) (k : ℕ) (m : Mode) (t : Tally) (i : ℕ) : Type 0 where
+pub record Scanning (file : List ℕ) (from : Mode) (rank : ℕ → Option ℕ) (k : ℕ) (m : Mode) (t : Scanned) (i : ℕ) : Type 0 where
   pub inside : i ≤ length file
   pub small : Small i t
   pub answer : outcome (faultFrom false 0 (itemsFrom from file)) (numbersIn rank k (itemsFrom from file)) ≡ scanFrom rank k i t (itemsFrom m (drop i file))
@@ -183,17 +183,17 @@ start file from rank k h =
     }
 
 -- Where nothing is left, the tally's numbers are the answer.
-pub done : {file : List ℕ} {from : Mode} {rank : ℕ → Option ℕ} {k : ℕ} {m : Mode} {t : Tally} {i : ℕ} → Scanning file from rank k m t i → length file ≤ i
+pub done : {file : List ℕ} {from : Mode} {rank : ℕ → Option ℕ} {k : ℕ} {m : Mode} {t : Scanned} {i : ℕ} → Scanning file from rank k m t i → length file ≤ i
     → given (numbersOf t) ≡ outcome (faultFrom false 0 (itemsFrom from file)) (numbersIn rank k (itemsFrom from file))
 unfolding scanFrom
 done {file} {m = m} {i = i} S h = sym (S .answer ∙ rw (items-end file i m h))
 
-scan-skips : (rank : ℕ → Option ℕ) (k n at : ℕ) (t : Tally) (is : List Item) → scanFrom rank k at t (skips n is) ≡ scanFrom rank k (at + n) t is
+scan-skips : (rank : ℕ → Option ℕ) (k n at : ℕ) (t : Scanned) (is : List Item) → scanFrom rank k at t (skips n is) ≡ scanFrom rank k (at + n) t is
 unfolding skips scanFrom
 scan-skips rank k zero at t is = let e : at + 0 ≡ at = omega arith in rw e
 scan-skips rank k (suc n) at t is = let e : at + suc n ≡ suc at + n = omega arith in rw e (scan-skips rank k n (suc at) t is)
 
-more-small : {i e : ℕ} {t : Tally} → i ≤ e → Small i t → Small e t
+more-small : {i e : ℕ} {t : Scanned} → i ≤ e → Small i t → Small e t
 more-small h s =
     record {
       records = omega (arith, s .records);
@@ -205,7 +205,7 @@ more-small h s =
     }
 
 -- Bytes that are skipped leave the scan as it is.
-pub skip-on : {file : List ℕ} {from : Mode} {rank : ℕ → Option ℕ} {k : ℕ} {m : Mode} {t : Tally} {i e : ℕ} → Scanning file from rank k m t i → Skips file m i e
+pub skip-on : {file : List ℕ} {from : Mode} {rank : ℕ → Option ℕ} {k : ℕ} {m : Mode} {t : Scanned} {i e : ℕ} → Scanning file from rank k m t i → Skips file m i e
     → Scanning file from rank k m t e
 skip-on {file} {from} {rank} {k} {m} {t} {i} {e} S J =
     let n : i + (e - i) ≡ e = omega (arith, J .on) in
@@ -218,16 +218,16 @@ skip-on {file} {from} {rank} {k} {m} {t} {i} {e} S J =
     }
 
 -- A turn: the item of the byte at i, and the step on it.
-pub record Turn (file : List ℕ) (from : Mode) (rank : ℕ → Option ℕ) (k : ℕ) (m : Mode) (t : Tally) (i : ℕ) (it : Item) (st : Step) : Type 0 where
+pub record Turn (file : List ℕ) (from : Mode) (rank : ℕ → Option ℕ) (k : ℕ) (m : Mode) (t : Scanned) (i : ℕ) (it : Item) (st : Step) : Type 0 where
   pub scanning : Scanning file from rank k m t i
   pub more : i < length file
   pub it-is : it ≡ item m (getD file i 0) (lfNext (drop (i + 1) file))
   pub st-is : st ≡ took rank k t it
 
-module _ {file : List ℕ} {from : Mode} {rank : ℕ → Option ℕ} {k : ℕ} {m : Mode} {t : Tally} {i : ℕ} {it : Item} {st : Step}
+module _ {file : List ℕ} {from : Mode} {rank : ℕ → Option ℕ} {k : ℕ} {m : Mode} {t : Scanned} {i : ℕ} {it : Item} {st : Step}
     (T : Turn file from rank k m t i it st) where
   after : outcome (faultFrom false 0 (itemsFrom from file)) (numbersIn rank k (itemsFrom from file))
-      ≡ afterStep st i (λ (u : Tally). scanFrom rank k (suc i) u (itemsFrom (next m (getD file i 0)) (drop (i + 1) file)))
+      ≡ afterStep st i (λ (u : Scanned). scanFrom rank k (suc i) u (itemsFrom (next m (getD file i 0)) (drop (i + 1) file)))
   unfolding scanFrom
   after = T .scanning .answer ∙ rw (items-step file i m (T .more), T .st-is, T .it-is)
 
@@ -238,7 +238,7 @@ module _ {file : List ℕ} {from : Mode} {rank : ℕ → Option ℕ} {k : ℕ} {
   at-early e = sym (after ∙ rw e)
 
   -- A turn that goes on keeps what holds at the head.
-  pub goes-on : (m′ : Mode) (u : Tally) → st ≡ On u → m′ ≡ next m (getD file i 0) → Scanning file from rank k m′ u (i + 1)
+  pub goes-on : (m′ : Mode) (u : Scanned) → st ≡ On u → m′ ≡ next m (getD file i 0) → Scanning file from rank k m′ u (i + 1)
   unfolding SmallStep
   goes-on m′ u e m-is =
       let s : SmallStep (i + 1) st = rw (T .st-is) (small-step rank k i t it (T .scanning .small)) in

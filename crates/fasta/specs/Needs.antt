@@ -11,7 +11,7 @@ use Rattle.fasta.specs.declared.Item.the-variants.{Opens, Skip, Stray, L
 use Rattle.fasta.specs.declared.Mode.{Mode}
 use Rattle.fasta.specs.declared.Mode.the-variants.{Start, Header, Sequence, FastqStart, FastqHeader, FastqSequence, FastqPlus, FastqQuality}
 use Rattle.fasta.specs.declared.Numbers.{Numbers}
-use Rattle.fasta.specs.declared.Tally.{Tally}
+use Rattle.fasta.specs.declared.Scanned.{Scanned}
 use Rattle.fasta.specs.File.{itemsFrom}
 use Rattle.fasta.specs.declared.Step.{Step}
 use Rattle.fasta.specs.declared.Step.the-variants.{On, AtStray, AtEarly}
@@ -28,11 +28,11 @@ isPassedOver FastqPlus = true
 isPassedOver FastqQuality = true
 
 -- A new record: the run ends.
-abbrev pub withHeader : Tally → Tally
+abbrev pub withHeader : Scanned → Scanned
 withHeader t = record { records = t .records + 1; letters = t .letters; foreign = t .foreign; edge = t .edge; windows = t .windows; run = 0 }
 
 -- A letter with its rank: a foreign one ends the run; a settings letter either closes a window or is one of the run's edge letters.
-unfoldable pub withLetter : ℕ → Tally → Option ℕ → Tally
+unfoldable pub withLetter : ℕ → Scanned → Option ℕ → Scanned
 withLetter k t none =
     record { records = t .records; letters = t .letters + 1; foreign = t .foreign + 1; edge = t .edge; windows = t .windows; run = 0 }
 withLetter k t (some x) =
@@ -47,14 +47,14 @@ withLetter k t (some x) =
     }
 
 -- One item.
-abbrev pub took : (ℕ → Option ℕ) → ℕ → Tally → Item → Step
+abbrev pub took : (ℕ → Option ℕ) → ℕ → Scanned → Item → Step
 took rank k t Opens = On (withHeader t)
 took rank k t Skip = On t
 took rank k t Stray = AtStray
 took rank k t (Letter b) = cond (eqb (t .records) 0) AtEarly (On (withLetter k t (rank b)))
 
 -- No number is above n, so that one more fits.
-pub record Small (n : ℕ) (t : Tally) : Type 0 where
+pub record Small (n : ℕ) (t : Scanned) : Type 0 where
   pub records : _≤_ (t .records) n
   pub letters : _≤_ (t .letters) n
   pub foreign : _≤_ (t .foreign) n
@@ -63,7 +63,7 @@ pub record Small (n : ℕ) (t : Tally) : Type 0 where
   pub run : _≤_ (t .run) n
 
 -- The numbers that a scan answers with where nothing is left.
-abbrev pub numbersOf : Tally → Numbers
+abbrev pub numbersOf : Scanned → Numbers
 numbersOf t = record { records = t .records; letters = t .letters; foreign = t .foreign; edge = t .edge; windows = t .windows }
 
 -- So many skipped bytes in front of other items.

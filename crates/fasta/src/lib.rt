@@ -49,7 +49,7 @@ pub enum Answer {
 }
 
 // The numbers of what was scanned, and the length of the present run.
-struct Tally {
+struct Scanned {
     records: usize,
     letters: usize,
     foreign: usize,
@@ -60,7 +60,7 @@ struct Tally {
 
 // The scan goes on, or ends at a stray byte or at a letter before the first header.
 enum Step {
-    On(Tally),
+    On(Scanned),
     AtStray,
     AtEarly,
 }
@@ -155,12 +155,12 @@ pub fn next_mode(mode: Mode, b: u8) -> Mode
 }
 
 // The tally after one letter more, given its rank as one byte.
-fn with_letter(t: Tally, rank: u8, k: usize) -> Tally
+fn with_letter(t: Scanned, rank: u8, k: usize) -> Scanned
     requires { ⌜ Small 16777216 t ⌝ }
     ensures { λ r. ⌜ r ≡ withLetter k t (asRank rank) ⌝ }
 {
     if rank == 255 {
-        return Tally {
+        return Scanned {
             records: t.records,
             letters: t.letters + 1,
             foreign: t.foreign + 1,
@@ -170,7 +170,7 @@ fn with_letter(t: Tally, rank: u8, k: usize) -> Tally
         };
     }
     if k <= t.run + 1 {
-        Tally {
+        Scanned {
             records: t.records,
             letters: t.letters + 1,
             foreign: t.foreign,
@@ -179,7 +179,7 @@ fn with_letter(t: Tally, rank: u8, k: usize) -> Tally
             run: t.run + 1,
         }
     } else {
-        Tally {
+        Scanned {
             records: t.records,
             letters: t.letters + 1,
             foreign: t.foreign,
@@ -191,14 +191,14 @@ fn with_letter(t: Tally, rank: u8, k: usize) -> Tally
 }
 
 // The tally after one item more, or the fault that the item is.
-fn take_item(t: Tally, it: Item, ranks: &[u8; 256], k: usize) -> Step
+fn take_item(t: Scanned, it: Item, ranks: &[u8; 256], k: usize) -> Step
     requires { ⌜ Small 16777216 t ⌝ }
     ensures { λ r. ⌜ r ≡ took (rankByTable (now (ranks .entry))) k t it ⌝ }
 {
     match it {
         Item::Skip => Step::On(t),
         Item::Stray => Step::AtStray,
-        Item::Opens => Step::On(Tally {
+        Item::Opens => Step::On(Scanned {
             records: t.records + 1,
             letters: t.letters,
             foreign: t.foreign,
@@ -217,7 +217,7 @@ fn take_item(t: Tally, it: Item, ranks: &[u8; 256], k: usize) -> Step
 }
 
 // What a scan answers of a tally at the file's end.
-fn taken(t: Tally) -> Answer
+fn taken(t: Scanned) -> Answer
     ensures { λ r. ⌜ ofAnswer r ≡ given (numbersOf t) ⌝ }
 {
     Answer::Taken(Numbers {
@@ -238,7 +238,7 @@ pub fn scan_items(file: &[u8], start: Mode, ranks: &[u8; 256], k: usize) -> Answ
         (numbersIn (rankByTable (now (ranks .entry))) k (itemsFrom start (now (file .entry)))) ⌝ }
 {
     let mut mode = start;
-    let mut t = Tally {
+    let mut t = Scanned {
         records: 0,
         letters: 0,
         foreign: 0,

@@ -11,7 +11,8 @@ use Rattle.fasta.specs.File.{isLetter, lineItem, item, next, itemsFrom, faultFr
 use Rattle.fastq.specs.Fastq.{isThere, unlessAt, firstFailing, isQuality, recordFault, fastqFault}
 use Rattle.files.specs.declared.Kind.the-variants.{Fasta, Fastq}
 use Rattle.files.specs.File.{fileOf}
-use Rattle.files.specs.Scan.{tooLong, scanGround}
+use Rattle.settings.specs.Limits.{tooLong}
+use Rattle.files.specs.Scan.{scanGround}
 
 -- The grounds of a scan under some settings, of a FASTA file with a stray byte.
 unfoldable groundBeforeStray : (letters : List ℕ) (k mirror : ℕ) → Option Ground

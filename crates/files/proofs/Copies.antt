@@ -14,7 +14,8 @@ use Rattle.fastq.proofs.Copies.{same-fastq-fault}
 use Rattle.files.specs.declared.Kind.{Kind}
 use Rattle.files.specs.declared.Kind.the-variants.{Fasta, Fastq}
 use Rattle.files.specs.File.{File, startOf, faultOf, fileFault, fileWindows, fileNumbers}
-use Rattle.files.specs.Scan.{tooLong, scanGround}
+use Rattle.settings.specs.Limits.{tooLong}
+use Rattle.files.specs.Scan.{scanGround}
 use Rattle.files.specs.Copies.{FileCopy}
 
 fault-of-kind : (kind : Kind) {bytes copy : List ℕ} → CopyWithT bytes copy → faultOf kind bytes ≡ faultOf kind copy

@@ -18,7 +18,8 @@ use Rattle.fastq.proofs.Faults.{fastq-has}
 use Rattle.files.specs.declared.Kind.{Kind}
 use Rattle.files.specs.declared.Kind.the-variants.{Fasta, Fastq}
 use Rattle.files.specs.File.{File, faultOf, fileFault}
-use Rattle.files.specs.Scan.{tooLong, scanGround}
+use Rattle.settings.specs.Limits.{tooLong}
+use Rattle.files.specs.Scan.{scanGround}
 
 -- The numbers of the faults of a kind of file: 11 does not occur in FASTQ, nor 15 to 17 in FASTA.
 abbrev pub faultNumbers : Kind → List ℕ

@@ -1,8 +1,6 @@
--- The laws of files of both kinds. Cases: the order of a scan's grounds, computed. Searching, Records: FASTQ's grounds, as functions meet them.
--- ScanGrounds: the scan. FaultNumbers: which refusals a file and a scan give. Copies: with T for U.
+-- The laws of files of both kinds. Cases: the order of a scan's grounds, computed. ScanGrounds: the scan. FaultNumbers: which refusals a file and a scan give.
+-- Copies: with T for U.
 pub mod Cases
-pub mod Searching
-pub mod Records
 pub mod ScanGrounds
 pub mod FaultNumbers
 pub mod Copies

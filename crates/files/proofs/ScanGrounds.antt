@@ -21,7 +21,8 @@ use Rattle.fasta.proofs.Runs.{letters-are}
 use Rattle.fastq.specs.Fastq.{fastqFault}
 use Rattle.fastq.proofs.OnlySequence.{clean-items}
 use Rattle.files.specs.File.{File, startOf, items, fileFault, fileNumbers}
-use Rattle.files.specs.Scan.{tooLong, scanGround}
+use Rattle.settings.specs.Limits.{tooLong}
+use Rattle.files.specs.Scan.{scanGround}
 
 -- ---- FASTQ
 

@@ -1,6 +1,5 @@
 -- What a reader must believe of sequence files of both kinds: a file with its kind, its items, its first fault, its windows and numbers (File), and the
--- grounds of a scan (Scan); copies with T for U (Copies). Needs has what functions below the calls ask of each other.
+-- grounds of a scan (Scan); copies with T for U (Copies).
 pub mod File
 pub mod Scan
 pub mod Copies
-pub mod Needs

@@ -1,6 +1,4 @@
 // Sequence files of both kinds: the kind, and the scan of a file, which answers its five numbers or the first ground for refusing it.
-mod faults; // the grounds for refusing a FASTQ file
-
 use fasta::Answer;
 use fasta::Mode;
 use settings::Checked;
@@ -34,7 +32,7 @@ fn scan_fastq(file: &[u8], ranks: &[u8; 256], k: usize) -> Answer
         ⌜ ofAnswer r
         ≡ outcome (fastqFault 0 (lines (now (file .entry)))) (numbersIn (rankByTable (now (ranks .entry))) k (itemsFrom FastqStart (now (file .entry)))) ⌝ }
 {
-    match faults::fastq_fault(file) {
+    match fastq_faults::fastq_fault(file) {
         Finding::Faulty(f) => Answer::Refused(f),
         Finding::Clean => fasta::scan_items(file, Mode::FastqStart, ranks, k),
     }
@@ -73,7 +71,7 @@ pub fn scan(kind: Kind, file: &[u8], letters: &[u8], k: usize, mirror: u64) -> A
     match settings::check(letters, k, mirror) {
         Checked::Bad(f) => Answer::Refused(f),
         Checked::Good(_) => {
-            if file.len() > 16777216 {
+            if file.len() > settings::MOST_BYTES {
                 return Answer::Refused(Refusal::TooLarge);
             }
             let ranks = settings::rank_table(letters);

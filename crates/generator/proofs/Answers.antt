@@ -11,7 +11,7 @@ use Rattle.settings.specs.Grounds.{Ground, given, refused, ground, groundAt, to
 use Rattle.settings.specs.Settings.{settingsGround, settingsOf}
 use Rattle.settings.proofs.Outcomes.{kept-by, kept-on, set-by}
 use Rattle.settings.proofs.SettingsGrounds.{good-settings}
-use Rattle.files.specs.Scan.{tooLong}
+use Rattle.settings.specs.Limits.{tooLong}
 use Rattle.testload.specs.TestLoad.{testLoad, generateGround, Generates}
 use Rattle.testload.proofs.Theorems.{larger-gives-6, short-buffer-gives-7, room-gives-none}
 use Rattle.generator.specs.Needs.{Fits, recordsLength}

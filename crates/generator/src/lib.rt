@@ -110,6 +110,9 @@ fn put_records(out: &mut [u8], letters: &[u8], start: u64, records: usize, each:
     }
 }
 
+// A length that is too long, whatever it is.
+const MORE_BYTES: usize = settings::MOST_BYTES + 1;
+
 // The length of all records with so many letters each, where it is at most 16,777,216; else some number above that, since the sum stops there.
 fn load_length(records: usize, each: usize) -> usize
     requires { ⌜ each ≤ 16777216 ⌝ }
@@ -119,7 +122,7 @@ fn load_length(records: usize, each: usize) -> usize
     let mut sum: usize = 0;
     let mut i: usize = 0;
     while i < records {
-        if sum > 16777216 {
+        if sum > settings::MOST_BYTES {
             return sum;
         }
         i += 1;
@@ -132,10 +135,10 @@ fn load_length(records: usize, each: usize) -> usize
 fn needed_length(records: usize, each: usize) -> usize
     ensures { λ r. ⌜ min r 16777217 ≡ min (recordsLength each 1 records) 16777217 ⌝ }
 {
-    if each <= 16777216 {
+    if each <= settings::MOST_BYTES {
         return load_length(records, each);
     }
-    if records == 0 { 0 } else { 16777217 }
+    if records == 0 { 0 } else { MORE_BYTES }
 }
 
 // Writes the test load to the start of the buffer. Refused by the first of the grounds 1, 2, 4, 6 and 7.
@@ -155,7 +158,7 @@ pub fn generate(
         Checked::Bad(f) => Filling::Unfilled(f),
         Checked::Good(_) => {
             let needed = needed_length(records, each);
-            if needed > 16777216 {
+            if needed > settings::MOST_BYTES {
                 return Filling::Unfilled(Refusal::TooLarge);
             }
             if out.len() < needed {

@@ -47,11 +47,11 @@ module _ (letters : List ℕ) (k m : ℕ) (good : settingsGround letters k m ≡
     pub ranks-ready : {table : List ℕ} → RankTable letters table → RanksBelow (st .s) table
     ranks-ready {table} T = subst⁻¹ (λ (s : ℕ). RanksBelow s table) s-is (table-below T)
 
-    pub palindromes-fit : (2 * st .classes < 2 ^ 64) × (st .words ≤ 2 * st .classes)
+    pub palindromes-fit : (2 * st .classes < 2 ^ 64) × (st .power ≤ 2 * st .classes)
     palindromes-fit =
         let L = limits letters k m good in
         let c : st .classes ≡ classes (length letters) (mirrorOf m) k = ap (λ (x : Settings). x .classes) is in
-        let w : st .words ≡ length letters ^ k = ap (λ (x : Settings). x .words) is in
+        let w : st .power ≡ length letters ^ k = ap (λ (x : Settings). x .power) is in
         let twice = twice-classes (length letters) (mirrorOf m) k in
         let le = palindromes-le (length letters) (mirrorOf m) k (L .two) in
         (omega (arith, c, twice, le, L .small), omega (arith, c, w, twice))

@@ -20,7 +20,7 @@ Takes TwoBit s m = (s ≡ 4) × (m ≡ Complement)
 
 -- The coder of settings: their numbers, k, and of the words and classes the number of palindromes.
 abbrev pub coderOf : Kernel → ℕ → Settings → Coder
-coderOf kernel k st = record { kernel = kernel; s = st .s; k = k; mirror = st .mirror; palindromes = 2 * st .classes - st .words }
+coderOf kernel k st = record { kernel = kernel; s = st .s; k = k; mirror = st .mirror; palindromes = 2 * st .classes - st .power }
 
 -- Good settings as a kernel takes them, with the powers of s and the table of mirrors.
 pub record ReadyCoder (c : Coder) (powers mirrors : List ℕ) : Type 0 where

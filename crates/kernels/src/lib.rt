@@ -46,7 +46,7 @@ fn fill_powers(table: &mut [u64], s: u64, k: usize)
 // The coder of good settings: 2c - w of w words in c classes are palindromes. Of the settings it asks only that this number can be worked out.
 pub fn coder_of(st: Settings, kernel: Kernel) -> Coder
     requires { ⌜ 2 * st .classes < 2 ^ 64 ⌝ }
-    requires { ⌜ st .words ≤ 2 * st .classes ⌝ }
+    requires { ⌜ st .power ≤ 2 * st .classes ⌝ }
     ensures { λ r. ⌜ r ≡ coderOf kernel (st .k) st ⌝ }
 {
     let mirror = st.mirror;
@@ -55,7 +55,7 @@ pub fn coder_of(st: Settings, kernel: Kernel) -> Coder
         s: st.s,
         k: st.k,
         mirror,
-        palindromes: 2 * st.classes - st.words,
+        palindromes: 2 * st.classes - st.power,
     }
 }
 

@@ -13,7 +13,7 @@ use Rattle.fasta.specs.Items.{recordsIn, lettersIn, oneIfForeign, foreignIn, ma
 use Rattle.fasta.specs.File.{isLetter, lfNext, lineItem, item, next, itemsFrom, faultFrom}
 use Rattle.files.specs.declared.Kind.the-variants.{Fasta}
 use Rattle.files.specs.File.{File, fileOf}
-use Rattle.files.specs.Scan.{tooLong}
+use Rattle.settings.specs.Limits.{tooLong}
 use Rattle.tally.specs.Table.{windowsOfFile, full, tooMany, readyGround, callGround, add, withdraw}
 use Rattle.tally.specs.Book.{sameWord, sameClass, hits, withFront, allWords, canonicalOnes, clearedBook, someOf}
 use Rattle.kmer.specs.FileCalls.{intoGround}

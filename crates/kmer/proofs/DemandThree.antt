@@ -9,23 +9,23 @@ use mathlib.Core.List.{List, [], _∷_, _++_, zipWith, Forall₂, Forall₂·nil
 use Prim.Native.Nat.{ℕ, _≤_}
 use native.Mathlib.Omega.{arith}
 use borrow.Author.Tests.{le-ltb, ltb-false}
-use lib.ListN.{length, take, drop, replicate}
+use lib.ListN.{length, take, drop}
 use Rattle.settings.specs.Grounds.{Ground, Outcome, given, refused, ground, outcome, overwritten, _orElse_}
 use Rattle.settings.specs.Settings.{rankIn, settingsGround}
 use Rattle.settings.proofs.Outcomes.{passed}
 use Rattle.fasta.specs.declared.Numbers.{Numbers}
 use Rattle.files.specs.File.{File, fileNumbers}
-use Rattle.files.specs.Scan.{tooLong}
-use Rattle.tally.specs.Table.{classCount, tooMany, readyGround, clearGround, Call, add, withdraw, callFile, Called, Clears}
+use Rattle.settings.specs.Limits.{tooLong}
+use Rattle.tally.specs.Table.{classCount, tooMany, readyGround, clearGround, Call, add, withdraw, callFile, Called}
 use Rattle.tally.specs.Book.{Book, clearedBook, bookAnswer, bookAfter, bookAnswers}
 use Rattle.tally.specs.Demand.{TableCalls, Agrees}
 use Rattle.tally.specs.Demand.Calls.{done, then}
 use Rattle.tally.proofs.Clearing.{settings-good, classes-bounded, places-enough, cleared-agrees, cleared-length}
 use Rattle.tally.proofs.DemandThree.{kept, same-counts, demand-three}
 use Rattle.tally.proofs.GivenBack.{given-back-whole}
-use Rattle.returned.specs.Returned.{returnedWithPlace, ReturnsPlaces}
+use Rattle.returned.specs.Returned.{returnedWithPlace}
 use Rattle.returned.specs.FileNumbers.{fiveNumbers}
-use Rattle.kmer.specs.FileCalls.{intoGround, CallsInto, AddsInto, WithdrawsInto}
+use Rattle.kmer.specs.FileCalls.{ClearsInto, intoGround, CallsInto, AddsInto, WithdrawsInto}
 use Rattle.kmer.specs.Demand.{Asked, Told, FileCalls, toldBy, isShort, shortAnswer, RefusedIfShort, withRoom, tableCalls, bookTold, AsTableCalls, DemandThreeFromC, KeptFromC, SameCountsFromC}
 use Rattle.kmer.proofs.FileCalls.{same-ground, short-ground, room-for-five, as-long}
 
@@ -126,12 +126,6 @@ book-tells letters k m places h book (Forall₂·cons {a = c} {b = answer} {l₁
 
 -- ---- the theorems
 
--- What a `kmer_clear` left is what a clearing leaves.
-clearing-of : (letters : List ℕ) (k m : ℕ) {t₀ t : List ℕ} {r : ℕ}
-    → ReturnsPlaces returnedWithPlace (clearGround letters k m (length t₀)) (classCount letters k m) (replicate (classCount letters k m) 0) t₀ r t
-    → Clears letters k m t₀ (outcome (clearGround letters k m (length t₀)) (classCount letters k m)) t
-clearing-of letters k m R = record { answers = refl; leaves = R .leaves }
-
 -- Demand 3 for C programs. Let no ground refuse a `kmer_clear`, and let a list of `kmer_add` and `kmer_withdraw` calls follow, each with the clearing's
 -- settings, a file, a lent list of any length for its answer, and the table that the call before left. Then each call tells what the book does: it returned 5
 -- and put the file's five numbers into its list where numbers were answered, and returned 2^63 + P * 256 + the ground's number and left its list unchanged
@@ -139,19 +133,19 @@ clearing-of letters k m R = record { answers = refl; leaves = R .leaves }
 -- holds of these; each other call is refused.
 pub demand-three-from-c : (letters : List ℕ) (k m : ℕ) {t₀ t t′ : List ℕ} {r : ℕ} {asked : List Asked} {told : List Told}
     → clearGround letters k m (length t₀) ≡ none
-    → ReturnsPlaces returnedWithPlace (clearGround letters k m (length t₀)) (classCount letters k m) (replicate (classCount letters k m) 0) t₀ r t
+    → ClearsInto letters k m t₀ r t
     → FileCalls letters k m t asked told t′
     → DemandThreeFromC letters k m t₀ t t′ asked told
 demand-three-from-c letters k m no-ground R calls =
     let A = as-calls letters k m calls in
-    let clearing = clearing-of letters k m R in
+    let clearing = R .promised in
     let D = demand-three letters k m no-ground clearing (A .calls) in
     record {
       as-calls = A;
       each-call-told-what-the-book-did =
           A .each-call-told-its-answer
           ∙ book-tells letters k m _ (cleared-agrees letters k m no-ground clearing .one-place-a-class) clearedBook (A .each-short-list-refused)
-          (D .each-call-answered-what-the-book-did);
+          (D .kept .each-call-answered-what-the-book-did);
       demand-three = D;
     }
 
@@ -189,26 +183,26 @@ same-counts-from-c letters k m book good agrees agrees′ calls calls′ =
 -- "Two such lists with the same settings", each after a `kmer_clear` of its own that was not refused.
 pub demand-three-same-counts-from-c : (letters : List ℕ) (k m : ℕ) {t₀ t t′ u₀ u u′ : List ℕ} {r r′ : ℕ} {asked asked′ : List Asked} {told told′ : List Told}
     → clearGround letters k m (length t₀) ≡ none
-    → ReturnsPlaces returnedWithPlace (clearGround letters k m (length t₀)) (classCount letters k m) (replicate (classCount letters k m) 0) t₀ r t
+    → ClearsInto letters k m t₀ r t
     → FileCalls letters k m t asked told t′
     → clearGround letters k m (length u₀) ≡ none
-    → ReturnsPlaces returnedWithPlace (clearGround letters k m (length u₀)) (classCount letters k m) (replicate (classCount letters k m) 0) u₀ r′ u
+    → ClearsInto letters k m u₀ r′ u
     → FileCalls letters k m u asked′ told′ u′
     → SameCountsFromC letters k m t t′ asked told u u′ asked′ told′
 demand-three-same-counts-from-c letters k m {t₀} no-ground R calls no-ground′ R′ calls′ =
-    same-counts-from-c letters k m clearedBook (settings-good letters k m (length t₀) no-ground) (cleared-agrees letters k m no-ground (clearing-of letters k m R))
-    (cleared-agrees letters k m no-ground′ (clearing-of letters k m R′)) calls calls′
+    same-counts-from-c letters k m clearedBook (settings-good letters k m (length t₀) no-ground) (cleared-agrees letters k m no-ground (R .promised))
+    (cleared-agrees letters k m no-ground′ (R′ .promised)) calls calls′
 
 -- After a `kmer_clear` that was not refused, a call whose list is too short is refused 6 where its file is too long, and else 7 with P 5: no other ground can
 -- come before the list's own.
 pub short-from-c : (letters : List ℕ) (k m : ℕ) {t₀ t : List ℕ} {r : ℕ} (c : Call)
     → clearGround letters k m (length t₀) ≡ none
-    → ReturnsPlaces returnedWithPlace (clearGround letters k m (length t₀)) (classCount letters k m) (replicate (classCount letters k m) 0) t₀ r t
+    → ClearsInto letters k m t₀ r t
     → shortAnswer letters k m (length t) c ≡ refused (cond (tooLong (callFile c .bytes)) (6, 0) (7, 5))
 unfolding readyGround tooMany
 short-from-c letters k m {t₀} c no-ground R =
     rw (
-      cleared-length letters k m no-ground (clearing-of letters k m R),
+      cleared-length letters k m no-ground (R .promised),
       settings-good letters k m (length t₀) no-ground,
       le-ltb 16777216 (classCount letters k m) (classes-bounded letters k m (length t₀) no-ground),
       le-ltb (length t₀) (classCount letters k m) (places-enough letters k m (length t₀) no-ground),

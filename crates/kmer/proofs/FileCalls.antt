@@ -18,7 +18,7 @@ use Rattle.settings.proofs.Outcomes.{refused-is, passed, first-none, later-none
 use Rattle.settings.proofs.FirstGround.{PlaceUpTo, Small, test-small, then-small}
 use Rattle.fasta.specs.declared.Numbers.{Numbers}
 use Rattle.files.specs.File.{File, fileFault, fileNumbers}
-use Rattle.files.specs.Scan.{tooLong}
+use Rattle.settings.specs.Limits.{tooLong}
 use Rattle.files.proofs.FaultNumbers.{fault-has}
 use Rattle.tally.specs.Table.{classCount, places, tooMany, readyGround, callGround, Call, add, withdraw, callFile, tableFull, tableLacks, lastGround, tableGround, perWindow, tableAfter, Called}
 use Rattle.tally.proofs.Changes.{length-changes}

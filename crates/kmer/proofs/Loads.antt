@@ -18,8 +18,8 @@ use Rattle.listing.proofs.Lengths.{SmallCounts}
 use Rattle.loading.specs.Loading.{textFault, loadGround, loadedBook, Loads}
 use Rattle.loading.proofs.Theorems.{loads-what-was-listed, lists-what-was-loaded, loaded-agrees}
 use Rattle.loading.proofs.RefusalNumbers.{load-place}
-use Rattle.returned.specs.Returned.{returnedWithPlace, returnedUpTo, ReturnsPlaces}
-use Rattle.kmer.specs.Loads.{LoadsInto}
+use Rattle.returned.specs.Returned.{returnedWithPlace, returnedUpTo}
+use Rattle.kmer.specs.Loads.{LoadsInto, ListsInto}
 use Rattle.kmer.specs.Demand.{Asked, Told, FileCalls, KeptFromC}
 use Rattle.kmer.proofs.Refusals.{clear-small}
 use Rattle.kmer.proofs.DemandThree.{kept-from-c}
@@ -27,8 +27,7 @@ use Rattle.kmer.proofs.DemandThree.{kept-from-c}
 -- What `kmer_load` returned and left is what a load answers and leaves.
 pub load-from-c : (letters : List ℕ) (k m : ℕ) (text : List ℕ) {t t′ : List ℕ} {r : ℕ} → LoadsInto letters k m text t r t′
     → (answer : Outcome ℕ) × (r ≡ returnedUpTo answer) × Loads letters k m text t answer t′
-load-from-c letters k m text {t} R =
-    (outcome (loadGround letters k m (length t) text) (classCount letters k m), R .returns, record { answers = refl; leaves = R .leaves })
+load-from-c letters k m text R = (R .answer, R .returns, R .promised)
 
 -- "After a load, every list of adds and withdrawals starts from the loaded counts."
 pub kept-from-loaded-c : (letters : List ℕ) (k m : ℕ) (text : List ℕ) {t₀ t t′ : List ℕ} {r : ℕ} {asked : List Asked} {told : List Told}
@@ -53,6 +52,7 @@ unfolding loadGround
 load-told letters k m text {t} R h =
     let n : ℕ = 36028797018963967 in
     R .returns
+    ∙ ap returnedUpTo (R .promised .answers)
     ∙ told-whole n (classCount letters k m) (clearGround letters k m (length t) orElse textFault letters k m text)
     (then-small n (clearGround letters k m (length t)) (textFault letters k m text) (λ f e. omega (arith, clear-small letters k m (length t) f e))
     (λ _ f e. omega (arith, load-place letters k m text f e)))
@@ -63,14 +63,14 @@ load-told letters k m text {t} R h =
 -- What `kmer_listing` wrote, of r bytes, `kmer_load` takes, and the counts are the same.
 pub loads-what-was-listed-c : (letters : List ℕ) (k m : ℕ) (t : List ℕ) {old new u₀ u : List ℕ} {r q : ℕ} → SmallCounts (counts letters k m t)
     → listingGround letters k m t (length old) ≡ none
-    → ReturnsPlaces returnedWithPlace (listingGround letters k m t (length old)) (length (listing letters k m t)) (listing letters k m t) old r new
+    → ListsInto letters k m t old r new
     → clearGround letters k m (length u₀) ≡ none
     → LoadsInto letters k m (take r new) u₀ q u
     → (q ≡ classCount letters k m) × (counts letters k m u ≡ counts letters k m t)
 loads-what-was-listed-c letters k m t {old} {new} {u₀} {u} {r} small no-ground L there R =
     let n = length (listing letters k m t) in
-    let r-is : r ≡ n = L .returns ∙ rw no-ground in
-    let list : Lists letters k m t old (given r) new = record { answers = rw (no-ground, r-is); leaves = L .leaves } in
+    let r-is : r ≡ n = L .returns ∙ ap returnedWithPlace (L .promised .answers) ∙ rw no-ground in
+    let list : Lists letters k m t old (given r) new = record { answers = rw (no-ground, r-is); leaves = L .promised .leaves } in
     let (answer, told, load) = load-from-c letters k m (take r new) R in
     let (given-all, same) = loads-what-was-listed letters k m t small list there load in
     (told ∙ ap returnedUpTo given-all, same)
@@ -80,11 +80,9 @@ pub lists-what-was-loaded-c : (letters : List ℕ) (k m : ℕ) (text : List ℕ)
     → loadGround letters k m (length t₀) text ≡ none
     → LoadsInto letters k m text t₀ q t
     → length text ≤ length old
-    → ReturnsPlaces returnedWithPlace (listingGround letters k m t (length old)) (length (listing letters k m t)) (listing letters k m t) old r new
+    → ListsInto letters k m t old r new
     → (r ≡ length text) × (take (length text) new ≡ text)
 lists-what-was-loaded-c letters k m text {t₀} {t} {old} {new} no-ground R room L =
-    let load : Loads letters k m text t₀ (given (classCount letters k m)) t = record { answers = rw no-ground; leaves = R .leaves } in
-    let answer = outcome (listingGround letters k m t (length old)) (length (listing letters k m t)) in
-    let list : Lists letters k m t old answer new = record { answers = refl; leaves = L .leaves } in
-    let (given-all, same) = lists-what-was-loaded letters k m text load room list in
+    let load : Loads letters k m text t₀ (given (classCount letters k m)) t = record { answers = rw no-ground; leaves = R .promised .leaves } in
+    let (given-all, same) = lists-what-was-loaded letters k m text load room (L .promised) in
     (L .returns ∙ ap returnedWithPlace given-all, same)

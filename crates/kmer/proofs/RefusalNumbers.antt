@@ -13,7 +13,7 @@ use Rattle.settings.proofs.FirstGround.{NumberIn, test-has, place-has, then-has
 use Rattle.encoding.specs.Calls.{wrongLength, foreignFrom, codeGround, readGround, mirrorGround}
 use Rattle.sequence.specs.Sequences.{sequenceGround}
 use Rattle.files.specs.File.{fileFault}
-use Rattle.files.specs.Scan.{tooLong}
+use Rattle.settings.specs.Limits.{tooLong}
 use Rattle.tally.specs.Table.{readyGround, clearGround, Call, add, withdraw, callFile, tableFull, tableLacks, lastGround}
 use Rattle.tally.proofs.RefusalNumbers.{clearNumbers, clear-numbers, callNumbers, ready-has, file-numbers}
 use Rattle.listing.specs.Listing.{listing, listingGround}
@@ -58,7 +58,7 @@ pub sequence-numbers : (letters : List ℕ) (k m : ℕ) (sequence : List ℕ) (r
     → RefusedOnlyBy (1 ∷ 2 ∷ 4 ∷ 6 ∷ 7 ∷ []) (sequenceGround letters k m sequence room)
 unfolding isIn sequenceGround
 sequence-numbers letters k m sequence room =
-    sizes-has (NumberIn (1 ∷ 2 ∷ 4 ∷ 6 ∷ 7 ∷ [])) letters k m (ltb 16777216 (length sequence)) room (length (windows k sequence)) refl refl refl refl
+    sizes-has (NumberIn (1 ∷ 2 ∷ 4 ∷ 6 ∷ 7 ∷ [])) letters k m (tooLong sequence) room (length (windows k sequence)) refl refl refl refl
     (λ _ _ _ _. refl)
 
 -- The number of a call's last ground.

@@ -17,7 +17,7 @@ use Rattle.settings.proofs.SettingsGrounds.{good-settings}
 use Rattle.settings.proofs.FirstGround.{PlaceUpTo, Small, test-small, place-small, then-small, room-small, settings-small, sizes-has}
 use Rattle.encoding.specs.Calls.{hereOr, foreignFrom, wrongLength, mirrorGround}
 use Rattle.sequence.specs.Sequences.{sequenceGround}
-use Rattle.files.specs.Scan.{tooLong}
+use Rattle.settings.specs.Limits.{tooLong}
 use Rattle.tally.specs.Table.{classCount, tooMany, clearGround}
 use Rattle.testload.specs.TestLoad.{generateGround}
 
@@ -59,9 +59,9 @@ sizes-small letters k m large room needed fits =
     (λ passed few p e. omega (arith, room-small room needed p e, fits passed few))
 
 pub sequence-small : (letters : List ℕ) (k m : ℕ) (sequence : List ℕ) (room : ℕ) → Small 16777216 (sequenceGround letters k m sequence room)
-unfolding sequenceGround
+unfolding sequenceGround tooLong
 sequence-small letters k m sequence room =
-    sizes-small letters k m (ltb 16777216 (length sequence)) room (length (windows k sequence))
+    sizes-small letters k m (tooLong sequence) room (length (windows k sequence))
     (λ passed short.
     let some-k = good-settings letters k m passed .some-k in
     omega (arith, length-windows k some-k sequence, not-too-large (length sequence) short))

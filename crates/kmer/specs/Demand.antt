@@ -86,7 +86,7 @@ pub record AsTableCalls (letters : List ℕ) (k mirror : ℕ) (t t′ : List ℕ
 pub record DemandThreeFromC (letters : List ℕ) (k mirror : ℕ) (t₀ t t′ : List ℕ) (asked : List Asked) (told : List Told) : Type 0 where
   pub as-calls : AsTableCalls letters k mirror t t′ asked told
   pub each-call-told-what-the-book-did : told ≡ bookTold letters k mirror clearedBook asked
-  pub demand-three : DemandThree letters k mirror t₀ (tableCalls asked) (withRoom asked (as-calls .answers)) t′
+  pub demand-three : DemandThree letters k mirror t₀ t (tableCalls asked) (withRoom asked (as-calls .answers)) t′
 
 -- The same of such a list from any table t that agrees with a book.
 pub record KeptFromC (letters : List ℕ) (k mirror : ℕ) (book : Book) (t t′ : List ℕ) (asked : List Asked) (told : List Told) : Type 0 where

@@ -5,12 +5,16 @@ use mathlib.Core.Option.{Option}
 use mathlib.Core.List.{List}
 use Prim.Native.Nat.{ℕ}
 use lib.ListN.{length}
-use Rattle.settings.specs.Grounds.{Ground, groundAt, tooShort, outcome, unlessRefused, overwritten, _orElse_}
+use Rattle.settings.specs.Grounds.{Ground, Outcome, groundAt, tooShort, outcome, unlessRefused, overwritten, _orElse_}
 use Rattle.settings.specs.Settings.{rankIn}
 use Rattle.files.specs.File.{File, fileFault, fileNumbers}
-use Rattle.tally.specs.Table.{readyGround, Call, add, withdraw, callFile, lastGround, tableAfter}
-use Rattle.returned.specs.Returned.{returnedWithPlace}
+use Rattle.tally.specs.Table.{Clears, readyGround, Call, add, withdraw, callFile, lastGround, tableAfter}
+use Rattle.returned.specs.Returned.{returnedWithPlace, Returns}
 use Rattle.returned.specs.FileNumbers.{fiveNumbers}
+
+-- The contract of `kmer_clear`.
+abbrev pub ClearsInto : (letters : List ℕ) (k mirror : ℕ) (t : List ℕ) (r : ℕ) (t′ : List ℕ) → Type 0
+ClearsInto letters k m t r t′ = Returns returnedWithPlace (λ (answer : Outcome ℕ). Clears letters k m t answer t′) r
 
 -- "the table before others": the 7 of the list for the answer comes after that of the table, then the grounds of the file's kind, then 12 for an add and 18
 -- for a withdrawal.

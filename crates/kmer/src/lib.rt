@@ -1,20 +1,17 @@
 // The calls for C programs (include/kmer.h): word coding, code reading, mirroring, codes along a sequence, the table, its listing and loading one, and test
 // loads, on numbers and slices.
 ghost use mathlib.Core.Path.{_≡_};
-ghost use lib.ListN.{length, replicate};
-ghost use Rattle.tally.specs.Table.{classCount, clearGround};
 ghost use Rattle.files.specs.File.{fileOf};
 ghost use Rattle.counts.specs.Calls.{callOf};
 ghost use Rattle.returned.specs.FileNumbers.{kindOfNumber};
-ghost use Rattle.kmer.specs.FileCalls.{CallsInto, AddsInto, WithdrawsInto};
-ghost use Rattle.encoding.specs.Calls.{coding, readGround, wordBytes, mirrorGround, mirrorBytes};
-ghost use Rattle.returned.specs.Returned.{returned, returnedWithPlace, ReturnsPlaces};
-ghost use Rattle.listing.specs.Listing.{listing, listingGround};
-ghost use Rattle.kmer.specs.Loads.{LoadsInto};
+ghost use Rattle.kmer.specs.FileCalls.{ClearsInto, CallsInto, AddsInto, WithdrawsInto};
+ghost use Rattle.encoding.specs.Calls.{coding};
+ghost use Rattle.words.specs.Answers.{WritesWord, WritesMirror};
+ghost use Rattle.returned.specs.Returned.{returned, returnedWithPlace, Returns};
+ghost use Rattle.kmer.specs.Loads.{LoadsInto, ListsInto};
 ghost use Rattle.laws.specs.Text.{bytes};
-ghost use Rattle.laws.specs.Windows.{windows};
-ghost use Rattle.sequence.specs.Sequences.{sequenceGround, sequenceCodes};
-ghost use Rattle.testload.specs.TestLoad.{testLoad, generateGround};
+ghost use Rattle.sequence.specs.Sequences.{FillsCodes};
+ghost use Rattle.testload.specs.TestLoad.{testLoad, Generates};
 use counts::Way;
 use fasta::Answer;
 use files::Kind;
@@ -38,9 +35,7 @@ pub extern "C" fn kmer_code(letters: &[u8], k: usize, mirror: u64, word: &[u8]) 
 // The canonical word of a code.
 #[no_mangle]
 pub extern "C" fn kmer_word(letters: &[u8], k: usize, mirror: u64, code: u64, out: &mut [u8]) -> u64
-    ensures { λ r.
-        ⌜ ReturnsPlaces returned (readGround (now (letters .entry)) k mirror code (length (now (out .entry)))) k
-        (wordBytes (now (letters .entry)) k mirror code) (now (out .entry)) r (now (out .exit)) ⌝ }
+    ensures { λ r. ⌜ Returns returned (λ answer. WritesWord (now (letters .entry)) k mirror code (now (out .entry)) answer (now (out .exit))) r ⌝ }
 {
     match words::word_of(letters, k, mirror, Code(code), out) {
         Filling::Filled(n) => n as u64,
@@ -57,9 +52,7 @@ pub extern "C" fn kmer_mirror(
     word: &[u8],
     out: &mut [u8],
 ) -> u64
-    ensures { λ r.
-        ⌜ ReturnsPlaces returnedWithPlace (mirrorGround (now (letters .entry)) k mirror (now (word .entry)) (length (now (out .entry)))) k
-        (mirrorBytes (now (letters .entry)) mirror (now (word .entry))) (now (out .entry)) r (now (out .exit)) ⌝ }
+    ensures { λ r. ⌜ Returns returnedWithPlace (λ answer. WritesMirror (now (letters .entry)) k mirror (now (word .entry)) (now (out .entry)) answer (now (out .exit))) r ⌝ }
 {
     returned::with_place(words::mirror_of(letters, k, mirror, word, out))
 }
@@ -73,10 +66,7 @@ pub extern "C" fn kmer_codes(
     sequence: &[u8],
     codes: &mut [u64],
 ) -> u64
-    ensures { λ r.
-        ⌜ ReturnsPlaces returnedWithPlace (sequenceGround (now (letters .entry)) k mirror (now (sequence .entry)) (length (now (codes .entry))))
-        (length (windows k (now (sequence .entry)))) (sequenceCodes (now (letters .entry)) k mirror (now (sequence .entry)))
-        (now (codes .entry)) r (now (codes .exit)) ⌝ }
+    ensures { λ r. ⌜ Returns returnedWithPlace (λ answer. FillsCodes (now (letters .entry)) k mirror (now (sequence .entry)) (now (codes .entry)) answer (now (codes .exit))) r ⌝ }
 {
     returned::with_place(sequence::codes(letters, k, mirror, sequence, codes))
 }
@@ -84,9 +74,7 @@ pub extern "C" fn kmer_codes(
 // The same for ACGT under complement, by two-bit numbers.
 #[no_mangle]
 pub extern "C" fn kmer_codes_two_bit(k: usize, sequence: &[u8], codes: &mut [u64]) -> u64
-    ensures { λ r.
-        ⌜ ReturnsPlaces returnedWithPlace (sequenceGround (bytes "ACGT") k 1 (now (sequence .entry)) (length (now (codes .entry))))
-        (length (windows k (now (sequence .entry)))) (sequenceCodes (bytes "ACGT") k 1 (now (sequence .entry))) (now (codes .entry)) r (now (codes .exit)) ⌝ }
+    ensures { λ r. ⌜ Returns returnedWithPlace (λ answer. FillsCodes (bytes "ACGT") k 1 (now (sequence .entry)) (now (codes .entry)) answer (now (codes .exit))) r ⌝ }
 {
     returned::with_place(sequence::codes_two_bit(k, sequence, codes))
 }
@@ -95,9 +83,7 @@ pub extern "C" fn kmer_codes_two_bit(k: usize, sequence: &[u8], codes: &mut [u64
 #[no_mangle]
 pub extern "C" fn kmer_clear(letters: &[u8], k: usize, mirror: u64, table: &mut [u32]) -> u64
     ensures { λ r.
-        ⌜ ReturnsPlaces returnedWithPlace (clearGround (now (letters .entry)) k mirror (length (now (table .entry))))
-        (classCount (now (letters .entry)) k mirror) (replicate (classCount (now (letters .entry)) k mirror) 0)
-        (now (table .entry)) r (now (table .exit)) ⌝ }
+        ⌜ ClearsInto (now (letters .entry)) k mirror (now (table .entry)) r (now (table .exit)) ⌝ }
 {
     returned::with_place(table::clear(letters, k, mirror, table))
 }
@@ -197,10 +183,7 @@ pub extern "C" fn kmer_listing(
     table: &[u32],
     text: &mut [u8],
 ) -> u64
-    ensures { λ r.
-        ⌜ ReturnsPlaces returnedWithPlace (listingGround (now (letters .entry)) k mirror (now (table .entry)) (length (now (text .entry))))
-        (length (listing (now (letters .entry)) k mirror (now (table .entry)))) (listing (now (letters .entry)) k mirror (now (table .entry)))
-        (now (text .entry)) r (now (text .exit)) ⌝ }
+    ensures { λ r. ⌜ ListsInto (now (letters .entry)) k mirror (now (table .entry)) (now (text .entry)) r (now (text .exit)) ⌝ }
 {
     returned::with_place(listing::list(letters, k, mirror, table, text))
 }
@@ -231,15 +214,11 @@ pub extern "C" fn kmer_generate(
     mirror: u64,
     start: u64,
     records: usize,
-    each: usize,
+    letters_each: usize,
     out: &mut [u8],
 ) -> u64
-    ensures { λ r.
-        ⌜ ReturnsPlaces returnedWithPlace
-        (generateGround (now (letters .entry)) k mirror (testLoad (now (letters .entry)) start records each) (length (now (out .entry))))
-        (length (testLoad (now (letters .entry)) start records each)) (testLoad (now (letters .entry)) start records each)
-        (now (out .entry)) r (now (out .exit)) ⌝ }
+    ensures { λ r. ⌜ Returns returnedWithPlace (λ answer. Generates (now (letters .entry)) k mirror (testLoad (now (letters .entry)) start records «letters_each») (now (out .entry)) answer (now (out .exit))) r ⌝ }
 {
-    let answer = generator::generate(letters, k, mirror, start, records, each, out);
+    let answer = generator::generate(letters, k, mirror, start, records, letters_each, out);
     returned::with_place(answer)
 }

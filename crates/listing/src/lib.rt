@@ -189,7 +189,7 @@ pub fn list(letters: &[u8], k: usize, mirror: u64, table: &[u32], text: &mut [u8
     match settings::check(letters, k, mirror) {
         Checked::Bad(f) => Filling::Unfilled(f),
         Checked::Good(st) => {
-            if st.classes > 16777216 {
+            if st.classes > settings::MOST_CLASSES {
                 return Filling::Unfilled(Refusal::TooLarge);
             }
             let classes = st.classes as usize;

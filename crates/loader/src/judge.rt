@@ -84,7 +84,7 @@ fn judge_class(
     if n == 0 {
         return Step::Fault(Refusal::BadCount(at));
     }
-    if n > 4294967295 {
+    if n > settings::HIGHEST_COUNT {
         return Step::Fault(Refusal::BadCount(at));
     }
     let found = word_in(letters, ranks, k, mirror, line);

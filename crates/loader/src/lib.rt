@@ -115,7 +115,7 @@ pub fn load(letters: &[u8], k: usize, mirror: u64, table: &mut [u32], text: &[u8
     match settings::check(letters, k, mirror) {
         Checked::Bad(f) => Filling::Unfilled(f),
         Checked::Good(st) => {
-            if st.classes > 16777216 {
+            if st.classes > settings::MOST_CLASSES {
                 return Filling::Unfilled(Refusal::TooLarge);
             }
             let classes = st.classes as usize;

@@ -8,6 +8,7 @@ use lib.ListN.{length, drop, getD, set, replicate}
 use lib.Dec.{leb}
 use Rattle.settings.specs.Grounds.{Ground, Outcome, groundAt, _orElse_, Overwrites}
 use Rattle.settings.specs.Settings.{mirrorOf}
+use Rattle.settings.specs.Limits.{highestCount}
 use Rattle.encoding.specs.Words.{canonical}
 use Rattle.encoding.specs.Calls.{ranksOf}
 use Rattle.lines.specs.Lines.{lines}
@@ -43,7 +44,7 @@ countIn k l = spelt 0 (digitsIn k l)
 -- the last line of a class, 0 where there is none.
 unfoldable pub goodCount : (letters : List ℕ) (k mirror low : ℕ) → List ℕ → Bool
 goodCount letters k m low l =
-    canonicalIn letters k m l && (leb low (codeIn letters k m l) && (leb 1 (countIn k l) && leb (countIn k l) 4294967295))
+    canonicalIn letters k m l && (leb low (codeIn letters k m l) && (leb 1 (countIn k l) && leb (countIn k l) highestCount))
 
 -- ---- the lines one after the other
 

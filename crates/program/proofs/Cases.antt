@@ -15,7 +15,7 @@ use Rattle.encoding.specs.Calls.{inCapitals, wordBytes}
 use Rattle.fasta.specs.Items.{recordsIn, lettersIn, oneIfForeign, foreignIn, marks, onFirst, runs, edge, edgesOf, windowsOf}
 use Rattle.fasta.specs.File.{isLetter, lfNext, lineItem, item, next, itemsFrom, faultFrom}
 use Rattle.fastq.specs.Fastq.{isThere, unlessAt, firstFailing, isQuality, recordFault, fastqFault}
-use Rattle.files.specs.Scan.{tooLong}
+use Rattle.settings.specs.Limits.{tooLong}
 use Rattle.tally.specs.Table.{windowsOfFile, change, changes, oneMore, full, tooMany, readyGround, callGround}
 use Rattle.tally.specs.Demand.{sum}
 use Rattle.texts.specs.Decimals.{decimalFrom, decimal}

@@ -132,7 +132,7 @@ pub fn run(input: &[u8], out: &mut [u8]) -> usize
     if 65536 < input.len() {
         return put_refused(out, Refusal::LongInput);
     }
-    match survey::read_line(input) {
+    match survey_reader::read_line(input) {
         Head::NoSurvey => put_refused(out, Refusal::NoSurveyLine),
         Head::OtherOrder => put_refused(out, Refusal::FormOrder),
         Head::Survey {

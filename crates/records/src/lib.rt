@@ -148,7 +148,7 @@ impl<'a> Reader<'a> {
 }
 
 // Where a reader of the file starts.
-fn start_of(file: &[u8]) -> usize
+fn first_offset(file: &[u8]) -> usize
     ensures { λ r. ⌜ r ≡ 0 ⌝ }
 {
     Reader::new(file).at
@@ -173,7 +173,7 @@ pub fn moved_from(file: &[u8], at: usize) -> usize
 pub fn record_number(file: &[u8], n: usize) -> Found
     ensures { λ r. ⌜ ofFound r ≡ recordNumber (now (file .entry)) n ⌝ }
 {
-    let mut at = start_of(file);
+    let mut at = first_offset(file);
     let mut i = 0;
     while i < n {
         let moved = moved_from(file, at);

@@ -1,6 +1,6 @@
--- What the calls that return P rest on: the number of a refusal is small, and a P of grounds that are small fits beside it; and the answer and buffer of such a
--- call, from those of the call below it. From the definitions of the refusals' numbers.
-use mathlib.Core.Path.{_≡_, refl, ap, _∙_, subst⁻¹}
+-- What the calls that return P rest on: the number of a refusal is small, and a P of grounds that are small fits beside it. From the
+-- definitions of the refusals' numbers.
+use mathlib.Core.Path.{_≡_, refl, subst⁻¹}
 use mathlib.Core.Option.{Option, none, some}
 use mathlib.Core.List.{List}
 use Prim.Native.Nat.{ℕ, _^_, _<_, _≤_}
@@ -10,11 +10,10 @@ use Rattle.settings.specs.declared.Refusal.the-variants.{BadLetters, BadMirror,
 use Rattle.settings.specs.Grounds.{Ground, Outcome, refused, groundOf, outcome, Overwrites}
 use Rattle.settings.proofs.Outcomes.{refused-is}
 use Rattle.settings.proofs.FirstGround.{Small}
-use Rattle.returned.specs.Returned.{ReturnsPlaces}
 use Rattle.returned.specs.Needs.{PlaceFits}
 
--- No number of a refusal is above 22.
-pub number-small : (f : Refusal) → groundOf f .0 ≤ 22
+-- The number of a refusal fits the lowest byte of what a call returns.
+pub number-small : (f : Refusal) → groundOf f .0 ≤ 255
 number-small BadLetters = omega arith
 number-small BadMirror = omega arith
 number-small BadK = omega arith
@@ -46,10 +45,6 @@ refused-fits f a g n small h e = omega (arith, small (groundOf f) (refused-is (g
 
 -- From a call below that overwrote the buffer and answered a.
 module _ {g : Option Ground} {count : ℕ} {places old new : List ℕ} {a : Outcome ℕ} (W : Overwrites g count places old a new) where
-  -- The answer as one number, and the buffer as the call below left it.
-  pub returns-answer : (number : Outcome ℕ → ℕ) (x : ℕ) → x ≡ number a → ReturnsPlaces number g count places old x new
-  returns-answer number x h = record { returns = h ∙ ap number (W .answers); leaves = W .leaves }
-
   -- The P of its refusal fits, where the P of each ground is at most n.
   pub place-fits : (n : ℕ) → Small n g → n < 2 ^ 32 → PlaceFits a
   place-fits n small h = subst⁻¹ PlaceFits (W .answers) (go g small)

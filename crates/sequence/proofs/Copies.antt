@@ -7,8 +7,8 @@ use Prim.Native.Nat.{ℕ}
 use lib.ListN.{length, length-map}
 use Rattle.laws.specs.Windows.{windows}
 use Rattle.laws.proofs.Windows.{windows-mapped}
-use Rattle.settings.specs.declared.Filling.{Filling}
-use Rattle.settings.specs.Grounds.{ofFilling}
+use Rattle.settings.specs.Grounds.{Outcome}
+use Rattle.settings.specs.Limits.{tooLong}
 use Rattle.settings.specs.Settings.{readsUAsT}
 use Rattle.settings.specs.Copies.{tForU, CopyWithT}
 use Rattle.settings.proofs.Copies.{same-rank, same-of-copies, same-length}
@@ -32,7 +32,7 @@ module _ (letters : List ℕ) (reads : readsUAsT letters ≡ true) (k m : ℕ) w
     same-count = same-of-copies (λ (l : List ℕ). length (windows k l)) (λ l. rw (windows-mapped tForU k l) (length-map (windows k l) (map tForU))) C
 
     same-ground : (room : ℕ) → sequenceGround letters k m sequence room ≡ sequenceGround letters k m copy room
-    unfolding sequenceGround
+    unfolding sequenceGround tooLong
     same-ground room = rw (same-count, same-length C)
 
     same-codes : sequenceCodes letters k m sequence ≡ sequenceCodes letters k m copy
@@ -42,8 +42,8 @@ module _ (letters : List ℕ) (reads : readsUAsT letters ≡ true) (k m : ℕ) w
         (λ l. ap (map (codeOrNone letters k m)) (windows-mapped tForU k l) ∙ codes-copied (windows k l)) C
 
     -- Two calls with the same lent list, one along the sequence and one along the copy, refused or not: the same answer, and the same list left.
-    pub same-sequence : (r r′ : Filling) {old new new′ : List ℕ} → FillsCodes letters k m sequence old r new → FillsCodes letters k m copy old r′ new′
-        → (ofFilling r ≡ ofFilling r′) × (new ≡ new′)
+    pub same-sequence : (r r′ : Outcome ℕ) {old new new′ : List ℕ} → FillsCodes letters k m sequence old r new → FillsCodes letters k m copy old r′ new′
+        → (r ≡ r′) × (new ≡ new′)
     same-sequence r r′ {old} F G = (
       F .answers ∙ rw (same-ground (length old), same-count) (sym (G .answers)),
       F .leaves ∙ rw (same-ground (length old), same-codes) (sym (G .leaves)),

@@ -1,5 +1,5 @@
 -- A sequence in batches: the ranks of a batch in the first places of an array, its numbers, and how the numbers of the batches follow each other.
--- From the windows of the first letters and of the later ones (kernels' `windows-take`, `windows-drop`).
+-- From the windows of the first letters and of the later ones (`windows-take`, `windows-drop` of the crate windows).
 use mathlib.Core.Path.{_≡_, refl, sym, ap, _∙_}
 use mathlib.Core.List.{List, [], _++_, map, append-nil}
 use mathlib.Core.Bool.{Bool, true}

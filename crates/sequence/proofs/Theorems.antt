@@ -17,8 +17,7 @@ use Rattle.encoding.specs.Calls.{ranksOf}
 use Rattle.encoding.proofs.ClassNumbers.{classes-le}
 use Rattle.encoding.proofs.Codes.{code-below}
 use Rattle.words.proofs.LetterLoops.{ranks-below, length-ranksOf}
-use Rattle.settings.specs.declared.Filling.{Filling}
-use Rattle.settings.specs.Grounds.{ofFilling}
+use Rattle.settings.specs.Grounds.{Outcome}
 use Rattle.laws.specs.Windows.{windows}
 use Rattle.windows.specs.Windows.{windowCodes}
 use Rattle.sequence.specs.Sequences.{noCode, allLetters, codeOrNone, sequenceCodes, FillsCodes}
@@ -71,8 +70,8 @@ pieces-codes s m k some-k a run h =
 
 -- A call of the general path with ACGT, k and mirror 1 and one of the two-bit path with k, on the same sequence and the same list: they answer the
 -- same number or the same refusal, and leave the same list.
-pub paths-agree : (k : ℕ) (sequence old : List ℕ) (general two-bit : Filling) (list list′ : List ℕ)
+pub paths-agree : (k : ℕ) (sequence old : List ℕ) (general two-bit : Outcome ℕ) (list list′ : List ℕ)
     → FillsCodes (bytes "ACGT") k 1 sequence old general list
     → FillsCodes (bytes "ACGT") k 1 sequence old two-bit list′
-    → (ofFilling general ≡ ofFilling two-bit) × (list ≡ list′)
+    → (general ≡ two-bit) × (list ≡ list′)
 paths-agree k sequence old general two-bit list list′ g t = (g .answers ∙ sym (t .answers), g .leaves ∙ sym (t .leaves))

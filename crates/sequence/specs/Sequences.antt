@@ -5,9 +5,9 @@ use mathlib.Core.Option.{Option, none, some}
 use mathlib.Core.List.{List, [], _∷_, map}
 use lib.ListN.{length}
 use lib.Dec.{ltb}
-use Rattle.settings.specs.declared.Filling.{Filling}
-use Rattle.settings.specs.Grounds.{Ground, ground, groundAt, tooShort, _orElse_, ofFilling, Overwrites}
+use Rattle.settings.specs.Grounds.{Ground, Outcome, ground, groundAt, tooShort, _orElse_, Overwrites}
 use Rattle.settings.specs.Settings.{rankIn, mirrorOf, settingsGround}
+use Rattle.settings.specs.Limits.{tooLong}
 use Rattle.encoding.specs.Codes.{code}
 use Rattle.encoding.specs.Calls.{ranksOf}
 use Rattle.laws.specs.Windows.{windows}
@@ -37,11 +37,11 @@ sequenceCodes letters k m sequence = map (codeOrNone letters k m) (windows k seq
 unfoldable pub sequenceGround : (letters : List ℕ) (k mirror : ℕ) (sequence : List ℕ) (room : ℕ) → Option Ground
 sequenceGround letters k m sequence room =
     settingsGround letters k m
-    orElse ground 6 (ltb 16777216 (length sequence))
+    orElse ground 6 (tooLong sequence)
     orElse groundAt 7 (tooShort room (length (windows k sequence)))
 
 -- The contract of both paths: "the answer is how many were filled", and the lent list, of which "later places keep their numbers"; a refused call
 -- changes no place.
-abbrev pub FillsCodes : (letters : List ℕ) (k mirror : ℕ) (sequence old : List ℕ) → Filling → (new : List ℕ) → Type 0
-FillsCodes letters k m sequence old r new =
-    Overwrites (sequenceGround letters k m sequence (length old)) (length (windows k sequence)) (sequenceCodes letters k m sequence) old (ofFilling r) new
+abbrev pub FillsCodes : (letters : List ℕ) (k mirror : ℕ) (sequence old : List ℕ) (answer : Outcome ℕ) (new : List ℕ) → Type 0
+FillsCodes letters k m sequence old answer new =
+    Overwrites (sequenceGround letters k m sequence (length old)) (length (windows k sequence)) (sequenceCodes letters k m sequence) old answer new

@@ -15,7 +15,7 @@ ghost use Rattle.kernels.specs.Needs.{ReadyCoder};
 ghost use Rattle.sequence.specs.Needs.{codeBy};
 
 // Room for the ranks of a batch.
-fn no_ranks() -> [u8; 4096]
+fn rank_buffer() -> [u8; 4096]
     ensures { λ r. ⌜ length r ≡ 4096 ⌝ }
 {
     [0u8; 4096]
@@ -39,7 +39,7 @@ fn fill_batch(
         (now (out .entry)) (now (out .exit)) ⌝ }
 {
     let n = bytes.len();
-    let mut ranks = no_ranks();
+    let mut ranks = rank_buffer();
     let all_letters = read_ranks(bytes, table, &mut ranks[..n]);
     fill_codes(&ranks[..n], c, powers, mirrors, out);
     if all_letters {

@@ -12,6 +12,7 @@ ghost use mathlib.Core.Path.{_≡_};
 ghost use mathlib.Core.Option.{none};
 ghost use lib.ListN.{length};
 ghost use Rattle.laws.specs.Text.{bytes};
+ghost use Rattle.settings.specs.Grounds.{ofFilling};
 ghost use Rattle.settings.specs.Settings.{mirrorOf, settingsGround, settingsOf};
 ghost use Rattle.sequence.specs.Sequences.{FillsCodes};
 ghost use Rattle.kernels.specs.Needs.{Takes};
@@ -29,9 +30,9 @@ fn fill_checked(
     requires { ⌜ settingsGround (now letters) k mirror ≡ none ⌝ }
     requires { ⌜ st ≡ settingsOf (now letters) k mirror ⌝ }
     requires { ⌜ Takes kernel (length (now letters)) (mirrorOf mirror) ⌝ }
-    ensures { λ r. ⌜ FillsCodes (now (letters .entry)) k mirror (now (sequence .entry)) (now (list .entry)) r (now (list .exit)) ⌝ }
+    ensures { λ r. ⌜ FillsCodes (now (letters .entry)) k mirror (now (sequence .entry)) (now (list .entry)) (ofFilling r) (now (list .exit)) ⌝ }
 {
-    if sequence.len() > 16777216 {
+    if sequence.len() > settings::MOST_BYTES {
         return Filling::Unfilled(Refusal::TooLarge);
     }
     let needed = kernels::window_count(sequence.len(), k);
@@ -56,7 +57,7 @@ fn fill_list(
     list: &mut [u64],
 ) -> Filling
     requires { ⌜ Takes kernel (length (now letters)) (mirrorOf mirror) ⌝ }
-    ensures { λ r. ⌜ FillsCodes (now (letters .entry)) k mirror (now (sequence .entry)) (now (list .entry)) r (now (list .exit)) ⌝ }
+    ensures { λ r. ⌜ FillsCodes (now (letters .entry)) k mirror (now (sequence .entry)) (now (list .entry)) (ofFilling r) (now (list .exit)) ⌝ }
 {
     match settings::check(letters, k, mirror) {
         Checked::Good(st) => fill_checked(letters, k, mirror, st, kernel, sequence, list),
@@ -66,14 +67,14 @@ fn fill_list(
 
 // The general path: every alphabet and both mirrors.
 pub fn codes(letters: &[u8], k: usize, mirror: u64, sequence: &[u8], list: &mut [u64]) -> Filling
-    ensures { λ r. ⌜ FillsCodes (now (letters .entry)) k mirror (now (sequence .entry)) (now (list .entry)) r (now (list .exit)) ⌝ }
+    ensures { λ r. ⌜ FillsCodes (now (letters .entry)) k mirror (now (sequence .entry)) (now (list .entry)) (ofFilling r) (now (list .exit)) ⌝ }
 {
     fill_list(letters, k, mirror, Kernel::AnyAlphabet, sequence, list)
 }
 
 // The two-bit path: ACGT under complement.
 pub fn codes_two_bit(k: usize, sequence: &[u8], list: &mut [u64]) -> Filling
-    ensures { λ r. ⌜ FillsCodes (bytes "ACGT") k 1 (now (sequence .entry)) (now (list .entry)) r (now (list .exit)) ⌝ }
+    ensures { λ r. ⌜ FillsCodes (bytes "ACGT") k 1 (now (sequence .entry)) (now (list .entry)) (ofFilling r) (now (list .exit)) ⌝ }
 {
     fill_list(b"ACGT", k, 1, Kernel::TwoBit, sequence, list)
 }

@@ -14,6 +14,7 @@ use Rattle.settings.specs.declared.Checked.the-variants.{Good, Bad}
 use Rattle.settings.specs.declared.Rank.{Rank}
 use Rattle.settings.specs.declared.Rank.the-variants.{At, NoLetter}
 use Rattle.settings.specs.Grounds.{Ground, Outcome, given, refused, groundOf, ground, _orElse_}
+use Rattle.settings.specs.Limits.{mostWords}
 
 -- "capitals A to Z"
 unfoldable pub isCapital : ℕ → Bool
@@ -76,7 +77,7 @@ classes s Complement k = cond (isOdd k && not (isOdd s)) (s ^ k / 2) ((s ^ k + s
 
 -- Ground 4: "k is 0 or s^k above 2^62"
 unfoldable pub badSize : ℕ → ℕ → Bool
-badSize s k = eqb k 0 || ltb (2 ^ 62) (s ^ k)
+badSize s k = eqb k 0 || ltb mostWords (s ^ k)
 
 -- The first of the grounds 1, 2 and 4 that applies to the letters, k and the mirror's number. "Refusal 3 then never occurs" (document 02, K10).
 unfoldable pub settingsGround : List ℕ → ℕ → ℕ → Option Ground
@@ -91,7 +92,7 @@ RefusedOnlyBy numbers g = (f : Ground) → g ≡ some f → isIn (f .0) numbers 
 
 -- What later calls need of good settings with s letters: s, k, the mirror, s^k and the number of classes.
 abbrev pub settingsFor : ℕ → ℕ → Mirror → Settings
-settingsFor s k m = record { s = s; k = k; mirror = m; words = s ^ k; classes = classes s m k }
+settingsFor s k m = record { s = s; k = k; mirror = m; power = s ^ k; classes = classes s m k }
 
 -- The same of settings as a caller gives them.
 abbrev pub settingsOf : List ℕ → ℕ → ℕ → Settings

@@ -7,6 +7,18 @@ ghost use Rattle.settings.specs.Grounds.{groundOf, ground, outcome};
 ghost use Rattle.settings.specs.RankTables.{asRank, RankTable};
 ghost use Rattle.settings.specs.Settings.{classes, capitalOf, readsUAsT, readAs, rankIn, isIn, goodLetters, settingsGround, badSize, settingsFor, settingsOf, ofChecked, ofRank};
 
+// The limits of document 01: of s^k, of a sequence file's or a plain sequence's bytes, of a table's classes, and of a count.
+pub const MOST_WORDS: u64 = 4611686018427387904;
+
+pub const MOST_BYTES: usize = 16777216;
+
+pub const MOST_CLASSES: u64 = 16777216;
+
+pub const HIGHEST_COUNT: u64 = 4294967295;
+
+// What `power` answers for any number above the most.
+const MORE_WORDS: u64 = MOST_WORDS + 1;
+
 // What the other strand makes of a word: read backwards, or read backwards with each rank i replaced by s - 1 - i.
 pub enum Mirror {
     Reversal,
@@ -108,12 +120,12 @@ pub fn place_of(f: Refusal) -> u64
     }
 }
 
-// Settings to which no ground applies: the number of letters, k, the mirror, the number of words s^k and of classes.
+// Settings to which no ground applies: the number of letters, k, the mirror, the number of words, s^k, and of classes.
 pub struct Settings {
     pub s: u64,
     pub k: usize,
     pub mirror: Mirror,
-    pub words: u64,
+    pub power: u64,
     pub classes: u64,
 }
 
@@ -263,8 +275,8 @@ pub fn power(s: u64, k: usize) -> u64
     let mut p: u64 = 1;
     let mut i: usize = 0;
     while i < k {
-        if p > 4611686018427387904 / s {
-            return 4611686018427387905;
+        if p > MOST_WORDS / s {
+            return MORE_WORDS;
         }
         p *= s;
         i += 1;
@@ -308,7 +320,7 @@ fn sized(n: usize, k: usize, m: Mirror) -> Checked
     }
     let s = n as u64;
     let words = power(s, k);
-    if words > 4611686018427387904 {
+    if words > MOST_WORDS {
         return Checked::Bad(Refusal::BadK);
     }
     let classes = class_count(s, m, k);
@@ -316,7 +328,7 @@ fn sized(n: usize, k: usize, m: Mirror) -> Checked
         s,
         k,
         mirror: m,
-        words,
+        power: words,
         classes,
     })
 }

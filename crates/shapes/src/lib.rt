@@ -1,7 +1,7 @@
 // The shapes of a listing's lines (document 02, K7): whether a line is the survey line, the line of a class or the total by its shape, and the parts of such
 // lines: numbers, words. A line is lent with its LF, if it has one.
 use survey::Form;
-use survey::values;
+use survey_forms::values;
 ghost use mathlib.Core.Path.{_≡_};
 ghost use Prim.Native.Nat.{_≤_, min};
 ghost use Rattle.survey.specs.Grammar.{spelt};
@@ -187,7 +187,7 @@ fn classes_last(line: &[u8], first: Form, second: Form, third: Form) -> bool
     else {
         return false;
     };
-    if !survey::in_order(a, b, c) {
+    if !survey_reader::in_order(a, b, c) {
         return false;
     }
     let e = from + len;
@@ -201,8 +201,8 @@ pub fn is_survey_line(line: &[u8]) -> bool
     if !values::starts(line, 0, b"(survey ") {
         return false;
     }
-    let first = survey::form_at(line, 8);
-    let second = survey::next_form(line, first);
-    let third = survey::next_form(line, second);
+    let first = survey_forms::form_at(line, 8);
+    let second = survey_forms::next_form(line, first);
+    let third = survey_forms::next_form(line, second);
     classes_last(line, first, second, third)
 }

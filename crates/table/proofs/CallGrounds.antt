@@ -17,7 +17,7 @@ use Rattle.settings.proofs.Outcomes.{refused-on, refused-leaves, Passed, passed
 use Rattle.settings.proofs.SettingsGrounds.{Known, known}
 use Rattle.fasta.specs.declared.Numbers.{Numbers}
 use Rattle.files.specs.File.{File, startOf, fileFault, fileNumbers}
-use Rattle.files.specs.Scan.{tooLong}
+use Rattle.settings.specs.Limits.{tooLong}
 use Rattle.settings.specs.RankTables.{rankByTable, RankTable}
 use Rattle.fasta.proofs.Ranks.{numbers-by-table}
 use Rattle.tally.specs.Table.{classCount, tooMany, readyGround, callGround, clearGround, Call, callFile, lastGround, tableGround, tableAfter, Called, Clears}

@@ -22,7 +22,7 @@ ghost use Rattle.table.specs.Needs.{ClearsPlaces};
 fn clear_places(table: &mut [u32], classes: u64) -> Filling
     ensures { λ r. ⌜ ClearsPlaces classes (now (table .entry)) (ofFilling r) (now (table .exit)) ⌝ }
 {
-    if classes > 16777216 {
+    if classes > settings::MOST_CLASSES {
         return Filling::Unfilled(Refusal::TooLarge);
     }
     let n = classes as usize;
@@ -51,10 +51,10 @@ pub fn ready(letters: &[u8], k: usize, mirror: u64, room: usize, file: &[u8]) ->
     match settings::check(letters, k, mirror) {
         Checked::Bad(f) => Checked::Bad(f),
         Checked::Good(st) => {
-            if file.len() > 16777216 {
+            if file.len() > settings::MOST_BYTES {
                 return Checked::Bad(Refusal::TooLarge);
             }
-            if st.classes > 16777216 {
+            if st.classes > settings::MOST_CLASSES {
                 return Checked::Bad(Refusal::TooLarge);
             }
             let classes = st.classes as usize;

@@ -18,7 +18,7 @@ use Rattle.fasta.specs.File.{isLetter, lfNext, lineItem, item, next, itemsFrom,
 use Rattle.fastq.specs.Fastq.{isThere, unlessAt, firstFailing, isQuality, recordFault, fastqFault}
 use Rattle.files.specs.declared.Kind.the-variants.{Fasta, Fastq}
 use Rattle.files.specs.File.{File, fileOf}
-use Rattle.files.specs.Scan.{tooLong}
+use Rattle.settings.specs.Limits.{tooLong}
 use Rattle.tally.specs.Table.{windowsOfFile, change, changes, oneMore, oneLess, occurrences, places, full, tooMany, someBelow, readyGround, callGround, add, withdraw, tableGround}
 use Rattle.tally.specs.Book.{sameWord, sameClass, hits, withFront, allWords, canonicalOnes, clearedBook, tallies, someOf, bookAnswer, bookAfter, bookAnswers, bookAfterAll}
 

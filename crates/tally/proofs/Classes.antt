@@ -15,14 +15,13 @@ use Rattle.encoding.specs.WordsOfCodes.{wordOf}
 use Rattle.encoding.proofs.Codes.{is-canonical, canonical-low}
 use Rattle.encoding.proofs.Theorems.{code-below-classes, same-code, word-of-code, word-of-code-unique, canonical-is-one}
 use Rattle.files.specs.File.{File}
-use Rattle.tally.specs.Table.{classCount, placeOf, windowsOfFile, places}
+use Rattle.tally.specs.Table.{classCount, placeOf, windowsOfFile, places, occurrences}
 use Rattle.tally.specs.Book.{sameClass, hits, CanonicalWord}
 use Rattle.tally.specs.Demand.{OnePlaceAClass}
 use Rattle.laws.specs.Each.{Each}
 use Rattle.laws.proofs.Tests.{bool-ext}
 use Rattle.tally.specs.Needs.{Below}
 use Rattle.laws.proofs.Each.{each-map}
-use Rattle.tally.specs.Table.{occurrences}
 use Rattle.tally.proofs.WordLists.{class-same, same-class}
 use Rattle.tally.proofs.FileWords.{windows-are-words}
 

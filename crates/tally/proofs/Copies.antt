@@ -12,7 +12,7 @@ use Rattle.settings.specs.Settings.{readsUAsT}
 use Rattle.settings.proofs.Copies.{same-length}
 use Rattle.fasta.specs.declared.Numbers.{Numbers}
 use Rattle.files.specs.File.{File}
-use Rattle.files.specs.Scan.{tooLong}
+use Rattle.settings.specs.Limits.{tooLong}
 use Rattle.files.specs.Copies.{FileCopy}
 use Rattle.files.proofs.Copies.{same-file-fault, same-file-windows, same-file-numbers}
 use Rattle.tally.specs.Table.{windowsOfFile, readyGround, callGround, Call, callFile, lastGround, tableGround, tableAfter, Called}

@@ -21,7 +21,7 @@ use Rattle.tally.specs.Demand.Calls.{done, then}
 use Rattle.tally.proofs.Classes.{place-below, places-and-classes, canonical-word, canonical-place, hits-of-canonical}
 use Rattle.tally.proofs.Steps.{step}
 use Rattle.tally.proofs.TakenIn.{hits-append, all-windows-are-words, in-more, out-more, added-up}
-use Rattle.tally.proofs.Clearing.{settings-good, cleared-agrees, cleared-sum, cleared-later, cleared-length}
+use Rattle.tally.proofs.Clearing.{settings-good, cleared-agrees, cleared-sum, cleared-later}
 
 module _ (letters : List ℕ) (k m : ℕ) (good : settingsGround letters k m ≡ none) where
   -- A list of calls from any table, beside a book that agrees with it: each answer is the book's, each count is its class's tally, later places never
@@ -118,7 +118,7 @@ pub demand-three : (letters : List ℕ) (k m : ℕ) {t₀ t t′ : List ℕ} {cl
     → clearGround letters k m (length t₀) ≡ none
     → Clears letters k m t₀ cleared t
     → TableCalls letters k m t calls answers t′
-    → DemandThree letters k m t₀ calls answers t′
+    → DemandThree letters k m t₀ t calls answers t′
 demand-three letters k m {calls = calls} {answers = answers} no-ground clearing all =
     let good = settings-good letters k m _ no-ground in
     let A = cleared-agrees letters k m no-ground clearing in
@@ -129,16 +129,13 @@ demand-three letters k m {calls = calls} {answers = answers} no-ground clearing 
     let sum-is = K .sum-of-the-windows in
     let none-yet = cleared-sum letters k m no-ground clearing in
     record {
-      each-call-answered-what-the-book-did = K .each-call-answered-what-the-book-did;
-      each-count-equals-its-class's-tally = K .each-count-equals-its-class's-tally;
-      later-places-never-change = K .later-places-never-change ∙ cleared-later letters k m no-ground clearing;
-      as-many-places-as-before = K .as-many-places-as-before ∙ cleared-length letters k m no-ground clearing;
+      kept = K;
+      later-places-as-before-the-clearing = K .later-places-never-change ∙ cleared-later letters k m no-ground clearing;
       places-and-classes = places-and-classes letters k m good;
       each-count-is-added-less-withdrawn = λ w c.
           omega (arith, K .each-count-moved-by-the-windows w c, A .each-count-is-its-class's-tally w c);
       no-class-more-withdrawn-than-added = λ w c.
           omega (arith, K .each-count-moved-by-the-windows w c, A .each-count-is-its-class's-tally w c);
-      sum-of-the-windows = omega (arith, sum-is, none-yet);
       sum-of-the-counts = omega (arith, sum-is, none-yet, letters-in, letters-out);
       nothing-cut-off-in = omega (arith, letters-in);
       nothing-cut-off-out = omega (arith, letters-out);

@@ -7,7 +7,7 @@ use mathlib.Core.List.{List}
 use Rattle.settings.specs.Grounds.{ground}
 use Rattle.settings.specs.Settings.{settingsGround}
 use Rattle.settings.proofs.Outcomes.{first-none, later-none, nowhere-met, room-enough}
-use Rattle.files.specs.Scan.{tooLong}
+use Rattle.settings.specs.Limits.{tooLong}
 use Rattle.tally.specs.Table.{classCount, tooMany, readyGround}
 
 module _ (letters : List ℕ) (k m room : ℕ) (bytes : List ℕ) (ready : readyGround letters k m room bytes ≡ none) where

@@ -8,7 +8,7 @@ use Rattle.settings.specs.Grounds.{Ground, ground, _orElse_}
 use Rattle.settings.specs.Settings.{isIn, RefusedOnlyBy}
 use Rattle.settings.proofs.FirstGround.{Has, NumberIn, in-behind, test-has, then-has, sizes-has}
 use Rattle.files.specs.File.{File, fileFault}
-use Rattle.files.specs.Scan.{tooLong}
+use Rattle.settings.specs.Limits.{tooLong}
 use Rattle.files.specs.declared.Kind.{Kind}
 use Rattle.files.proofs.FaultNumbers.{faultNumbers, fault-numbers}
 use Rattle.tally.specs.Table.{classCount, tooMany, readyGround, callGround, clearGround}

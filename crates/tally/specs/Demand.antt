@@ -121,12 +121,11 @@ abbrev pub NotCutOff : (letters : List ℕ) (k : ℕ) (files : List File) → Ty
 NotCutOff letters k files =
     addedUp (foreignOf letters k) files + addedUp (edgeOf letters k) files ≤ addedUp (lettersOf letters k) files
 
--- Demand 3 for a list of calls from a cleared table: t₀ is the table before the clearing, t the one that the list left.
-pub record DemandThree (letters : List ℕ) (k mirror : ℕ) (t₀ : List ℕ) (calls : List Call) (answers : List (Outcome Numbers)) (t : List ℕ) : Type 0 where
-  pub each-call-answered-what-the-book-did : answers ≡ bookAnswers letters k mirror clearedBook calls
-  pub each-count-equals-its-class's-tally : Agrees letters k mirror t (bookAfterAll letters k mirror clearedBook calls)
-  pub later-places-never-change : drop (classCount letters k mirror) t ≡ drop (classCount letters k mirror) t₀
-  pub as-many-places-as-before : length t ≡ length t₀
+-- Demand 3 for a list of calls from a cleared table: t₀ is the table before the clearing, cleared the one that it left, t the one that the list left. `Kept` says
+-- what holds from any table that agrees with a book, here the cleared ones; the other fields what it comes to from counts that are 0.
+pub record DemandThree (letters : List ℕ) (k mirror : ℕ) (t₀ cleared : List ℕ) (calls : List Call) (answers : List (Outcome Numbers)) (t : List ℕ) : Type 0 where
+  pub kept : Kept letters k mirror clearedBook cleared calls answers t
+  pub later-places-as-before-the-clearing : drop (classCount letters k mirror) t ≡ drop (classCount letters k mirror) t₀
   pub places-and-classes : OnePlaceAClass letters k mirror
   -- "each class's count is its windows added less its windows withdrawn, over the calls accepted"; the next field says that nothing is cut off
   pub each-count-is-added-less-withdrawn : (w : List ℕ) → CanonicalWord (length letters) (mirrorOf mirror) k w
@@ -136,9 +135,6 @@ pub record DemandThree (letters : List ℕ) (k mirror : ℕ) (t₀ : List ℕ) (
   pub no-class-more-withdrawn-than-added : (w : List ℕ) → CanonicalWord (length letters) (mirrorOf mirror) k w
       → fileHits letters k mirror w (takenOut calls answers)
       ≤ fileHits letters k mirror w (takenIn calls answers)
-  pub sum-of-the-windows :
-      sum (counts letters k mirror t) + length (windowsOfFiles letters k (takenOut calls answers))
-      ≡ length (windowsOfFiles letters k (takenIn calls answers))
   -- "sum of the counts = letters − foreign letters − edge letters, each added up over the files taken in", less the same of those taken out. The
   -- last three fields say that no subtraction is cut off.
   pub sum-of-the-counts :

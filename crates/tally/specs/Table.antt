@@ -12,7 +12,7 @@ use Rattle.settings.specs.Settings.{rankIn, mirrorOf, classes, settingsGround}
 use Rattle.encoding.specs.Codes.{code}
 use Rattle.fasta.specs.declared.Numbers.{Numbers}
 use Rattle.files.specs.File.{File, fileFault, fileWindows, fileNumbers}
-use Rattle.files.specs.Scan.{tooLong}
+use Rattle.settings.specs.Limits.{tooLong, mostClasses, highestCount}
 
 -- ---- what the settings say of a table
 
@@ -63,7 +63,7 @@ places letters k m file = map (placeOf letters k m) (windowsOfFile letters k fil
 -- classes and n the number of windows, which is at most 16,777,216 where this is asked, since ground 6 comes first.
 unfoldable pub full : ℕ → List ℕ → Bool
 full n [] = false
-full n (c ∷ cs) = ltb (4294967295 - n) c || full n cs
+full n (c ∷ cs) = ltb (highestCount - n) c || full n cs
 
 -- Whether some number below n passes a test.
 unfoldable pub someBelow : (n : ℕ) → (ℕ → Bool) → Bool
@@ -76,7 +76,7 @@ lacks counts places = someBelow (length counts) (λ (q : ℕ). ltb (getD counts 
 
 -- 6: "in table calls, classes above 16,777,216"
 unfoldable pub tooMany : (classes : ℕ) → Bool
-tooMany n = ltb 16777216 n
+tooMany n = ltb mostClasses n
 
 -- The grounds for refusing an add or a withdrawal before its file is read, whatever its kind: 1, 2 and 4; 6, of the file's bytes or of the classes; 7, the
 -- table's room being shorter than the classes.

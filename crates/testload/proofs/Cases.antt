@@ -8,7 +8,7 @@ use Rattle.laws.specs.Text.{bytes}
 use Rattle.settings.specs.Settings.{isCapital, isIn, differentCapitals, goodLetters, badSize, settingsGround}
 use Rattle.encoding.specs.Calls.{inCapitals}
 use Rattle.texts.specs.Decimals.{decimalFrom, decimal}
-use Rattle.files.specs.Scan.{tooLong}
+use Rattle.settings.specs.Limits.{tooLong}
 use Rattle.testload.specs.TestLoad.{stepped, drawnRank, drawn, stateAfter, inLines, drawnLetters, recordText, recordsFrom, testLoad, generateGround}
 
 -- The test load. A case that unfolds it computes with all that its `unfolding` line names.

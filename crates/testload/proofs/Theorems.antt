@@ -25,7 +25,8 @@ use Rattle.fasta.specs.declared.Mode.the-variants.{Start, Header}
 use Rattle.fasta.specs.File.{item, next, itemsFrom, faultFrom}
 use Rattle.fasta.specs.Items.{recordsIn, lettersIn, foreignIn, oneIfForeign, marks, runs, edge, edgesOf, windowsOf}
 use Rattle.files.specs.File.{fileFault, fileNumbers, fileWindows, items}
-use Rattle.files.specs.Scan.{tooLong, scanGround}
+use Rattle.settings.specs.Limits.{tooLong}
+use Rattle.files.specs.Scan.{scanGround}
 use Rattle.tally.specs.Table.{readyGround, callGround, tableGround, tableFull, add}
 use Rattle.testload.specs.TestLoad.{drawn, stateAfter, recordText, recordsFrom, testLoad, generateGround}
 use Rattle.testload.specs.Claims.{loadFile, loadNumbers, drawnRecords}

@@ -10,7 +10,7 @@ use Rattle.settings.specs.Grounds.{Ground, Outcome, ground, groundAt, tooShort,
 use Rattle.settings.specs.Settings.{settingsGround}
 use Rattle.encoding.specs.Calls.{inCapitals}
 use Rattle.texts.specs.Decimals.{decimal}
-use Rattle.files.specs.Scan.{tooLong}
+use Rattle.settings.specs.Limits.{tooLong}
 
 -- "Each letter first steps the state: times 6364136223846793005 plus 1442695040888963407, modulo 2^64."
 unfoldable pub stepped : ℕ → ℕ

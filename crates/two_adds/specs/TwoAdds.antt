@@ -21,4 +21,4 @@ pub record AddsTwo (letters : List ℕ) (k mirror : ℕ) (t₀ : List ℕ) (one 
   pub cleared-table : List ℕ
   pub clearing : Clears letters k mirror t₀ (ofFilling (r .cleared)) cleared-table
   pub adds : TableCalls letters k mirror cleared-table (add one ∷ add other ∷ []) (twoAnswers r) t
-  pub demand-three : clearGround letters k mirror (length t₀) ≡ none → DemandThree letters k mirror t₀ (add one ∷ add other ∷ []) (twoAnswers r) t
+  pub demand-three : clearGround letters k mirror (length t₀) ≡ none → DemandThree letters k mirror t₀ cleared-table (add one ∷ add other ∷ []) (twoAnswers r) t

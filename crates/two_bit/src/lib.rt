@@ -47,7 +47,7 @@ fn differing_letters(a: u64, b: u64) -> u64
     (65 - z) / 2
 }
 
-// The rank of a pair l < r of four letters, as `words::pair_ranks::pair_rank` gives it for s = 4, without its product: l(5 - l)/2 is 0, 2 or 3, and so is
+// The rank of a pair l < r of four letters, as `ranks::pair_rank` gives it for s = 4, without its product: l(5 - l)/2 is 0, 2 or 3, and so is
 // l + (l + 1)/2.
 fn pair_rank_of_four(l: u64, r: u64) -> u64
     requires { ⌜ l < r ⌝ }

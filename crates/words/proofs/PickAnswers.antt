@@ -50,7 +50,7 @@ within-of letters k m w e =
 
 module _ (letters : List ℕ) (k m : ℕ) (a b r : RefT (List ℕ)) where
   refuse : (f : Ground) → pickGround letters k m (a .now) (b .now) ≡ some f → r .ptr ≡ a .ptr → r .now ≡ [] → Picked letters k m a b r
-  refuse f e p n = record { origin = rw e p; holds = rw e n }
+  refuse f e p n = rw e (record { origin = p; holds = n })
 
   pub first-bad : false ≡ noneApplies (codeGround letters k m (a .now)) → r .ptr ≡ a .ptr → r .now ≡ [] → Picked letters k m a b r
   unfolding pickGround
@@ -83,7 +83,7 @@ module _ (letters : List ℕ) (k m : ℕ) (a b r : RefT (List ℕ)) where
     higher h = lt-leb (plain (length letters) (ranksOf letters (a .now))) (plain (length letters) (ranksOf letters (b .now))) (omega arith)
 
     pub first-taken : p ≤ q → r .ptr ≡ a .ptr → r .now ≡ a .now → Picked letters k m a b r
-    first-taken h x y = record { origin = rw (both d e, lower h) x; holds = rw (both d e, lower h) y }
+    first-taken h x y = rw (both d e, lower h) (record { origin = x; holds = y })
 
     pub second-taken : q < p → r .ptr ≡ b .ptr → r .now ≡ b .now → Picked letters k m a b r
-    second-taken h x y = record { origin = rw (both d e, higher h) x; holds = rw (both d e, higher h) y }
+    second-taken h x y = rw (both d e, higher h) (record { origin = x; holds = y })

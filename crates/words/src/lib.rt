@@ -3,10 +3,9 @@
 pub mod letters; // from bytes to ranks and back
 
 ghost use mathlib.Core.Path.{_≡_};
-ghost use lib.ListN.{length};
-ghost use Rattle.settings.specs.Grounds.{ofFilling, Overwrites};
-ghost use Rattle.encoding.specs.Calls.{codeGround, coding, readGround, wordBytes, mirrorGround, mirrorBytes};
-ghost use Rattle.words.specs.Answers.{ofCoding, Picked};
+ghost use Rattle.settings.specs.Grounds.{ofFilling};
+ghost use Rattle.encoding.specs.Calls.{codeGround, coding};
+ghost use Rattle.words.specs.Answers.{ofCoding, WritesWord, WritesMirror, Picked};
 ghost use Rattle.words.specs.Needs.{noneApplies};
 use letters::Place;
 use ranks::Code;
@@ -41,9 +40,7 @@ pub fn code_of(letters: &[u8], k: usize, mirror: u64, word: &[u8]) -> Coding
 
 // Writes the canonical word with a code, in capitals, to the first k bytes of out. Refused by the first of the grounds 1, 2, 4, 7 and 8.
 pub fn word_of(letters: &[u8], k: usize, mirror: u64, q: Code, out: &mut [u8]) -> Filling
-    ensures { λ r.
-        ⌜ Overwrites (readGround (now (letters .entry)) k mirror (q .0) (length (now (out .entry)))) k
-        (wordBytes (now (letters .entry)) k mirror (q .0)) (now (out .entry)) (ofFilling r) (now (out .exit)) ⌝ }
+    ensures { λ r. ⌜ WritesWord (now (letters .entry)) k mirror (q .0) (now (out .entry)) (ofFilling r) (now (out .exit)) ⌝ }
 {
     match settings::check(letters, k, mirror) {
         Checked::Bad(f) => Filling::Unfilled(f),
@@ -63,9 +60,7 @@ pub fn word_of(letters: &[u8], k: usize, mirror: u64, q: Code, out: &mut [u8]) -
 
 // Writes a word's mirror, in capitals, to the first k bytes of out. Refused by the first of the grounds 1, 2, 4, 5, 7 and 9.
 pub fn mirror_of(letters: &[u8], k: usize, mirror: u64, word: &[u8], out: &mut [u8]) -> Filling
-    ensures { λ r.
-        ⌜ Overwrites (mirrorGround (now (letters .entry)) k mirror (now (word .entry)) (length (now (out .entry)))) k
-        (mirrorBytes (now (letters .entry)) mirror (now (word .entry))) (now (out .entry)) (ofFilling r) (now (out .exit)) ⌝ }
+    ensures { λ r. ⌜ WritesMirror (now (letters .entry)) k mirror (now (word .entry)) (now (out .entry)) (ofFilling r) (now (out .exit)) ⌝ }
 {
     match settings::check(letters, k, mirror) {
         Checked::Bad(f) => Filling::Unfilled(f),

@@ -1,4 +1,4 @@
--- `counter::put_answer` meets its contract: what was read lies inside the input, and what is written is short, by the callees' contracts.
+-- `counter::put_answer` meets its contract: what was read lies inside the input, and what is written is the text for it, by the callees' contracts.
 use mathlib.Core.Path.{sym}
 use borrow.Author.Needs.{needs}
 use lib.Seq.{length-take-le}
@@ -27,13 +27,17 @@ same-length : tie.Need-same-length
 same-length c = search needs
 
 returns : tie.Need-returns
-returns c = search needs
+returns c =
+    let run = c .before .before in
+    rw (run .before .before .before .before .read .given .1) (run .run .ensures)
 
 same-length-2 : tie.Need-same-length-2
 same-length-2 c = search needs
 
 returns-2 : tie.Need-returns-2
-returns-2 c = search needs
+returns-2 c =
+    let unread = c .before .before in
+    rw (unread .before .before .before .read2 .given .1) (unread .put-unread .ensures)
 
 pub put-answer-spec : {M : Type 1} → statement M
 put-answer-spec =

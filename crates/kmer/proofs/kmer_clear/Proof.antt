@@ -2,8 +2,7 @@
 -- `clear-small`.
 use native.Mathlib.Omega.{arith}
 use borrow.Author.Needs.{needs}
-use Rattle.returned.specs.Returned.{returnedWithPlace}
-use Rattle.returned.proofs.Refusals.{returns-answer, place-fits}
+use Rattle.returned.proofs.Refusals.{place-fits}
 use Rattle.kmer.proofs.Refusals.{clear-small}
 use Rattle.kmer.proofs.kmer_clear.Statement.{statement}
 use Rattle.kmer.proofs.kmer_clear.Tie as tie
@@ -18,7 +17,7 @@ same-length : tie.Need-same-length
 same-length c = search needs
 
 returns : tie.Need-returns
-returns c = returns-answer (c .before .before .before .clear .ensures) returnedWithPlace _ (c .with-place .ensures)
+returns c = record { answer = _; promised = c .before .before .before .clear .ensures; returns = c .with-place .ensures }
 
 pub kmer-clear-spec : {M : Type 1} → statement M
 kmer-clear-spec = tie.close (tie.spec clear-requires with-place-requires same-length returns)

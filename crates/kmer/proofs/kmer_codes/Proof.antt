@@ -1,8 +1,7 @@
 -- `kmer::kmer_codes` meets its contract: what `sequence::codes` answered, as one number, by the laws of `returned`.
 use native.Mathlib.Omega.{arith}
 use borrow.Author.Needs.{needs}
-use Rattle.returned.specs.Returned.{returnedWithPlace}
-use Rattle.returned.proofs.Refusals.{returns-answer, place-fits}
+use Rattle.returned.proofs.Refusals.{place-fits}
 use Rattle.kmer.proofs.Refusals.{sequence-small}
 use Rattle.kmer.proofs.kmer_codes.Statement.{statement}
 use Rattle.kmer.proofs.kmer_codes.Tie as tie
@@ -17,7 +16,7 @@ same-length : tie.Need-same-length
 same-length c = search needs
 
 returns : tie.Need-returns
-returns c = returns-answer (c .before .before .before .codes .ensures) returnedWithPlace _ (c .with-place .ensures)
+returns c = record { answer = _; promised = c .before .before .before .codes .ensures; returns = c .with-place .ensures }
 
 pub kmer-codes-spec : {M : Type 1} → statement M
 kmer-codes-spec = tie.close (tie.spec codes-requires with-place-requires same-length returns)

@@ -1,8 +1,7 @@
 -- `kmer::kmer_generate` meets its contract: what `generator::generate` answered, as one number; its P fits by `generate-small`.
 use native.Mathlib.Omega.{arith}
 use borrow.Author.Needs.{needs}
-use Rattle.returned.specs.Returned.{returnedWithPlace}
-use Rattle.returned.proofs.Refusals.{returns-answer, place-fits}
+use Rattle.returned.proofs.Refusals.{place-fits}
 use Rattle.kmer.proofs.Refusals.{generate-small}
 use Rattle.kmer.proofs.kmer_generate.Statement.{statement}
 use Rattle.kmer.proofs.kmer_generate.Tie as tie
@@ -17,7 +16,7 @@ same-length : tie.Need-same-length
 same-length c = search needs
 
 returns : tie.Need-returns
-returns c = returns-answer (c .before .before .before .generate .ensures) returnedWithPlace _ (c .with-place .ensures)
+returns c = record { answer = _; promised = c .before .before .before .generate .ensures; returns = c .with-place .ensures }
 
 pub kmer-generate-spec : {M : Type 1} → statement M
 kmer-generate-spec = tie.close (tie.spec generate-requires with-place-requires same-length returns)

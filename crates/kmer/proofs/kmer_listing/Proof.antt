@@ -2,8 +2,7 @@
 -- `listing-small`.
 use native.Mathlib.Omega.{arith}
 use borrow.Author.Needs.{needs}
-use Rattle.returned.specs.Returned.{returnedWithPlace}
-use Rattle.returned.proofs.Refusals.{returns-answer, place-fits}
+use Rattle.returned.proofs.Refusals.{place-fits}
 use Rattle.listing.specs.Needs.{longest}
 use Rattle.kmer.proofs.Listings.{listing-small}
 use Rattle.kmer.proofs.kmer_listing.Statement.{statement}
@@ -22,7 +21,7 @@ same-length : tie.Need-same-length
 same-length c = search needs
 
 returns : tie.Need-returns
-returns c = returns-answer (c .before .before .before .list .ensures) returnedWithPlace _ (c .with-place .ensures)
+returns c = record { answer = _; promised = c .before .before .before .list .ensures; returns = c .with-place .ensures }
 
 pub kmer-listing-spec : {M : Type 1} → statement M
 kmer-listing-spec = tie.close (tie.spec list-requires with-place-requires same-length returns)

@@ -1,8 +1,7 @@
 -- `kmer::kmer_mirror` meets its contract: what `words::mirror_of` answered, as one number, by the laws of `returned`.
 use native.Mathlib.Omega.{arith}
 use borrow.Author.Needs.{needs}
-use Rattle.returned.specs.Returned.{returnedWithPlace}
-use Rattle.returned.proofs.Refusals.{returns-answer, place-fits}
+use Rattle.returned.proofs.Refusals.{place-fits}
 use Rattle.kmer.proofs.Refusals.{mirror-small}
 use Rattle.kmer.proofs.kmer_mirror.Statement.{statement}
 use Rattle.kmer.proofs.kmer_mirror.Tie as tie
@@ -17,7 +16,7 @@ same-length : tie.Need-same-length
 same-length c = search needs
 
 returns : tie.Need-returns
-returns c = returns-answer (c .before .before .before .mirror-of .ensures) returnedWithPlace _ (c .with-place .ensures)
+returns c = record { answer = _; promised = c .before .before .before .mirror-of .ensures; returns = c .with-place .ensures }
 
 pub kmer-mirror-spec : {M : Type 1} → statement M
 kmer-mirror-spec = tie.close (tie.spec mirror-of-requires with-place-requires same-length returns)

@@ -2,7 +2,6 @@
 use mathlib.Core.Path.{sym, ap, _∙_}
 use Rattle.settings.specs.declared.Filling.{Filling}
 use Rattle.returned.specs.Returned.{returned}
-use Rattle.returned.proofs.Refusals.{returns-answer}
 use borrow.Author.Needs.{needs}
 use Rattle.settings.specs.Grounds.{ofFilling}
 use Rattle.kmer.proofs.kmer_word.Statement.{statement}
@@ -27,7 +26,7 @@ returns : tie.Need-returns
 returns c =
     let n = c .before in
     let made = n .before .before .before .before in
-    returns-answer (made .word-of .ensures) returned _ (sym (ap (λ (a : Filling). returned (ofFilling a)) (n .n .given .1)))
+    record { answer = _; promised = made .word-of .ensures; returns = sym (ap (λ (a : Filling). returned (ofFilling a)) (n .n .given .1)) }
 
 same-length-2 : tie.Need-same-length-2
 same-length-2 c = search needs
@@ -36,7 +35,7 @@ returns-2 : tie.Need-returns-2
 returns-2 c =
     let f = c .before .before in
     let made = f .before .before .before .before in
-    returns-answer (made .word-of .ensures) returned _ (c .refused .ensures ∙ sym (ap (λ (a : Filling). returned (ofFilling a)) (f .f .given .1)))
+    record { answer = _; promised = made .word-of .ensures; returns = c .refused .ensures ∙ sym (ap (λ (a : Filling). returned (ofFilling a)) (f .f .given .1)) }
 
 pub kmer-word-spec : {M : Type 1} → statement M
 kmer-word-spec =

@@ -16,11 +16,11 @@ Inv-loop file n at₀ i₀ at i = recordNumber file n ≡ getElem? (recordsFrom 
 abbrev μ-loop : tie.MeasureT-loop
 μ-loop file n at₀ i₀ at i = length file - at
 
-start-of-requires : tie.Need-start-of-requires Inv-loop μ-loop
-start-of-requires c κs = search needs
+first-offset-requires : tie.Need-first-offset-requires Inv-loop μ-loop
+first-offset-requires c κs = search needs
 
 loop-holds : tie.Need-loop-holds Inv-loop μ-loop
-loop-holds c = number-start _ _ _ _ (c .start-of .ensures) refl
+loop-holds c = number-start _ _ _ _ (c .first-offset .ensures) refl
 
 moved-from-requires : tie.Need-moved-from-requires Inv-loop μ-loop
 moved-from-requires c κs = search needs
@@ -55,7 +55,7 @@ record-number-spec =
     (tie.spec
     Inv-loop
     μ-loop
-    start-of-requires
+    first-offset-requires
     loop-holds
     moved-from-requires
     returns

@@ -11,8 +11,8 @@ use borrow.Author.Needs.{needs}
 use Rattle.counting.proofs.batches.change_batch.Statement.{statement}
 use Rattle.counting.proofs.batches.change_batch.Tie as tie
 
-no-codes-requires : tie.Need-no-codes-requires
-no-codes-requires c κs = search needs
+code-buffer-requires : tie.Need-code-buffer-requires
+code-buffer-requires c κs = search needs
 
 slice-aggregate-fill-codes : tie.Need-slice-aggregate-fill-codes
 slice-aggregate-fill-codes c = search needs
@@ -21,7 +21,7 @@ fill-codes-requires : tie.Need-fill-codes-requires
 fill-codes-requires c κs =
     let codes = c .before in
     let p = codes .before .before .before .pre in
-    (p .0, (p .1 .0, omega (arith, p .0 .some, p .1 .1 .0, codes .no-codes .ensures)))
+    (p .0, (p .1 .0, omega (arith, p .0 .some, p .1 .1 .0, codes .code-buffer .ensures)))
 
 window-count-requires : tie.Need-window-count-requires
 window-count-requires c κs = search needs
@@ -73,7 +73,7 @@ pub change-batch-spec : {M : Type 1} → statement M
 change-batch-spec =
     tie.close
     (tie.spec
-    no-codes-requires
+    code-buffer-requires
     slice-aggregate-fill-codes
     fill-codes-requires
     window-count-requires

@@ -22,13 +22,13 @@ abbrev μ-loop : tie.MeasureT-loop
 array-kept : (c : tie.After-gather Inv-loop μ-loop) → length (c .gather .last .1 .1 .1 .1 .1 .0) ≡ length (c .before .before .before .loop .array)
 array-kept c = c .gather .kept .1 .1 .1 .1 .1 .0
 
-no-ranks-requires : tie.Need-no-ranks-requires Inv-loop μ-loop
-no-ranks-requires c κs = search needs
+rank-buffer-requires : tie.Need-rank-buffer-requires Inv-loop μ-loop
+rank-buffer-requires c κs = search needs
 
 loop-holds : tie.Need-loop-holds Inv-loop μ-loop
 loop-holds c =
     let start = c .before .before .before in
-    changing-none (start .pre .0) _ _ _ _ _ _ _ (c .no-ranks .ensures) (start .pre .1 .1 .1)
+    changing-none (start .pre .0) _ _ _ _ _ _ _ (c .rank-buffer .ensures) (start .pre .1 .1 .1)
 
 slice-aggregate-gather : tie.Need-slice-aggregate-gather Inv-loop μ-loop
 slice-aggregate-gather c = sym (c .before .before .loop .inv .walk .size)
@@ -154,7 +154,7 @@ change-file-spec =
     (tie.spec
     Inv-loop
     μ-loop
-    no-ranks-requires
+    rank-buffer-requires
     loop-holds
     slice-aggregate-gather
     gather-requires

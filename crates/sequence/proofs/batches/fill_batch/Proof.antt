@@ -22,27 +22,27 @@ start c = c .before .before .before .before .before
 in-array : (c : tie.After-read-ranks) {R : List ℕ}
     → let rank = rankByTable (now (start c .args .table)) in
     let bytes = now (start c .args .bytes) in
-    R ≡ ranksBy rank bytes → take (length bytes) (R ++ drop (length bytes) (c .before .before .no-ranks .result)) ≡ ranksBy rank bytes
+    R ≡ ranksBy rank bytes → take (length bytes) (R ++ drop (length bytes) (c .before .before .rank-buffer .result)) ≡ ranksBy rank bytes
 in-array c e = ranks-in-array _ _ _ _ e
 
 -- That place, from the one after the codes are written.
 abbrev read : tie.After-fill-codes → tie.After-read-ranks
 read c = c .before .before .before .before
 
-no-ranks-requires : tie.Need-no-ranks-requires
-no-ranks-requires c κs = search needs
+rank-buffer-requires : tie.Need-rank-buffer-requires
+rank-buffer-requires c κs = search needs
 
 array-borrow-prefix-ranks : tie.Need-array-borrow-prefix-ranks
 array-borrow-prefix-ranks c = search needs
 
 slice-aggregate-read-ranks : tie.Need-slice-aggregate-read-ranks
-slice-aggregate-read-ranks c = sym (length-take-le _ _ (omega (arith, c .before .no-ranks .ensures, c .before .before .before .before .pre .1 .1 .0)))
+slice-aggregate-read-ranks c = sym (length-take-le _ _ (omega (arith, c .before .rank-buffer .ensures, c .before .before .before .before .pre .1 .1 .0)))
 
 read-ranks-requires : tie.Need-read-ranks-requires
-read-ranks-requires c κs = length-take-le _ _ (omega (arith, c .before .no-ranks .ensures, c .before .before .before .before .pre .1 .1 .0))
+read-ranks-requires c κs = length-take-le _ _ (omega (arith, c .before .rank-buffer .ensures, c .before .before .before .before .pre .1 .1 .0))
 
 array-share-prefix-ranks : tie.Need-array-share-prefix-ranks
-array-share-prefix-ranks c = ranks-fit _ _ (c .before .before .before .no-ranks .result) _ (c .before .read-ranks .ensures .0)
+array-share-prefix-ranks c = ranks-fit _ _ (c .before .before .before .rank-buffer .result) _ (c .before .read-ranks .ensures .0)
 
 slice-aggregate-fill-codes : tie.Need-slice-aggregate-fill-codes
 slice-aggregate-fill-codes c =
@@ -97,7 +97,7 @@ pub fill-batch-spec : {M : Type 1} → statement M
 fill-batch-spec =
     tie.close
     (tie.spec
-    no-ranks-requires
+    rank-buffer-requires
     array-borrow-prefix-ranks
     slice-aggregate-read-ranks
     read-ranks-requires
