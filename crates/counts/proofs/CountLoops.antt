@@ -10,14 +10,14 @@ use lib.Dec.{eqb, ltb}
 use lib.ListN.{length, getD, take, drop, drop-of-length-le}
 use lib.Seq.{drop-cons, take-add, take-all}
 use borrow.Author.Tests.{lt-ltb, le-ltb, eq-eqb}
-use Rattle.tally.specs.Table.{change, oneMore, changes, occurrences, full}
+use Rattle.tally_book.specs.Table.{change, oneMore, changes, occurrences, full}
 use Rattle.laws.specs.Each.{Each}
-use Rattle.tally.specs.Needs.{Below}
+use Rattle.tally_book.specs.Needs.{Below}
 use Rattle.counts.specs.declared.Way.{Way}
 use Rattle.counts.specs.declared.Way.the-variants.{In, Out}
 use Rattle.counts.specs.Needs.{Fits, Changed, highestOf}
 use Rattle.laws.proofs.Each.{each-at}
-use Rattle.tally.proofs.Changes.{length-changes, getD-more, occurrences-append}
+use Rattle.tally_book.proofs.Changes.{length-changes, getD-more, occurrences-append}
 
 -- The two ways told apart.
 isOut : Way → Bool

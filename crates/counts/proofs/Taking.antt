@@ -12,10 +12,10 @@ use lib.Seq.{take-suc, take-all}
 use borrow.Author.Tests.{eqb-true, eqb-false, eq-eqb}
 use Rattle.laws.specs.Each.{Each}
 use Rattle.laws.proofs.Each.{each-at}
-use Rattle.tally.specs.Table.{change, oneLess, changes, oneMore, occurrences}
-use Rattle.tally.specs.Needs.{Below}
-use Rattle.tally.proofs.Changes.{length-changes, getD-less, changes-append, occurrences-append, restored}
-use Rattle.tally.proofs.Lacks.{none-lacking, lacking-at}
+use Rattle.tally_book.specs.Table.{change, oneLess, changes, oneMore, occurrences}
+use Rattle.tally_book.specs.Needs.{Below}
+use Rattle.tally_book.proofs.Changes.{length-changes, getD-less, changes-append, occurrences-append, restored}
+use Rattle.tally_book.proofs.Lacks.{none-lacking, lacking-at}
 use Rattle.counts.specs.declared.Way.the-variants.{Out}
 use Rattle.counts.specs.Needs.{Fits, Enough, Changed, TakenUnlessLacking}
 

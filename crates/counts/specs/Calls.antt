@@ -1,6 +1,6 @@
 -- Which call a way names.
 use Rattle.files.specs.File.{File}
-use Rattle.tally.specs.Table.{Call, add, withdraw}
+use Rattle.tally_book.specs.Table.{Call, add, withdraw}
 use Rattle.counts.specs.declared.Way.{Way}
 use Rattle.counts.specs.declared.Way.the-variants.{In, Out}
 

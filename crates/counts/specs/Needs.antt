@@ -4,7 +4,7 @@ use Prim.Native.Nat.{ℕ, _+_, _<_, _≤_, max}
 use mathlib.Core.Bool.{Bool, cond}
 use mathlib.Core.List.{List, [], _∷_}
 use lib.ListN.{length, getD, take}
-use Rattle.tally.specs.Table.{changes, oneMore, oneLess, occurrences, lacks}
+use Rattle.tally_book.specs.Table.{changes, oneMore, oneLess, occurrences, lacks}
 use Rattle.counts.specs.declared.Way.{Way}
 use Rattle.counts.specs.declared.Way.the-variants.{In, Out}
 

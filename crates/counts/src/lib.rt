@@ -5,9 +5,9 @@ ghost use mathlib.Core.List.{_++_};
 ghost use Prim.Native.Nat.{_<_, _≤_, max};
 ghost use lib.ListN.{length, getD, drop, replicate};
 ghost use lib.Dec.{eqb};
-ghost use Rattle.tally.specs.Table.{change, changes, oneMore, oneLess, full};
+ghost use Rattle.tally_book.specs.Table.{change, changes, oneMore, oneLess, full};
 ghost use Rattle.laws.specs.Each.{Each};
-ghost use Rattle.tally.specs.Needs.{Below};
+ghost use Rattle.tally_book.specs.Needs.{Below};
 ghost use Rattle.counts.specs.declared.Way.the-variants.{In, Out};
 ghost use Rattle.counts.specs.Needs.{Fits, Changed, highestOf};
 

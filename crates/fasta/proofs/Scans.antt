@@ -38,11 +38,11 @@ unfoldable pub scanFrom : (ℕ → Option ℕ) → ℕ → ℕ → Scanned → L
 scanFrom rank k at t [] = given (numbersOf t)
 scanFrom rank k at t (i ∷ is) = afterStep (took rank k t i) at (λ (u : Scanned). scanFrom rank k (suc at) u is)
 
--- The tally that a scan begins with.
+-- What a scan begins with.
 abbrev pub nothingYet : Scanned
 nothingYet = record { records = 0; letters = 0; foreign = 0; edge = 0; windows = 0; run = 0 }
 
--- The numbers of a tally, with so much more of each.
+-- The numbers of what was scanned, with so much more of each.
 abbrev plus : Scanned → ℕ → ℕ → ℕ → ℕ → ℕ → Numbers
 plus t a b c d e = record { records = t .records + a; letters = t .letters + b; foreign = t .foreign + c; edge = t .edge + d; windows = t .windows + e }
 
@@ -182,7 +182,7 @@ start file from rank k h =
       answer = sym (scan-is rank k (itemsFrom from file) h);
     }
 
--- Where nothing is left, the tally's numbers are the answer.
+-- Where nothing is left, the numbers of what was scanned are the answer.
 pub done : {file : List ℕ} {from : Mode} {rank : ℕ → Option ℕ} {k : ℕ} {m : Mode} {t : Scanned} {i : ℕ} → Scanning file from rank k m t i → length file ≤ i
     → given (numbersOf t) ≡ outcome (faultFrom false 0 (itemsFrom from file)) (numbersIn rank k (itemsFrom from file))
 unfolding scanFrom

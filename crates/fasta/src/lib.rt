@@ -85,7 +85,7 @@ fn line_item(file: &[u8], i: usize) -> Item
     }
 }
 
-// What the byte at i is. For `counting` too; i lies inside the file.
+// What the byte at i is. For `batches` too; i lies inside the file.
 pub fn item_at(file: &[u8], i: usize, mode: Mode) -> Item
     requires { ⌜ i < length (now file) ⌝ }
     ensures { λ r. ⌜ r ≡ item mode (getD (now (file .entry)) i 0) (lfNext (drop (i + 1) (now (file .entry)))) ⌝ }
@@ -112,7 +112,7 @@ fn is_passed_over(mode: Mode) -> bool
     }
 }
 
-// The place behind the bytes from a place on that a mode passes over; that place itself where it passes over none. For `counting` too.
+// The place behind the bytes from a place on that a mode passes over; that place itself where it passes over none. For `batches` too.
 pub fn pass_over(file: &[u8], from: usize, mode: Mode) -> usize
     requires { ⌜ from ≤ length (now file) ⌝ }
     ensures { λ r. ⌜ Skips (now (file .entry)) mode from r ⌝ }
@@ -136,7 +136,7 @@ fn mode_after_line(mode: Mode) -> Mode
     }
 }
 
-// Where the byte after b stands. For `counting` too.
+// Where the byte after b stands. For `batches` too.
 pub fn next_mode(mode: Mode, b: u8) -> Mode
     ensures { λ r. ⌜ r ≡ next mode b ⌝ }
 {
@@ -154,7 +154,7 @@ pub fn next_mode(mode: Mode, b: u8) -> Mode
     }
 }
 
-// The tally after one letter more, given its rank as one byte.
+// What was scanned after one letter more, given its rank as one byte.
 fn with_letter(t: Scanned, rank: u8, k: usize) -> Scanned
     requires { ⌜ Small 16777216 t ⌝ }
     ensures { λ r. ⌜ r ≡ withLetter k t (asRank rank) ⌝ }
@@ -190,7 +190,7 @@ fn with_letter(t: Scanned, rank: u8, k: usize) -> Scanned
     }
 }
 
-// The tally after one item more, or the fault that the item is.
+// What was scanned after one item more, or the fault that the item is.
 fn take_item(t: Scanned, it: Item, ranks: &[u8; 256], k: usize) -> Step
     requires { ⌜ Small 16777216 t ⌝ }
     ensures { λ r. ⌜ r ≡ took (rankByTable (now (ranks .entry))) k t it ⌝ }
@@ -216,7 +216,7 @@ fn take_item(t: Scanned, it: Item, ranks: &[u8; 256], k: usize) -> Step
     }
 }
 
-// What a scan answers of a tally at the file's end.
+// What a scan answers of what was scanned, at the file's end.
 fn taken(t: Scanned) -> Answer
     ensures { λ r. ⌜ ofAnswer r ≡ given (numbersOf t) ⌝ }
 {

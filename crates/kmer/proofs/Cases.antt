@@ -14,8 +14,8 @@ use Rattle.fasta.specs.File.{isLetter, lfNext, lineItem, item, next, itemsFrom,
 use Rattle.files.specs.declared.Kind.the-variants.{Fasta}
 use Rattle.files.specs.File.{File, fileOf}
 use Rattle.settings.specs.Limits.{tooLong}
-use Rattle.tally.specs.Table.{windowsOfFile, full, tooMany, readyGround, callGround, add, withdraw}
-use Rattle.tally.specs.Book.{sameWord, sameClass, hits, withFront, allWords, canonicalOnes, clearedBook, someOf}
+use Rattle.tally_book.specs.Table.{windowsOfFile, full, tooMany, readyGround, callGround, add, withdraw}
+use Rattle.tally_book.specs.Book.{sameWord, sameClass, hits, withFront, allWords, canonicalOnes, clearedBook, someOf}
 use Rattle.kmer.specs.FileCalls.{intoGround}
 use Rattle.kmer.specs.Demand.{Asked, shortAnswer, withRoom, tableCalls, bookTold}
 

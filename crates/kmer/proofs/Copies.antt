@@ -1,7 +1,7 @@
 -- Copies with T for U (document 02, K2) through the C calls: where the settings have T and no U, a `kmer_add` of a file and one of its copy, on the same table
 -- and with the same lent list, return the same number and leave the same list and the same table, and so do two `kmer_withdraw` (`copy-called-into`); so do two
 -- lists of such calls, the one with copies in place of some or all of the other's files (`copies-from-c`). From the laws of copies in the crates files and
--- tally, since what a call returns and leaves is said by its grounds and the file's windows and numbers.
+-- tally_book, since what a call returns and leaves is said by its grounds and the file's windows and numbers.
 use mathlib.Core.Path.{_≡_, sym, ap₂, _∙_}
 use mathlib.Core.Bool.{true}
 use mathlib.Core.Option.{Option}
@@ -12,9 +12,9 @@ use Rattle.settings.specs.Grounds.{Ground, overwritten}
 use Rattle.settings.specs.Settings.{readsUAsT}
 use Rattle.fasta.specs.declared.Numbers.{Numbers}
 use Rattle.files.proofs.Copies.{same-file-fault, same-file-numbers}
-use Rattle.tally.specs.Table.{Call}
-use Rattle.tally.specs.Copies.{CallCopy}
-use Rattle.tally.proofs.Copies.{same-calls, copied-file, same-last, same-after, same-ready-ground}
+use Rattle.tally_book.specs.Table.{Call}
+use Rattle.tally_book.specs.Copies.{CallCopy}
+use Rattle.tally_book.proofs.Copies.{same-calls, copied-file, same-last, same-after, same-ready-ground}
 use Rattle.returned.specs.FileNumbers.{fiveNumbers}
 use Rattle.kmer.specs.FileCalls.{intoGround, CallsInto}
 use Rattle.kmer.specs.Demand.{Asked, Told, FileCalls}

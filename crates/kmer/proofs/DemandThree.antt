@@ -1,5 +1,5 @@
 -- Demand 3 of the C calls, with lent lists of any length: each tells what the tally book does; those whose lists have room leave and tell what a list of adds and
--- withdrawals leaves and answers, of which it is proved in the crate tally, and the others are refused (`demand-three-from-c`, `kept-from-c`, and of two lists
+-- withdrawals leaves and answers, of which it is proved in the crate tally_book, and the others are refused (`demand-three-from-c`, `kept-from-c`, and of two lists
 -- `same-counts-from-c`, `demand-three-same-counts-from-c`; by which ground after a clearing: `short-from-c`). And an add and a withdrawal next
 -- (`given-back-from-c`).
 use mathlib.Core.Path.{_≡_, refl, sym, ap, ap₂, _∙_}
@@ -16,13 +16,13 @@ use Rattle.settings.proofs.Outcomes.{passed}
 use Rattle.fasta.specs.declared.Numbers.{Numbers}
 use Rattle.files.specs.File.{File, fileNumbers}
 use Rattle.settings.specs.Limits.{tooLong}
-use Rattle.tally.specs.Table.{classCount, tooMany, readyGround, clearGround, Call, add, withdraw, callFile, Called}
-use Rattle.tally.specs.Book.{Book, clearedBook, bookAnswer, bookAfter, bookAnswers}
-use Rattle.tally.specs.Demand.{TableCalls, Agrees}
-use Rattle.tally.specs.Demand.Calls.{done, then}
-use Rattle.tally.proofs.Clearing.{settings-good, classes-bounded, places-enough, cleared-agrees, cleared-length}
-use Rattle.tally.proofs.DemandThree.{kept, same-counts, demand-three}
-use Rattle.tally.proofs.GivenBack.{given-back-whole}
+use Rattle.tally_book.specs.Table.{classCount, tooMany, readyGround, clearGround, Call, add, withdraw, callFile, Called}
+use Rattle.tally_book.specs.Book.{Book, clearedBook, bookAnswer, bookAfter, bookAnswers}
+use Rattle.tally_book.specs.Demand.{TableCalls, Agrees}
+use Rattle.tally_book.specs.Demand.Calls.{done, then}
+use Rattle.tally_book.proofs.Clearing.{settings-good, classes-bounded, places-enough, cleared-agrees, cleared-length}
+use Rattle.tally_book.proofs.DemandThree.{kept, same-counts, demand-three}
+use Rattle.tally_book.proofs.GivenBack.{given-back-whole}
 use Rattle.returned.specs.Returned.{returnedWithPlace}
 use Rattle.returned.specs.FileNumbers.{fiveNumbers}
 use Rattle.kmer.specs.FileCalls.{ClearsInto, intoGround, CallsInto, AddsInto, WithdrawsInto}

@@ -20,8 +20,8 @@ use Rattle.fasta.specs.declared.Numbers.{Numbers}
 use Rattle.files.specs.File.{File, fileFault, fileNumbers}
 use Rattle.settings.specs.Limits.{tooLong}
 use Rattle.files.proofs.FaultNumbers.{fault-has}
-use Rattle.tally.specs.Table.{classCount, places, tooMany, readyGround, callGround, Call, add, withdraw, callFile, tableFull, tableLacks, lastGround, tableGround, perWindow, tableAfter, Called}
-use Rattle.tally.proofs.Changes.{length-changes}
+use Rattle.tally_book.specs.Table.{classCount, places, tooMany, readyGround, callGround, Call, add, withdraw, callFile, tableFull, tableLacks, lastGround, tableGround, perWindow, tableAfter, Called}
+use Rattle.tally_book.proofs.Changes.{length-changes}
 use Rattle.table.proofs.CallGrounds.{classes-few, ready-file}
 use Rattle.returned.proofs.Refusals.{refused-fits}
 use Rattle.kmer.proofs.Refusals.{sizes-small}

@@ -5,7 +5,7 @@ use native.Mathlib.Omega.{arith}
 use lib.ListN.{length}
 use Rattle.settings.specs.Grounds.{groundAt, tooShort}
 use Rattle.settings.proofs.FirstGround.{Small, place-small, then-small, room-small}
-use Rattle.tally.specs.Table.{clearGround}
+use Rattle.tally_book.specs.Table.{clearGround}
 use Rattle.listing.specs.Listing.{listing, listingGround}
 use Rattle.listing.specs.Needs.{longest}
 use Rattle.listing.proofs.Lengths.{SmallCounts}

@@ -10,9 +10,9 @@ use lib.ListN.{length, take}
 use Rattle.settings.specs.Grounds.{Ground, Outcome, given, outcome, _orElse_}
 use Rattle.settings.proofs.Outcomes.{first-none}
 use Rattle.settings.proofs.FirstGround.{Small, then-small}
-use Rattle.tally.specs.Table.{classCount, clearGround}
-use Rattle.tally.specs.Demand.{counts}
-use Rattle.tally.proofs.Clearing.{settings-good}
+use Rattle.tally_book.specs.Table.{classCount, clearGround}
+use Rattle.tally_book.specs.Demand.{counts}
+use Rattle.tally_book.proofs.Clearing.{settings-good}
 use Rattle.listing.specs.Listing.{listing, listingGround, Lists}
 use Rattle.listing.proofs.Lengths.{SmallCounts}
 use Rattle.loading.specs.Loading.{textFault, loadGround, loadedBook, Loads}

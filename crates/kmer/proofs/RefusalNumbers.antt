@@ -1,5 +1,5 @@
 -- The numbers of the refusals that each C call gives, as include/kmer.h lists them: 3 is none of them. "Refusal 3 then never occurs" (document 02,
--- K10). From the definitions of the calls' grounds; kmer_clear's are `clear-numbers` of tally, kmer_load's `load-numbers` of loading.
+-- K10). From the definitions of the calls' grounds; kmer_clear's are `clear-numbers` of tally_book, kmer_load's `load-numbers` of loading.
 use mathlib.Core.Path.{refl}
 use mathlib.Core.Bool.{not}
 use mathlib.Core.List.{List, [], _∷_}
@@ -14,8 +14,8 @@ use Rattle.encoding.specs.Calls.{wrongLength, foreignFrom, codeGround, readGrou
 use Rattle.sequence.specs.Sequences.{sequenceGround}
 use Rattle.files.specs.File.{fileFault}
 use Rattle.settings.specs.Limits.{tooLong}
-use Rattle.tally.specs.Table.{readyGround, clearGround, Call, add, withdraw, callFile, tableFull, tableLacks, lastGround}
-use Rattle.tally.proofs.RefusalNumbers.{clearNumbers, clear-numbers, callNumbers, ready-has, file-numbers}
+use Rattle.tally_book.specs.Table.{readyGround, clearGround, Call, add, withdraw, callFile, tableFull, tableLacks, lastGround}
+use Rattle.tally_book.proofs.RefusalNumbers.{clearNumbers, clear-numbers, callNumbers, ready-has, file-numbers}
 use Rattle.listing.specs.Listing.{listing, listingGround}
 use Rattle.testload.specs.TestLoad.{generateGround}
 use Rattle.kmer.specs.FileCalls.{intoGround}

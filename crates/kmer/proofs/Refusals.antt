@@ -18,7 +18,7 @@ use Rattle.settings.proofs.FirstGround.{PlaceUpTo, Small, test-small, place-sma
 use Rattle.encoding.specs.Calls.{hereOr, foreignFrom, wrongLength, mirrorGround}
 use Rattle.sequence.specs.Sequences.{sequenceGround}
 use Rattle.settings.specs.Limits.{tooLong}
-use Rattle.tally.specs.Table.{classCount, tooMany, clearGround}
+use Rattle.tally_book.specs.Table.{classCount, tooMany, clearGround}
 use Rattle.testload.specs.TestLoad.{generateGround}
 
 -- ---- the P of a refused mirroring is at most 62

@@ -8,9 +8,9 @@ use lib.Dec.{ltb}
 use lib.ListN.{length, drop}
 use Rattle.settings.specs.Grounds.{Outcome, given, refused}
 use Rattle.fasta.specs.declared.Numbers.{Numbers}
-use Rattle.tally.specs.Table.{classCount, readyGround, Call, callFile}
-use Rattle.tally.specs.Book.{Book, clearedBook, bookAnswer, bookAfter}
-use Rattle.tally.specs.Demand.{Calls, TableCalls, Kept, DemandThree, SameCountsExactlyWhen}
+use Rattle.tally_book.specs.Table.{classCount, readyGround, Call, callFile}
+use Rattle.tally_book.specs.Book.{Book, clearedBook, bookAnswer, bookAfter}
+use Rattle.tally_book.specs.Demand.{Calls, TableCalls, Kept, DemandThree, SameCountsExactlyWhen}
 use Rattle.returned.specs.Returned.{returnedWithPlace}
 use Rattle.returned.specs.FileNumbers.{fiveNumbers}
 use Rattle.kmer.specs.FileCalls.{CallsInto}

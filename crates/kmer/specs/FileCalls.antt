@@ -8,7 +8,7 @@ use lib.ListN.{length}
 use Rattle.settings.specs.Grounds.{Ground, Outcome, groundAt, tooShort, outcome, unlessRefused, overwritten, _orElse_}
 use Rattle.settings.specs.Settings.{rankIn}
 use Rattle.files.specs.File.{File, fileFault, fileNumbers}
-use Rattle.tally.specs.Table.{Clears, readyGround, Call, add, withdraw, callFile, lastGround, tableAfter}
+use Rattle.tally_book.specs.Table.{Clears, readyGround, Call, add, withdraw, callFile, lastGround, tableAfter}
 use Rattle.returned.specs.Returned.{returnedWithPlace, Returns}
 use Rattle.returned.specs.FileNumbers.{fiveNumbers}
 

@@ -9,7 +9,7 @@ use Rattle.settings.specs.Settings.{isOdd, halfUp, classes}
 use Rattle.encoding.specs.WordsOfCodes.{wordOfPlain, pairOfRank, middleOfCode, wordOf}
 use Rattle.encoding.specs.Words.{mirrorRank}
 use Rattle.encoding.specs.Calls.{inCapitals, wordBytes}
-use Rattle.tally.specs.Demand.{sum}
+use Rattle.tally_book.specs.Demand.{sum}
 use Rattle.texts.specs.Decimals.{decimalFrom, decimal}
 use Rattle.survey.specs.Line.{surveyLine}
 use Rattle.listing.specs.Listing.{countLine, countLines, totalLine, listingOf, listing}

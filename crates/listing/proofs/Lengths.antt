@@ -10,8 +10,8 @@ use Rattle.laws.proofs.Sums.{AddsUp, sum-le}
 use Rattle.settings.proofs.SettingsGrounds.{good-settings}
 use Rattle.encoding.specs.Calls.{wordBytes}
 use Rattle.words.proofs.ReadAnswers.{word-bytes-length}
-use Rattle.tally.specs.Table.{classCount}
-use Rattle.tally.specs.Demand.{sum}
+use Rattle.tally_book.specs.Table.{classCount}
+use Rattle.tally_book.specs.Demand.{sum}
 use Rattle.texts.specs.Decimals.{decimal}
 use Rattle.texts.proofs.Decimals.{decimal-length}
 use Rattle.texts.specs.Needs.{Puts}

@@ -1,5 +1,5 @@
--- The lines of a listing one by one: the survey line part by part and the mirror's name in it, the line of a class and its word, the lines by rising code,
--- the sum of the counts. From the definitions in specs/Listing.antt, survey's law of the line that we print, and what `word_of` promises.
+-- The lines of a listing one by one: the line of a class and its word, the lines by rising code,
+-- the sum of the counts. From the definitions in specs/Listing.antt, and what `word_of` promises.
 use mathlib.Core.Path.{_≡_, refl, _∙_}
 use Prim.Native.Nat.{ℕ, suc, _+_, _<_, _≤_}
 use native.Mathlib.Nat.{add-zero, add-suc, suc-add, zero-add}
@@ -9,7 +9,6 @@ use mathlib.Core.Option.{none}
 use mathlib.Core.List.{List, [], _∷_, _++_, append-assoc, append-nil}
 use lib.ListN.{length, take, drop, getD}
 use lib.Seq.{take-suc, length-take-le}
-use Rattle.laws.specs.Text.{bytes}
 use Rattle.laws.proofs.Tests.{past-zero}
 use Rattle.laws.proofs.Sums.{AddsUp}
 use Rattle.laws.proofs.Buffers.{front-is, front-fits}
@@ -19,24 +18,11 @@ use Rattle.settings.proofs.SettingsGrounds.{good-settings}
 use Rattle.encoding.specs.Calls.{readGround, wordBytes}
 use Rattle.words.proofs.CallGrounds.{reading-none}
 use Rattle.words.proofs.ReadAnswers.{word-bytes-length}
-use Rattle.tally.specs.Table.{classCount}
-use Rattle.tally.specs.Demand.{sum}
-use Rattle.texts.specs.Decimals.{decimal}
-use Rattle.survey.specs.Line.{mirrorName, surveyLine}
-use Rattle.survey.proofs.Written.{printed-line}
+use Rattle.tally_book.specs.Table.{classCount}
+use Rattle.tally_book.specs.Demand.{sum}
 use Rattle.listing.specs.Listing.{countLine, classLine, countLines}
 
 -- ---- one line
-
-pub complement-named : (m : ℕ) → (m ≡ 0 → ⊥) → mirrorName m ≡ bytes "complement"
-complement-named = past-zero (λ (m : ℕ). mirrorName m ≡ bytes "complement") (λ m. refl)
-
--- The survey line as its parts are written, one after the other.
-pub survey-parts : (letters : List ℕ) (k m : ℕ) {n : ℕ} → n ≡ classCount letters k m
-    → bytes "(survey (letters " ++ (letters ++ (bytes ") (k " ++ (decimal k ++ ((bytes ") (mirror " ++ mirrorName m)
-    ++ (bytes ") (classes " ++ (decimal n ++ bytes "))\n"))))))
-    ≡ surveyLine letters k m
-survey-parts letters k m e = rw (e, printed-line letters k m) (simp (append-assoc, append-nil))
 
 pub counted-line : (word : List ℕ) (n : ℕ) → (n ≡ 0 → ⊥) → classLine word n ≡ countLine word n
 counted-line word = past-zero (λ (n : ℕ). classLine word n ≡ countLine word n) (λ n. refl)

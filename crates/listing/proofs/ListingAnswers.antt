@@ -12,8 +12,8 @@ use Rattle.settings.specs.Grounds.{Ground, Outcome, given, refused, outcome}
 use Rattle.settings.specs.Settings.{settingsGround, settingsOf}
 use Rattle.settings.proofs.Outcomes.{kept-by, set-by}
 use Rattle.settings.proofs.SettingsGrounds.{known}
-use Rattle.tally.specs.Table.{classCount, clearGround}
-use Rattle.tally.proofs.Clearing.{clear-settings, clear-many, clear-short, clear-passed, settings-good, classes-bounded, places-enough}
+use Rattle.tally_book.specs.Table.{classCount, clearGround}
+use Rattle.tally_book.proofs.Clearing.{clear-settings, clear-many, clear-short, clear-passed, settings-good, classes-bounded, places-enough}
 use Rattle.texts.specs.Needs.{Puts}
 use Rattle.texts.proofs.Writing.{from-start}
 use Rattle.listing.specs.Listing.{listingOf, listing, listingGround, Lists}

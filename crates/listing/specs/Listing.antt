@@ -7,8 +7,8 @@ use lib.ListN.{length}
 use Rattle.laws.specs.Text.{bytes}
 use Rattle.settings.specs.Grounds.{Ground, Outcome, groundAt, tooShort, Overwrites, _orElse_}
 use Rattle.encoding.specs.Calls.{wordBytes}
-use Rattle.tally.specs.Table.{clearGround}
-use Rattle.tally.specs.Demand.{sum, counts}
+use Rattle.tally_book.specs.Table.{clearGround}
+use Rattle.tally_book.specs.Demand.{sum, counts}
 use Rattle.texts.specs.Decimals.{decimal}
 use Rattle.survey.specs.Line.{surveyLine}
 

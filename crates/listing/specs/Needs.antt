@@ -7,7 +7,7 @@ use mathlib.Core.List.{List, [], _∷_}
 use lib.ListN.{length}
 use Rattle.settings.specs.Grounds.{Outcome, groundAt, tooShort, Overwrites}
 use Rattle.settings.specs.Settings.{settingsGround}
-use Rattle.tally.specs.Table.{classCount}
+use Rattle.tally_book.specs.Table.{classCount}
 use Rattle.texts.specs.Decimals.{decimal}
 
 -- The counts of all classes under good settings, as many as a table may have.

@@ -5,42 +5,16 @@ use settings::Filling;
 use settings::Refusal;
 ghost use mathlib.Core.Path.{_≡_};
 ghost use mathlib.Core.Option.{none};
-ghost use mathlib.Core.List.{_++_};
 ghost use Prim.Native.Nat.{_<_, _≤_};
 ghost use lib.ListN.{length};
-ghost use Rattle.laws.specs.Text.{bytes};
 ghost use Rattle.settings.specs.Grounds.{ofFilling};
 ghost use Rattle.settings.specs.Settings.{settingsGround};
 ghost use Rattle.encoding.specs.Calls.{wordBytes};
-ghost use Rattle.tally.specs.Table.{classCount};
-ghost use Rattle.tally.specs.Demand.{sum};
+ghost use Rattle.tally_book.specs.Table.{classCount};
+ghost use Rattle.tally_book.specs.Demand.{sum};
 ghost use Rattle.texts.specs.Needs.{Puts};
-ghost use Rattle.survey.specs.Line.{mirrorName, surveyLine};
 ghost use Rattle.listing.specs.Listing.{countLine, classLine, countLines, totalLine, listingOf, Lists};
 ghost use Rattle.listing.specs.Needs.{AllCounts, ListsCounts, lineLength, linesLength, longest};
-
-// The mirror's form in the survey line up to its closing bracket, with what stands before it.
-fn put_mirror(out: &mut [u8], at: usize, mirror: u64) -> usize
-    ensures { λ r. ⌜ Puts (now (out .entry)) (now (out .exit)) at r (bytes ") (mirror " ++ mirrorName mirror) ⌝ }
-{
-    if mirror == 0 {
-        return texts::put_text(out, at, b") (mirror reversal");
-    }
-    texts::put_text(out, at, b") (mirror complement")
-}
-
-// The survey line, from the buffer's start on: the settings and the number of their classes. `loader` compares a line with it.
-pub fn put_survey(out: &mut [u8], letters: &[u8], k: usize, mirror: u64, classes: usize) -> usize
-    requires { ⌜ classes ≡ classCount (now letters) k mirror ⌝ }
-    ensures { λ r. ⌜ Puts (now (out .entry)) (now (out .exit)) 0 r (surveyLine (now (letters .entry)) k mirror) ⌝ }
-{
-    let after_opening = texts::put_text(out, 0, b"(survey (letters ");
-    let after_letters = texts::put_text(out, after_opening, letters);
-    let after_k = texts::put_field(out, after_letters, b") (k ", k as u64);
-    let after_mirror = put_mirror(out, after_k, mirror);
-    let after_classes = texts::put_field(out, after_mirror, b") (classes ", classes as u64);
-    texts::put_text(out, after_classes, b"))\n")
-}
 
 // The line of a word and its count.
 fn put_count_line(out: &mut [u8], at: usize, word: &[u8], n: u32) -> usize
@@ -126,7 +100,7 @@ pub fn put_listing(out: &mut [u8], letters: &[u8], k: usize, mirror: u64, counts
     ensures { λ r. ⌜ Puts (now (out .entry)) (now (out .exit)) 0 r (listingOf (now (letters .entry)) k mirror (now (counts .entry))) ⌝ }
     ensures { λ _. ⌜ length (listingOf (now (letters .entry)) k mirror (now (counts .entry))) ≤ longest (length (now (counts .entry))) ⌝ }
 {
-    let after_survey = put_survey(out, letters, k, mirror, counts.len());
+    let after_survey = survey_writer::put_survey(out, letters, k, mirror, counts.len());
     let after_counts = put_counts(out, after_survey, letters, k, mirror, counts);
     put_total(out, after_counts, counts)
 }
@@ -162,7 +136,7 @@ fn listing_length(letters: &[u8], k: usize, mirror: u64, counts: &[u32]) -> usiz
     ensures { λ r. ⌜ r ≡ length (listingOf (now (letters .entry)) k mirror (now (counts .entry))) ⌝ }
 {
     let mut spare = [0u8; 1];
-    let survey = put_survey(&mut spare, letters, k, mirror, counts.len());
+    let survey = survey_writer::put_survey(&mut spare, letters, k, mirror, counts.len());
     let total = put_total(&mut spare, 0, counts);
     survey + lines_length(k, counts) + total
 }

@@ -31,8 +31,8 @@ use Rattle.texts.proofs.Decimals.{decimal-length}
 use Rattle.texts.proofs.Writing.{kept, then-field, from-start, measured}
 use Rattle.fastq.specs.Fastq.{unlessAt}
 use Rattle.survey.specs.Line.{surveyLine}
-use Rattle.tally.specs.Table.{classCount}
-use Rattle.tally.proofs.Classes.{place-below}
+use Rattle.tally_book.specs.Table.{classCount}
+use Rattle.tally_book.proofs.Classes.{place-below}
 use Rattle.listing.specs.Listing.{totalLine}
 use Rattle.listing.proofs.Lengths.{survey-length}
 use Rattle.loading.specs.Shapes.{sameText, wordIn, digitsIn, isCountLine, isTotalLine, isSurveyLine}

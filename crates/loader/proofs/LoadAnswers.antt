@@ -13,8 +13,8 @@ use Rattle.settings.specs.Settings.{settingsGround, settingsOf}
 use Rattle.settings.proofs.Outcomes.{kept-by, set-by, prefix-overwritten}
 use Rattle.settings.proofs.SettingsGrounds.{known}
 use Rattle.lines.specs.Lines.{lines}
-use Rattle.tally.specs.Table.{classCount}
-use Rattle.tally.proofs.Clearing.{clear-settings, clear-many, clear-short, clear-passed}
+use Rattle.tally_book.specs.Table.{classCount}
+use Rattle.tally_book.proofs.Clearing.{clear-settings, clear-many, clear-short, clear-passed}
 use Rattle.loading.specs.Loading.{textFault, loadGround, loadedFrom, loadedCounts, Loads}
 use Rattle.loading.proofs.Theorems.{loaded-length}
 use Rattle.loader.specs.Needs.{ForTable, SetsCounts, LoadsCounts}

@@ -7,7 +7,7 @@ use Prim.Native.Nat.{ℕ, suc, _+_, _-_, _≤_, _<_, min}
 use native.Mathlib.Omega.{arith}
 use lib.ListN.{length, take, drop, set, length-set}
 use Rattle.settings.specs.Settings.{settingsGround}
-use Rattle.tally.specs.Table.{classCount}
+use Rattle.tally_book.specs.Table.{classCount}
 use Rattle.lines.specs.Lines.{lines}
 use Rattle.lines.specs.Needs.{firstLine}
 use Rattle.lines.proofs.Lines.{lines-next}

@@ -7,7 +7,7 @@ use Prim.Native.Nat.{ℕ, _*_, _≤_}
 use lib.ListN.{length}
 use Rattle.settings.specs.Grounds.{groundOf, Outcome, Overwrites}
 use Rattle.settings.specs.Settings.{settingsGround}
-use Rattle.tally.specs.Table.{classCount}
+use Rattle.tally_book.specs.Table.{classCount}
 use Rattle.loading.specs.Shapes.{isCountLine, isTotalLine}
 use Rattle.loading.specs.declared.Next.{Next}
 use Rattle.loading.specs.declared.Next.the-variants.{Survey, CountOrTotal, Nothing}

@@ -12,7 +12,7 @@ ghost use Prim.Native.Nat.{_+_, _≤_, min};
 ghost use lib.ListN.{length};
 ghost use Rattle.settings.specs.RankTables.{RankTable};
 ghost use Rattle.settings.specs.Settings.{settingsGround, mirrorOf};
-ghost use Rattle.tally.specs.Table.{classCount};
+ghost use Rattle.tally_book.specs.Table.{classCount};
 ghost use Rattle.survey.specs.Line.{surveyLine};
 ghost use Rattle.listing.specs.Listing.{totalLine};
 ghost use Rattle.loading.specs.Shapes.{sameText};
@@ -130,7 +130,7 @@ fn same_survey(line: &[u8], letters: &[u8], k: usize, mirror: u64, classes: usiz
     ensures { λ r. ⌜ r ≡ sameText (now (line .entry)) (surveyLine (now (letters .entry)) k mirror) ⌝ }
 {
     let mut buffer = [0u8; 128];
-    let n = listing::put_survey(&mut buffer, letters, k, mirror, classes);
+    let n = survey_writer::put_survey(&mut buffer, letters, k, mirror, classes);
     shapes::same_text(line, &buffer[0..n])
 }
 

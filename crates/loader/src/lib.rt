@@ -13,7 +13,7 @@ ghost use Rattle.lines.specs.Lines.{lines};
 ghost use Rattle.settings.specs.Grounds.{ofFilling};
 ghost use Rattle.settings.specs.Needs.{ofFinding};
 ghost use Rattle.settings.specs.RankTables.{RankTable};
-ghost use Rattle.tally.specs.Table.{classCount};
+ghost use Rattle.tally_book.specs.Table.{classCount};
 ghost use Rattle.loading.specs.Loading.{missing, textFault, loadedFrom, Loads};
 ghost use Rattle.loader.specs.Needs.{ForTable, SetsCounts, LoadsCounts};
 

@@ -12,8 +12,8 @@ use Rattle.encoding.specs.Codes.{pairRank, digits, differingPair, shift, oddShi
 use Rattle.encoding.specs.Calls.{ranksOf}
 use Rattle.survey.specs.Grammar.{spelt}
 use Rattle.survey.specs.Reading.{startsWith, stretch, valueByte, sized, mirrorNumber, numberOf, formOf, formFrom, formAt, nextForm, inOrder}
-use Rattle.tally.specs.Table.{tooMany, clearGround}
-use Rattle.tally.specs.Book.{sameWord}
+use Rattle.tally_book.specs.Table.{tooMany, clearGround}
+use Rattle.tally_book.specs.Book.{sameWord}
 use Rattle.texts.specs.Decimals.{decimalFrom, decimal}
 use Rattle.lines.specs.Lines.{onFirst, lines}
 use Rattle.fastq.specs.Fastq.{unlessAt}

@@ -15,8 +15,8 @@ use Rattle.lines.proofs.Lines.{joined-lines}
 use Rattle.fastq.specs.Fastq.{unlessAt}
 use Rattle.fastq.proofs.Faults.{unless-has}
 use Rattle.survey.specs.Line.{surveyLine}
-use Rattle.tally.specs.Table.{clearGround}
-use Rattle.tally.proofs.RefusalNumbers.{clearNumbers, clear-numbers}
+use Rattle.tally_book.specs.Table.{clearGround}
+use Rattle.tally_book.proofs.RefusalNumbers.{clearNumbers, clear-numbers}
 use Rattle.listing.specs.Listing.{totalLine}
 use Rattle.loading.specs.Shapes.{sameText, isCountLine, isTotalLine, isSurveyLine}
 use Rattle.loading.specs.Loading.{goodCount, Next, Survey, CountOrTotal, Nothing, nextAfter, lineFault, missing, loadFault, textFault, loadGround}

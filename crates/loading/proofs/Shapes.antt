@@ -15,8 +15,8 @@ use Rattle.settings.specs.Settings.{isIn}
 use Rattle.lines.proofs.Lines.{Ended}
 use Rattle.texts.specs.Decimals.{decimal}
 use Rattle.survey.specs.Grammar.{spelt}
-use Rattle.tally.specs.Book.{sameWord}
-use Rattle.tally.proofs.WordLists.{same-word, word-same}
+use Rattle.tally_book.specs.Book.{sameWord}
+use Rattle.tally_book.proofs.WordLists.{same-word, word-same}
 use Rattle.listing.specs.Listing.{countLine, totalLine}
 use Rattle.loading.specs.Shapes.{sameText, inner, isNumber, ofLetters, wordIn, digitsIn, countShape, isCountLine, isTotalLine}
 use Rattle.loading.specs.Claims.{CountShape, TotalShape}

@@ -15,10 +15,10 @@ use Rattle.settings.proofs.Outcomes.{first-none, later-none}
 use Rattle.encoding.specs.Words.{canonical}
 use Rattle.encoding.specs.Calls.{ranksOf, wordBytes}
 use Rattle.words.proofs.ReadAnswers.{word-bytes-length}
-use Rattle.tally.specs.Table.{classCount}
-use Rattle.tally.specs.Book.{sameWord}
-use Rattle.tally.proofs.Classes.{place-below}
-use Rattle.tally.proofs.WordLists.{same-word, word-same}
+use Rattle.tally_book.specs.Table.{classCount}
+use Rattle.tally_book.specs.Book.{sameWord}
+use Rattle.tally_book.proofs.Classes.{place-below}
+use Rattle.tally_book.proofs.WordLists.{same-word, word-same}
 use Rattle.texts.specs.Decimals.{decimal}
 use Rattle.listing.specs.Listing.{countLine, totalLine}
 use Rattle.lines.proofs.Lines.{Ended}

@@ -27,7 +27,7 @@ use Rattle.survey.proofs.FormLaws.{opening, flat, flat-forms, flat-of, FormRead
 use Rattle.survey.proofs.LineThere.{row-there, one-row}
 use Rattle.survey.proofs.OneLine.{k-spelt, mirror-named}
 use Rattle.survey.proofs.Written.{values-good, printed-line}
-use Rattle.tally.proofs.WordLists.{same-word, word-same}
+use Rattle.tally_book.proofs.WordLists.{same-word, word-same}
 use Rattle.loading.specs.Shapes.{sameText, inner, isNumber, isClassesEnd, classesLast, isSurveyLine}
 use Rattle.loading.specs.Claims.{SurveyShape}
 use Rattle.loading.proofs.Lines.{ended-by, past}

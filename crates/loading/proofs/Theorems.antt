@@ -22,12 +22,12 @@ use Rattle.lines.specs.Lines.{lines}
 use Rattle.lines.specs.Needs.{joined}
 use Rattle.lines.proofs.Lines.{lines-of, lines-last, joined-lines}
 use Rattle.survey.specs.Line.{surveyLine}
-use Rattle.tally.specs.Table.{classCount, placeOf, clearGround, Call}
-use Rattle.tally.specs.Demand.{sum, counts, Agrees, TableCalls, Kept}
-use Rattle.tally.proofs.Classes.{place-below}
-use Rattle.tally.proofs.Clearing.{settings-good, places-enough}
-use Rattle.tally.proofs.DemandThree.{kept}
-use Rattle.tally.proofs.WordLists.{same-word, word-same}
+use Rattle.tally_book.specs.Table.{classCount, placeOf, clearGround, Call}
+use Rattle.tally_book.specs.Demand.{sum, counts, Agrees, TableCalls, Kept}
+use Rattle.tally_book.proofs.Classes.{place-below}
+use Rattle.tally_book.proofs.Clearing.{settings-good, places-enough}
+use Rattle.tally_book.proofs.DemandThree.{kept}
+use Rattle.tally_book.proofs.WordLists.{same-word, word-same}
 use Rattle.listing.specs.Listing.{countLine, classLine, countLines, totalLine, listingOf, listing, listingGround, Lists}
 use Rattle.listing.proofs.Lines.{counted-line}
 use Rattle.listing.proofs.Lengths.{SmallCounts}

@@ -19,9 +19,9 @@ use Rattle.encoding.specs.WordsOfCodes.{wordOf}
 use Rattle.encoding.specs.Calls.{rankAt, ranksOf, inCapitals, wordBytes}
 use Rattle.encoding.proofs.Theorems.{word-of-code, word-of-own-code}
 use Rattle.words.proofs.LetterLoops.{ranks-below, length-ranksOf}
-use Rattle.tally.specs.Table.{classCount, placeOf}
-use Rattle.tally.specs.Book.{sameWord}
-use Rattle.tally.proofs.WordLists.{same-word, word-same}
+use Rattle.tally_book.specs.Table.{classCount, placeOf}
+use Rattle.tally_book.specs.Book.{sameWord}
+use Rattle.tally_book.proofs.WordLists.{same-word, word-same}
 use Rattle.loading.specs.Shapes.{ofLetters}
 
 -- ---- a word

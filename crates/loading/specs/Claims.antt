@@ -8,7 +8,7 @@ use lib.ListN.{length, getD}
 use Rattle.laws.specs.Text.{bytes}
 use Rattle.survey.specs.Forms.{form, settingsForms, lineOf}
 use Rattle.survey.specs.Grammar.{LettersText, KText, MirrorText}
-use Rattle.tally.specs.Table.{classCount}
+use Rattle.tally_book.specs.Table.{classCount}
 use Rattle.listing.specs.Listing.{countLine, totalLine, listingOf}
 use Rattle.loading.specs.Shapes.{isNumber, ofLetters}
 

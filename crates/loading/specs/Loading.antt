@@ -15,8 +15,8 @@ use Rattle.lines.specs.Lines.{lines}
 use Rattle.fastq.specs.Fastq.{unlessAt}
 use Rattle.survey.specs.Grammar.{spelt}
 use Rattle.survey.specs.Line.{surveyLine}
-use Rattle.tally.specs.Table.{classCount, placeOf, clearGround}
-use Rattle.tally.specs.Book.{sameWord, Book}
+use Rattle.tally_book.specs.Table.{classCount, placeOf, clearGround}
+use Rattle.tally_book.specs.Book.{sameWord, Book}
 use Rattle.listing.specs.Listing.{totalLine}
 pub use Rattle.loading.specs.declared.Next.{Next}
 pub use Rattle.loading.specs.declared.Next.the-variants.{Survey, CountOrTotal, Nothing}

@@ -10,7 +10,7 @@ use Rattle.settings.specs.Settings.{isIn}
 use Rattle.survey.specs.declared.Form.{Form}
 use Rattle.survey.specs.declared.Form.the-variants.{Of, NoForm}
 use Rattle.survey.specs.Reading.{startsWith, formAt, nextForm, inOrder}
-use Rattle.tally.specs.Book.{sameWord}
+use Rattle.tally_book.specs.Book.{sameWord}
 
 -- Whether two texts are the same, byte by byte: the test by which words are the same.
 abbrev pub sameText : List ℕ → List ℕ → Bool

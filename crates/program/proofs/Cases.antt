@@ -16,8 +16,8 @@ use Rattle.fasta.specs.Items.{recordsIn, lettersIn, oneIfForeign, foreignIn, ma
 use Rattle.fasta.specs.File.{isLetter, lfNext, lineItem, item, next, itemsFrom, faultFrom}
 use Rattle.fastq.specs.Fastq.{isThere, unlessAt, firstFailing, isQuality, recordFault, fastqFault}
 use Rattle.settings.specs.Limits.{tooLong}
-use Rattle.tally.specs.Table.{windowsOfFile, change, changes, oneMore, full, tooMany, readyGround, callGround}
-use Rattle.tally.specs.Demand.{sum}
+use Rattle.tally_book.specs.Table.{windowsOfFile, change, changes, oneMore, full, tooMany, readyGround, callGround}
+use Rattle.tally_book.specs.Demand.{sum}
 use Rattle.texts.specs.Decimals.{decimalFrom, decimal}
 use Rattle.survey.specs.Grammar.{spelt}
 use Rattle.survey.specs.Line.{surveyLine}

@@ -1,5 +1,5 @@
 -- Copies with T for U (document 02, K2) in the program: for a survey line and a file, and for the same line and a copy of the file, it prints the same, where
--- the line's letters have T and no U (`same-output`). From the laws of copies in the crates files and tally, and from what is proved of reading a survey line.
+-- the line's letters have T and no U (`same-output`). From the laws of copies in the crates files and tally_book, and from what is proved of reading a survey line.
 use mathlib.Core.Path.{_≡_, refl, sym, ap, _∙_}
 use mathlib.Core.Bool.{true}
 use mathlib.Core.List.{List, _++_, Forall₂·nil, append-assoc, append-cancel-right}
@@ -15,8 +15,8 @@ use Rattle.fasta.specs.declared.Numbers.{Numbers}
 use Rattle.files.specs.File.{File, fileNumbers}
 use Rattle.files.specs.Copies.{FileCopy}
 use Rattle.files.proofs.Copies.{same-file-fault, same-file-numbers}
-use Rattle.tally.specs.Table.{callGround, add, tableGround}
-use Rattle.tally.proofs.Copies.{same-windows-of-file, same-ready-ground}
+use Rattle.tally_book.specs.Table.{callGround, add, tableGround}
+use Rattle.tally_book.proofs.Copies.{same-windows-of-file, same-ready-ground}
 use Rattle.survey.specs.Grammar.{LineEnd, SurveyInput}
 use Rattle.survey.specs.Grammar.LineEnd.{lf, crlf, with-the-input}
 use Rattle.survey.proofs.Theorems.{another-end}

@@ -11,10 +11,10 @@ use Rattle.settings.specs.Settings.{rankIn, settingsGround, settingsOf}
 use Rattle.settings.proofs.Outcomes.{passed, refused-on, first-none}
 use Rattle.fasta.specs.declared.Numbers.{Numbers}
 use Rattle.files.specs.File.{File, fileNumbers}
-use Rattle.tally.specs.Table.{classCount, places, oneMore, readyGround, tableGround, callGround, add, tableAfter, Added}
+use Rattle.tally_book.specs.Table.{classCount, places, oneMore, readyGround, tableGround, callGround, add, tableAfter, Added}
 use Rattle.table.proofs.CallGrounds.{ready-bad}
-use Rattle.tally.proofs.Ready.{ready-settings, ready-room}
-use Rattle.tally.proofs.Changes.{length-changes}
+use Rattle.tally_book.proofs.Ready.{ready-settings, ready-room}
+use Rattle.tally_book.proofs.Changes.{length-changes}
 use Rattle.texts.proofs.Decimals.{decimal-length}
 use Rattle.texts.specs.Needs.{Puts}
 use Rattle.texts.proofs.Writing.{measured, then}

@@ -18,8 +18,8 @@ use Rattle.settings.proofs.FirstGround.{NumberIn}
 use Rattle.files.specs.File.{File, fileNumbers}
 use Rattle.files.specs.declared.Kind.{Kind}
 use Rattle.files.specs.declared.Kind.the-variants.{Fasta, Fastq}
-use Rattle.tally.specs.Table.{tableFull, callGround}
-use Rattle.tally.proofs.RefusalNumbers.{callNumbers, call-numbers}
+use Rattle.tally_book.specs.Table.{tableFull, callGround}
+use Rattle.tally_book.proofs.RefusalNumbers.{callNumbers, call-numbers}
 use Rattle.texts.specs.Decimals.{decimalFrom, decimal}
 use Rattle.survey.specs.Line.{surveyLine}
 use Rattle.survey.specs.Grammar.{OtherOrderInput}

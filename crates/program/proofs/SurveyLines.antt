@@ -13,8 +13,8 @@ use Rattle.laws.specs.Text.{bytes}
 use Rattle.settings.specs.Settings.{rankIn, settingsGround}
 use Rattle.settings.proofs.Outcomes.{first-none}
 use Rattle.files.specs.File.{fileNumbers}
-use Rattle.tally.specs.Table.{classCount, readyGround, callGround, add, tableGround, tableAfter}
-use Rattle.tally.proofs.Ready.{ready-settings}
+use Rattle.tally_book.specs.Table.{classCount, readyGround, callGround, add, tableGround, tableAfter}
+use Rattle.tally_book.proofs.Ready.{ready-settings}
 use Rattle.texts.specs.Decimals.{decimal}
 use Rattle.survey.specs.Forms.{unclosed}
 use Rattle.survey.specs.Line.{printedForms, surveyLine}

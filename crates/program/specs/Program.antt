@@ -14,7 +14,7 @@ use Rattle.fasta.specs.declared.Numbers.{Numbers}
 use Rattle.files.specs.declared.Kind.{Kind}
 use Rattle.files.specs.declared.Kind.the-variants.{Fasta, Fastq}
 use Rattle.files.specs.File.{File, fileOf, fileNumbers}
-use Rattle.tally.specs.Table.{add, tableGround, tableAfter}
+use Rattle.tally_book.specs.Table.{add, tableGround, tableAfter}
 use Rattle.texts.specs.Decimals.{decimal}
 use Rattle.survey.specs.Claims.{InputParts}
 use Rattle.survey.specs.Reading.{readInput}

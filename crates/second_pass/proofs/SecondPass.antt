@@ -20,16 +20,16 @@ use Rattle.fasta.proofs.Ranks.{windows-by-table}
 use Rattle.fasta.proofs.Runs.{windows-fit}
 use Rattle.kernels.specs.declared.Kernel.{Kernel}
 use Rattle.kernels.specs.Needs.{Takes}
-use Rattle.tally.specs.Table.{classCount, placeOf, windowsOfFile, places, changes, oneMore, oneLess, full, lacks, callFile, lastGround, tableAfter}
+use Rattle.tally_book.specs.Table.{classCount, placeOf, windowsOfFile, places, changes, oneMore, oneLess, full, lacks, callFile, lastGround, tableAfter}
 use Rattle.counts.specs.Needs.{byWay, Fits, TakenUnlessLacking}
 use Rattle.counts.proofs.CountLoops.{room-fits}
 use Rattle.counts.specs.declared.Way.{Way}
 use Rattle.counts.specs.declared.Way.the-variants.{In, Out}
 use Rattle.counts.specs.Calls.{callOf}
 use Rattle.second_pass.specs.Needs.{lastOf, ChangedUnlessRefused, CalledUnlessRefused, CleanFile}
-use Rattle.tally.proofs.Changes.{changes-front}
-use Rattle.tally.proofs.Full.{not-full}
-use Rattle.tally.proofs.Classes.{places-below}
+use Rattle.tally_book.proofs.Changes.{changes-front}
+use Rattle.tally_book.proofs.Full.{not-full}
+use Rattle.tally_book.proofs.Classes.{places-below}
 
 -- ---- counting, unless ground 12 applies, and taking away, unless ground 18 does
 

@@ -9,11 +9,11 @@ use Rattle.settings.specs.Settings.{rankIn}
 use Rattle.fasta.specs.declared.Numbers.{Numbers}
 use Rattle.files.specs.File.{File, startOf, fileFault, fileNumbers}
 use Rattle.kernels.specs.declared.Coder.{Coder}
-use Rattle.tally.specs.Table.{changes, full, lacks, Call, callFile, lastGround, tableAfter}
+use Rattle.tally_book.specs.Table.{changes, full, lacks, Call, callFile, lastGround, tableAfter}
 use Rattle.counts.specs.declared.Way.{Way}
 use Rattle.counts.specs.declared.Way.the-variants.{In, Out}
 use Rattle.counts.specs.Needs.{byWay}
-use Rattle.counting.specs.Needs.{codesOfFile}
+use Rattle.batches.specs.Needs.{codesOfFile}
 
 -- The codes of all windows of a file of its kind, by a coder and a rank table.
 abbrev pub codesOf : Coder → (ranks : List ℕ) → File → List ℕ

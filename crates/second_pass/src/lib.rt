@@ -1,5 +1,4 @@
 // The second pass over a file that was scanned without fault: under good settings, all its windows are counted up or down, or none where ground 12 or 18 applies.
-use counting::batches;
 use counts::Way;
 use fasta::Answer;
 use fasta::Numbers;
@@ -18,7 +17,7 @@ ghost use Rattle.settings.specs.RankTables.{RankTable, RanksBelow};
 ghost use Rattle.files.specs.File.{fileOf};
 ghost use Rattle.fasta.specs.Scan.{ofAnswer};
 ghost use Rattle.kernels.specs.Needs.{Takes, ReadyCoder};
-ghost use Rattle.tally.specs.Table.{classCount};
+ghost use Rattle.tally_book.specs.Table.{classCount};
 ghost use Rattle.counts.specs.declared.Way.the-variants.{In, Out};
 ghost use Rattle.counts.specs.Calls.{callOf};
 ghost use Rattle.second_pass.specs.Needs.{codesOf, ChangedUnlessRefused, CalledUnlessRefused, CleanFile};

@@ -20,8 +20,8 @@ use Rattle.texts.specs.Decimals.{decimal}
 use Rattle.listing.specs.Listing.{countLine}
 use Rattle.shapes.specs.Needs.{framed}
 use Rattle.loading.specs.Shapes.{sameText, inner, isNumber, numberBetween, ofLetters, wordIn, digitsIn, countShape, isCountLine, classesLast, isSurveyLine}
-use Rattle.tally.specs.Book.{sameWord}
-use Rattle.tally.proofs.WordLists.{same-word, word-same}
+use Rattle.tally_book.specs.Book.{sameWord}
+use Rattle.tally_book.proofs.WordLists.{same-word, word-same}
 use Rattle.loading.proofs.Shapes.{inner-is, count-parts}
 use Rattle.shapes.proofs.Loops.{text-lengths}
 

@@ -12,8 +12,8 @@ use borrow.Author.Tests.{eq-eqb, ne-eqb, le-leb, lt-leb, leb-true, leb-false}
 use mathlib.Mathlib.Data.Bool.Basic.{eq-false-of-not-eq-true}
 use Rattle.settings.specs.Settings.{isIn}
 use Rattle.survey.specs.Grammar.{spelt}
-use Rattle.tally.specs.Book.{sameWord}
-use Rattle.tally.proofs.WordLists.{word-same}
+use Rattle.tally_book.specs.Book.{sameWord}
+use Rattle.tally_book.proofs.WordLists.{word-same}
 use Rattle.loading.specs.Shapes.{sameText, allDigits, isNumber, ofLetters}
 
 -- ---- two texts

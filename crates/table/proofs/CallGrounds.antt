@@ -20,7 +20,7 @@ use Rattle.files.specs.File.{File, startOf, fileFault, fileNumbers}
 use Rattle.settings.specs.Limits.{tooLong}
 use Rattle.settings.specs.RankTables.{rankByTable, RankTable}
 use Rattle.fasta.proofs.Ranks.{numbers-by-table}
-use Rattle.tally.specs.Table.{classCount, tooMany, readyGround, callGround, clearGround, Call, callFile, lastGround, tableGround, tableAfter, Called, Clears}
+use Rattle.tally_book.specs.Table.{classCount, tooMany, readyGround, callGround, clearGround, Call, callFile, lastGround, tableGround, tableAfter, Called, Clears}
 use Rattle.second_pass.specs.Needs.{CalledUnlessRefused, CleanFile}
 use Rattle.table.specs.Needs.{ClearsPlaces}
 

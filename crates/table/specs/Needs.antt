@@ -3,7 +3,7 @@ use Prim.Native.Nat.{ℕ}
 use mathlib.Core.List.{List}
 use lib.ListN.{length, replicate}
 use Rattle.settings.specs.Grounds.{Outcome, ground, groundAt, tooShort, Overwrites, _orElse_}
-use Rattle.tally.specs.Table.{tooMany}
+use Rattle.tally_book.specs.Table.{tooMany}
 
 -- A clearing of places for so many classes to which only the grounds 6 and 7 may still apply.
 abbrev pub ClearsPlaces : ℕ → (t : List ℕ) → Outcome ℕ → (t′ : List ℕ) → Type 0

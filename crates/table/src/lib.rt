@@ -1,5 +1,5 @@
 // The table of counts, one place a class: clearing it, adding files to it and withdrawing them. What holds of a list of such calls, demand 3, is
-// stated in the crate tally (specs/Demand.antt).
+// stated in the crate tally_book (specs/Demand.antt).
 use counts::Way;
 use fasta::Answer;
 use files::Kind;
@@ -14,7 +14,7 @@ ghost use Rattle.settings.specs.Grounds.{outcome, ofFilling};
 ghost use Rattle.settings.specs.Settings.{settingsOf, ofChecked};
 ghost use Rattle.files.specs.File.{fileOf};
 ghost use Rattle.fasta.specs.Scan.{ofAnswer};
-ghost use Rattle.tally.specs.Table.{readyGround, Called, Added, Withdrawn, Clears};
+ghost use Rattle.tally_book.specs.Table.{readyGround, Called, Added, Withdrawn, Clears};
 ghost use Rattle.counts.specs.Calls.{callOf};
 ghost use Rattle.table.specs.Needs.{ClearsPlaces};
 

@@ -27,7 +27,7 @@ use Rattle.fasta.specs.Items.{recordsIn, lettersIn, foreignIn, oneIfForeign, ma
 use Rattle.files.specs.File.{fileFault, fileNumbers, fileWindows, items}
 use Rattle.settings.specs.Limits.{tooLong}
 use Rattle.files.specs.Scan.{scanGround}
-use Rattle.tally.specs.Table.{readyGround, callGround, tableGround, tableFull, add}
+use Rattle.tally_book.specs.Table.{readyGround, callGround, tableGround, tableFull, add}
 use Rattle.testload.specs.TestLoad.{drawn, stateAfter, recordText, recordsFrom, testLoad, generateGround}
 use Rattle.testload.specs.Claims.{loadFile, loadNumbers, drawnRecords}
 use Rattle.testload.proofs.Drawn.{length-drawn}

@@ -8,8 +8,8 @@ use Rattle.settings.specs.Grounds.{Outcome, ofFilling}
 use Rattle.fasta.specs.declared.Numbers.{Numbers}
 use Rattle.fasta.specs.Scan.{ofAnswer}
 use Rattle.files.specs.File.{File}
-use Rattle.tally.specs.Table.{clearGround, Clears, add}
-use Rattle.tally.specs.Demand.{TableCalls, DemandThree}
+use Rattle.tally_book.specs.Table.{clearGround, Clears, add}
+use Rattle.tally_book.specs.Demand.{TableCalls, DemandThree}
 use Rattle.two_adds.specs.declared.Answers.{Answers}
 
 -- The answers of two adds.

@@ -1,6 +1,6 @@
 -- `counts::count_code` meets its contract: one more at the code's place.
 use mathlib.Core.Path.{refl}
-use Rattle.tally.specs.Table.{change, oneMore}
+use Rattle.tally_book.specs.Table.{change, oneMore}
 use borrow.Author.Needs.{needs}
 use Rattle.counts.proofs.count_code.Statement.{statement}
 use Rattle.counts.proofs.count_code.Tie as tie

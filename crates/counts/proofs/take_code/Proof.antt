@@ -1,6 +1,6 @@
 -- `counts::take_code` meets its contract: one less at the code's place.
 use mathlib.Core.Path.{refl}
-use Rattle.tally.specs.Table.{change, oneLess}
+use Rattle.tally_book.specs.Table.{change, oneLess}
 use borrow.Author.Needs.{needs}
 use Rattle.counts.proofs.take_code.Statement.{statement}
 use Rattle.counts.proofs.take_code.Tie as tie

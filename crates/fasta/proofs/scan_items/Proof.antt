@@ -1,5 +1,5 @@
 -- `fasta::scan_items` meets its contract. The invariant, `Scanning`: the answer for the file is that of the items that are left, from the
--- tally reached. Bytes that the mode skips leave it as it is.
+-- numbers reached. Bytes that the mode skips leave it as it is.
 use mathlib.Core.Path.{_∙_}
 use Prim.Native.Nat.{_-_, _≤_}
 use native.Mathlib.Omega.{arith}

@@ -4,7 +4,7 @@ use mathlib.Core.Option.{none}
 use lib.ListN.{length}
 use borrow.Author.Needs.{needs}
 use Rattle.fasta.specs.Scan.{ofAnswer}
-use Rattle.tally.specs.Table.{readyGround}
+use Rattle.tally_book.specs.Table.{readyGround}
 use Rattle.second_pass.proofs.SecondPass.{file-of}
 use Rattle.table.proofs.CallGrounds.{ready-passed}
 use Rattle.kmer.proofs.FileCalls.{call-fits, ready-refuses, ready-fits, into-bad, into-short, into-refused, into-taken}

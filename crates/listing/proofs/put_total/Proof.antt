@@ -2,7 +2,7 @@
 use borrow.Author.Needs.{needs}
 use denote.Ref.{now}
 use Rattle.laws.specs.Text.{bytes}
-use Rattle.tally.specs.Demand.{sum}
+use Rattle.tally_book.specs.Demand.{sum}
 use Rattle.texts.proofs.Writing.{then-field}
 use Rattle.listing.specs.Listing.{totalLine}
 use Rattle.listing.proofs.put_total.Statement.{statement}

@@ -5,7 +5,7 @@ use native.Mathlib.Omega.{arith}
 use denote.Ref.{now}
 use lib.ListN.{length, drop}
 use Rattle.laws.proofs.Sums.{sum-step, sum-end}
-use Rattle.tally.specs.Demand.{sum}
+use Rattle.tally_book.specs.Demand.{sum}
 use Rattle.listing.proofs.Lines.{counts-add-up}
 use Rattle.listing.proofs.total.Statement.{statement}
 use Rattle.listing.proofs.total.Tie as tie

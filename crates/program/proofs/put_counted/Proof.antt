@@ -6,7 +6,7 @@ use Prim.Native.Nat.{ℕ}
 use denote.Ref.{now}
 use lib.Seq.{length-take-le}
 use Rattle.settings.specs.declared.Settings.{Settings}
-use Rattle.tally.specs.Table.{classCount}
+use Rattle.tally_book.specs.Table.{classCount}
 use Rattle.fasta.specs.Scan.{ofAnswer}
 use Rattle.files.specs.File.{fileOf}
 use Rattle.program.proofs.Outputs.{SmallNumbers, TakenIn, refused-text, taken-in, taken-prints}

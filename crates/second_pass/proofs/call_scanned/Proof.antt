@@ -11,7 +11,7 @@ use Rattle.settings.specs.Settings.{mirrorOf}
 use Rattle.files.specs.File.{fileOf}
 use Rattle.kernels.specs.declared.Coder.{Coder}
 use Rattle.kernels.specs.Needs.{Takes, coderOf}
-use Rattle.tally.specs.Table.{classCount}
+use Rattle.tally_book.specs.Table.{classCount}
 use Rattle.second_pass.specs.Needs.{codesOf}
 use Rattle.kernels.proofs.GoodSettings.{coder-is, coder-ready, ranks-ready, palindromes-fit, power-ready}
 use borrow.Author.Needs.{needs}

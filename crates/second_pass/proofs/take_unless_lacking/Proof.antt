@@ -1,4 +1,4 @@
--- `second_pass::take_unless_lacking` meets its contract: ground 18 and the counts by `counting::batches::take_file`.
+-- `second_pass::take_unless_lacking` meets its contract: ground 18 and the counts by `batches::take_file`.
 use denote.Ref.{now}
 use Rattle.files.specs.File.{fileOf}
 use Rattle.second_pass.specs.Needs.{codesOf}

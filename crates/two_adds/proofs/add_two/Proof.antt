@@ -1,7 +1,7 @@
 -- `two_adds::add_two` meets its contract: the contracts of its calls make a list of adds after a clearing, of which demand 3 is proved.
 use denote.Ref.{now}
-use Rattle.tally.specs.Demand.Calls.{done, then}
-use Rattle.tally.proofs.DemandThree.{demand-three}
+use Rattle.tally_book.specs.Demand.Calls.{done, then}
+use Rattle.tally_book.proofs.DemandThree.{demand-three}
 use borrow.Author.Needs.{needs}
 use Rattle.two_adds.proofs.add_two.Statement.{statement}
 use Rattle.two_adds.proofs.add_two.Tie as tie

@@ -1,0 +1,2 @@
+-- The survey line part by part.
+pub mod LineParts
