@@ -1,4 +1,4 @@
--- What the functions of the program ask of each other and promise each other; what is printed for the bytes that were read is defined in the crate program.
+-- What the functions of the program ask of each other and promise each other; the texts that are printed are defined in the crate program.
 use mathlib.Core.List.{List}
 use Prim.Native.Nat.{ℕ}
 use lib.ListN.{take}

@@ -1,5 +1,5 @@
 -- One less for each of some codes, as far as the counts allow: what holds at the head of the loop, what a turn does to it, where it stops; and ground 18:
--- where not all were taken some count was too low, and counting again what was taken leaves the counts as they were. From the laws of counts in tally.
+-- where not all were taken some count was too low, and counting again what was taken leaves the counts as they were. From the laws of counts in tally_book.
 use mathlib.Core.Path.{_≡_, refl, sym, ap, _∙_}
 use Prim.Native.Nat.{ℕ, suc, _+_, _-_, _<_, _≤_}
 use native.Mathlib.Numerals.{add-one}

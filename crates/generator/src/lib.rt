@@ -110,7 +110,7 @@ fn put_records(out: &mut [u8], letters: &[u8], start: u64, records: usize, each:
     }
 }
 
-// A length that is too long, whatever it is.
+// One byte above the most: what `needed_length` answers where already one record is too long.
 const MORE_BYTES: usize = settings::MOST_BYTES + 1;
 
 // The length of all records with so many letters each, where it is at most 16,777,216; else some number above that, since the sum stops there.

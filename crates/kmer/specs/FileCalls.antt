@@ -1,5 +1,5 @@
--- Document 01, "Sequence file (FASTA)" and "Grounds for refusing", and document 02, K1 and K4: what adding and withdrawing a file of either kind through the
--- C calls return and leave. The file's five numbers go into a lent list of 64-bit numbers.
+-- Document 01, "Sequence file (FASTA)" and "Grounds for refusing", and document 02, K1 and K4: what clearing a table, and adding and withdrawing a file
+-- of either kind, through the C calls return and leave. The file's five numbers go into a lent list of 64-bit numbers.
 use mathlib.Core.Path.{_≡_}
 use mathlib.Core.Option.{Option}
 use mathlib.Core.List.{List}

@@ -18,8 +18,9 @@ abbrev pub returnedUpTo : Outcome ℕ → ℕ
 returnedUpTo (given n) = n
 returnedUpTo (refused g) = 2 ^ 63 + min (g .1) (2 ^ 55 - 1) * 256 + g .0
 
--- The contract of a C call, read off `Promise`, that of the call below it, which speaks of the answer and of the lent places: the answer becomes one number,
--- by `returned`, by `returnedWithPlace` or by `returnedUpTo`.
+-- The contract of a C call that overwrites a lent buffer, read off `Promise`, that of the call below it, which speaks of the answer and of the lent places: the
+-- answer becomes one number, by `returned`, by `returnedWithPlace` or by `returnedUpTo`. Each `Promise` used is an `Overwrites`, which only one answer meets; so r
+-- is fixed.
 pub record Returns (number : Outcome ℕ → ℕ) (Promise : Outcome ℕ → Type 0) (r : ℕ) : Type 0 where
   pub answer : Outcome ℕ
   pub promised : Promise answer

@@ -4,7 +4,6 @@ use mathlib.Core.Bool.{Bool, true, false, cond, _&&_}
 use mathlib.Core.Option.{Option, none, some}
 use mathlib.Core.List.{List, [], _∷_, map}
 use lib.ListN.{length}
-use lib.Dec.{ltb}
 use Rattle.settings.specs.Grounds.{Ground, Outcome, ground, groundAt, tooShort, _orElse_, Overwrites}
 use Rattle.settings.specs.Settings.{rankIn, mirrorOf, settingsGround}
 use Rattle.settings.specs.Limits.{tooLong}

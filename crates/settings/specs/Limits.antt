@@ -1,5 +1,5 @@
--- The limits of document 01, each once; and settings within them, as the theorems take them: the number of letters s, and k. They are the same for both
--- mirrors (document 02, K10).
+-- The limits of document 01 that several definitions share, each named once; and settings within them, as the theorems take them: the number of letters s, and k.
+-- They are the same for both mirrors (document 02, K10).
 use Prim.Native.Nat.{ℕ, _^_, _<_, _≤_}
 use mathlib.Core.Bool.{Bool}
 use mathlib.Core.List.{List}
@@ -21,7 +21,7 @@ mostClasses = 16777216
 abbrev pub highestCount : ℕ
 highestCount = 4294967295
 
--- Ground 6, of a file and of a plain sequence.
+-- Ground 6, of a file, read or written (document 02, K8), and of a plain sequence.
 unfoldable pub tooLong : (bytes : List ℕ) → Bool
 tooLong bytes = ltb mostBytes (length bytes)
 

@@ -32,7 +32,7 @@ Inside input (Survey from len k mirror next) = (from + len ≤ length input) × 
 Inside input NoSurvey = Unit
 Inside input OtherOrder = Unit
 
--- The contract of `survey::read_line`: the answer is what the input is read as (`readInput`, in Reading), and lies inside it.
+-- The contract of `survey_reader::read_line`: the answer is what the input is read as (`readInput`, in Reading), and lies inside it.
 pub record ReadsLine (input : List ℕ) (read : Outcome InputParts) (r : Head) : Type 0 where
   pub answers : ofHead input r ≡ read
   pub inside : Inside input r

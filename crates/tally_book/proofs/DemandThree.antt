@@ -21,7 +21,7 @@ use Rattle.tally_book.specs.Demand.Calls.{done, then}
 use Rattle.tally_book.proofs.Classes.{place-below, places-and-classes, canonical-word, canonical-place, hits-of-canonical}
 use Rattle.tally_book.proofs.Steps.{step}
 use Rattle.tally_book.proofs.TakenIn.{hits-append, all-windows-are-words, in-more, out-more, added-up}
-use Rattle.tally_book.proofs.Clearing.{settings-good, cleared-agrees, cleared-sum, cleared-later}
+use Rattle.tally_book.proofs.Clearing.{settings-good, cleared-agrees, cleared-sum, cleared-later, cleared-length}
 
 module _ (letters : List ℕ) (k m : ℕ) (good : settingsGround letters k m ≡ none) where
   -- A list of calls from any table, beside a book that agrees with it: each answer is the book's, each count is its class's tally, later places never
@@ -131,6 +131,7 @@ demand-three letters k m {calls = calls} {answers = answers} no-ground clearing 
     record {
       kept = K;
       later-places-as-before-the-clearing = K .later-places-never-change ∙ cleared-later letters k m no-ground clearing;
+      as-many-places-as-before-the-clearing = K .as-many-places-as-before ∙ cleared-length letters k m no-ground clearing;
       places-and-classes = places-and-classes letters k m good;
       each-count-is-added-less-withdrawn = λ w c.
           omega (arith, K .each-count-moved-by-the-windows w c, A .each-count-is-its-class's-tally w c);

@@ -122,10 +122,12 @@ NotCutOff letters k files =
     addedUp (foreignOf letters k) files + addedUp (edgeOf letters k) files ≤ addedUp (lettersOf letters k) files
 
 -- Demand 3 for a list of calls from a cleared table: t₀ is the table before the clearing, cleared the one that it left, t the one that the list left. `Kept` says
--- what holds from any table that agrees with a book, here the cleared ones; the other fields what it comes to from counts that are 0.
+-- what holds from any table that agrees with a book, here from the cleared table and the cleared book; the other fields say what it comes to there, the counts being
+-- 0, and beside t₀.
 pub record DemandThree (letters : List ℕ) (k mirror : ℕ) (t₀ cleared : List ℕ) (calls : List Call) (answers : List (Outcome Numbers)) (t : List ℕ) : Type 0 where
   pub kept : Kept letters k mirror clearedBook cleared calls answers t
   pub later-places-as-before-the-clearing : drop (classCount letters k mirror) t ≡ drop (classCount letters k mirror) t₀
+  pub as-many-places-as-before-the-clearing : length t ≡ length t₀
   pub places-and-classes : OnePlaceAClass letters k mirror
   -- "each class's count is its windows added less its windows withdrawn, over the calls accepted"; the next field says that nothing is cut off
   pub each-count-is-added-less-withdrawn : (w : List ℕ) → CanonicalWord (length letters) (mirrorOf mirror) k w

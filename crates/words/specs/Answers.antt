@@ -1,4 +1,5 @@
--- How the answers of the word calls are read, and what the pick hands back: document 01, "Word of a code, and the canonical pick".
+-- How the answers of the word calls are read, the contracts of reading a code and mirroring, and what the pick hands back: document 01,
+-- "Word of a code, and the canonical pick".
 use Prim.Native.Nat.{ℕ}
 use mathlib.Core.Path.{_≡_}
 use mathlib.Core.Bool.{Bool, true, false}
