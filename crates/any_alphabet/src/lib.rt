@@ -1,6 +1,9 @@
 // The kernel for every alphabet: the codes of all windows of a list of ranks, each window's from what the window before it left. A code is
 // worked out from a window's ends (encoding/proofs/CodesByEnds.antt): where the outer letters differ it takes the plain rank of the letters
 // between them or that of their mirror, and only outer pairs that are equal are scanned. Divisors are constants.
+
+#![tactic(auto)]
+
 ghost use Rattle.std.specs.Prelude.{◌≡◌, ◌≢◌, [], ◌∷◌, ◌+◌, ◌-◌, ◌/◌, ◌^◌, ◌<◌, ◌≤◌, length, get_or};
 ghost use Rattle.encoding.specs.Words.{Ranks, mirror_rank};
 ghost use Rattle.encoding.specs.Codes.{code};
@@ -13,7 +16,7 @@ use ranks::{higher, lower, mirror_rank, pair_rank, rank_at};
 use settings::Mirror;
 
 // Of a window: the number of palindromes of its length, and the plain ranks of the letters between its first and last and of their mirror.
-#[derive(Drop)]
+#[derive(Clone, Copy)]
 pub struct Inner {
     pub palindromes: u64,
     pub forward: u64,

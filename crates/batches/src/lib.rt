@@ -1,5 +1,8 @@
 // The windows of a file, counted or taken away in batches: the ranks of a run's letters go into a local array, their codes into another, and then each
 // code is counted or taken away. Between the batches of one run its last k - 1 letters stay in the array.
+
+#![tactic(auto)]
+
 ghost use Rattle.std.specs.Prelude.{◌≡◌, false, ◌++◌, ◌+◌, ◌<◌, ◌≤◌, min, length, take, drop};
 ghost use Rattle.settings.specs.Settings.{classes};
 ghost use Rattle.encoding.specs.Words.{Ranks};
@@ -15,7 +18,7 @@ use fasta::{Item, Mode};
 use kernels::{Coder, fill_codes};
 
 // What a byte does to the present run: how many letters it adds, 0 or 1, with the letter's rank; or that it ends the run.
-#[derive(Drop)]
+#[derive(Clone, Copy)]
 struct Mark {
     rank: u8,
     letters: usize,
@@ -23,7 +26,7 @@ struct Mark {
 }
 
 // How far the file was read and in which mode, how many letters of the present run stand in the array, and whether the run ended there.
-#[derive(Drop)]
+#[derive(Clone, Copy)]
 struct Gathered {
     at: usize,
     mode: Mode,

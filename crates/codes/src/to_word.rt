@@ -8,7 +8,7 @@ ghost use Rattle.codes.specs.Needs.{RankOfPair, FitHighCode};
 use settings::Mirror;
 
 // A pair of ranks l < r.
-#[derive(Drop)]
+#[derive(Clone, Copy)]
 struct Pair(pub u64, pub u64);
 
 // Sets the two ends of a word of two letters or more.

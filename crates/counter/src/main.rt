@@ -1,11 +1,14 @@
 // The counter program: a survey line and a sequence file on standard input, the listing and the file line, or a refusal, on standard output. No contract can
 // speak of what is read or printed; so `main` only reads, calls and prints, and what is printed for the bytes that were read is `program::run`'s.
+
+#![tactic(auto)]
+
 ghost use Rattle.std.specs.Prelude.{◌≡◌, ◌≤◌, length};
 ghost use Rattle.program.specs.Program.{unread_line, Prints};
 ghost use Rattle.counter.specs.Needs.{bytes_read, text_for};
 
 // How many bytes of standard input were read: to its end, or to the buffer's; or before a read that failed.
-#[derive(Drop)]
+#[derive(Clone, Copy)]
 enum Input {
     Whole(usize),
     Failed(usize),

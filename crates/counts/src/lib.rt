@@ -1,4 +1,7 @@
 // The counts, one a class: set to 0, their highest, and one more or one less at each of some codes.
+
+#![tactic(auto)]
+
 ghost use Rattle.std.specs.Prelude.{◌≡◌, ◌++◌, ◌<◌, ◌≤◌, max, length, get_or, drop, replicate, eqb};
 ghost use Rattle.tally_book.specs.Table.{change, changes, one_more, one_less, full};
 ghost use Rattle.laws.specs.Each.{Each};
@@ -9,7 +12,7 @@ ghost use Rattle.counts.specs.Needs.{Fits, Changed, highest_of};
 use ranks::Code;
 
 // Whether a file's windows are counted or taken away.
-#[derive(Drop)]
+#[derive(Clone, Copy)]
 pub enum Way {
     In,
     Out,

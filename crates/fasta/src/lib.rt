@@ -1,5 +1,8 @@
 // Sequence files, FASTA and FASTQ: what each byte is by the place in its line, and the five numbers of a file's bytes or the first that may not stand
 // where it does. The lines and qualities of FASTQ are judged in `files`, which also knows the kind of a file.
+
+#![tactic(auto)]
+
 ghost use Rattle.std.specs.Prelude.{◌≡◌, false, ◌+◌, ◌<◌, ◌≤◌, length, get_or, drop};
 ghost use Rattle.settings.specs.Grounds.{given, outcome};
 ghost use Rattle.settings.specs.RankTables.{as_rank, rank_by_table};
@@ -12,7 +15,7 @@ use settings::Refusal;
 
 // Where in its line a byte stands. FASTA's are Start, at a line's start, and Header or Sequence, later in a line, by the line's first byte. FASTQ's are
 // FastqStart, at a record's start, FastqHeader, later in its header line, and the other three, in its second, third and fourth line.
-#[derive(Drop)]
+#[derive(Clone, Copy)]
 pub enum Mode {
     Start,
     Header,
@@ -25,7 +28,7 @@ pub enum Mode {
 }
 
 // What a byte of a file is: the > or @ that opens a record, a byte that counts for nothing, a stray byte, a letter.
-#[derive(Drop)]
+#[derive(Clone, Copy)]
 pub enum Item {
     Opens,
     Skip,
@@ -34,7 +37,7 @@ pub enum Item {
 }
 
 // A file's records, letters (foreign ones too), foreign letters, and the edge letters and windows of all its runs.
-#[derive(Drop)]
+#[derive(Clone, Copy)]
 pub struct Numbers {
     pub records: usize,
     pub letters: usize,
@@ -44,14 +47,14 @@ pub struct Numbers {
 }
 
 // What a scan of a file answers, an add or a withdrawal: the numbers of a file that was taken, or the refusal.
-#[derive(Drop)]
+#[derive(Clone, Copy)]
 pub enum Answer {
     Taken(Numbers),
     Refused(Refusal),
 }
 
 // The numbers of what was scanned, and the length of the present run.
-#[derive(Drop)]
+#[derive(Clone, Copy)]
 struct Scanned {
     records: usize,
     letters: usize,
@@ -62,7 +65,7 @@ struct Scanned {
 }
 
 // The scan goes on, or ends at a stray byte or at a letter before the first header.
-#[derive(Drop)]
+#[derive(Clone, Copy)]
 enum Step {
     On(Scanned),
     AtStray,

@@ -1,5 +1,8 @@
 // The first ground for refusing a FASTQ file: record by record, each from the places of its four lines. Searches for the end of a line and for a byte that
 // may not stand in a text take 16 bytes at a time.
+
+#![tactic(auto)]
+
 ghost use Rattle.std.specs.Prelude.{◌≡◌, true, ◌+◌, ◌-◌, ◌≤◌, length, take, drop};
 ghost use Rattle.settings.specs.Needs.{of_finding};
 ghost use Rattle.lines.specs.Lines.{lines};
@@ -9,14 +12,14 @@ ghost use Rattle.fastq_faults.specs.Needs.{of_place, in_ranges, All, text_ground
 use settings::{Finding, Refusal};
 
 // The first place where a test of bytes fails, if there is one.
-#[derive(Drop)]
+#[derive(Clone, Copy)]
 enum Place {
     Nowhere,
     At(usize),
 }
 
 // Two ranges of bytes, their ends included.
-#[derive(Drop)]
+#[derive(Clone, Copy)]
 struct Ranges {
     low: u8,
     high: u8,

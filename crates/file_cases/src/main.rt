@@ -7,6 +7,9 @@
 //   # ..                          copied, to say what the next cases are about
 // A line under six bytes is skipped.
 // FILE is the rest of the line: \n is LF, \r is CR, \xHH is any byte, and every other byte stands for itself.
+
+#![tactic(auto)]
+
 ghost use Rattle.std.specs.Prelude.{◌≡◌, ◌<◌, ◌≤◌, length};
 
 use fasta::Answer;
@@ -14,7 +17,7 @@ use files::Kind;
 use records::Found;
 
 // A byte of a file, and how many bytes of the line stand for it.
-#[derive(Drop)]
+#[derive(Clone, Copy)]
 struct Piece {
     byte: u8,
     used: usize,

@@ -1,4 +1,7 @@
 // Sequence files of both kinds: the kind, and the scan of a file, which answers its five numbers or the first ground for refusing it.
+
+#![tactic(auto)]
+
 ghost use Rattle.std.specs.Prelude.{◌≡◌, ◌≤◌, length};
 ghost use Rattle.lines.specs.Lines.{lines};
 ghost use Rattle.settings.specs.Grounds.{outcome};
@@ -16,7 +19,7 @@ use fasta::{Answer, Mode};
 use settings::{Checked, Finding, Refusal};
 
 // The kinds of sequence file.
-#[derive(Drop)]
+#[derive(Clone, Copy)]
 pub enum Kind {
     Fasta,
     Fastq,

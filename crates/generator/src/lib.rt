@@ -1,4 +1,7 @@
 // The call that writes a test load (document 02, K8): letters are drawn from a state of 64 bits, which runs on from record to record.
+
+#![tactic(auto)]
+
 ghost use Rattle.std.specs.Prelude.{◌≡◌, ◌+◌, ◌*◌, ◌/◌, ◌%◌, ◌^◌, ◌≤◌, min, length};
 ghost use Rattle.std.proofs.lemmas.List.Edits.{sets};
 ghost use Rattle.settings.specs.Grounds.{of_filling};
@@ -36,7 +39,7 @@ fn rank_of_state(state: u64, s: u64) -> u64
 }
 
 // Where a writer has come to: the place behind what it wrote, and the state with which the next letter is drawn.
-#[derive(Drop)]
+#[derive(Clone, Copy)]
 struct Drawn {
     at: usize,
     state: u64,

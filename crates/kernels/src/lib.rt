@@ -1,5 +1,8 @@
 // From ranks to codes: the piece that codes along a sequence, adding and withdrawing a file share. It takes good settings as a `Coder` with the powers of s and the
 // table of mirrors, each made once a call, and a list of ranks, and leaves the windows to one of the two kernels below. Callers cut what is too long for their arrays into pieces that overlap by k - 1 letters.
+
+#![tactic(auto)]
+
 ghost use Rattle.std.specs.Prelude.{◌≡◌, ◌+◌, ◌-◌, ◌*◌, ◌^◌, ◌<◌, ◌≤◌, length};
 ghost use Rattle.encoding.specs.Words.{Ranks};
 ghost use Rattle.windows.specs.Windows.{window_codes};
@@ -10,14 +13,14 @@ ghost use Rattle.kernels.specs.Needs.{coder_of, ReadyCoder};
 use settings::{Mirror, Settings};
 
 // How codes are worked out: by the kernel for every alphabet, or by two-bit numbers, which four letters under complement alone have.
-#[derive(Drop)]
+#[derive(Clone, Copy)]
 pub enum Kernel {
     AnyAlphabet,
     TwoBit,
 }
 
 // What a kernel needs of good settings: the number of letters, k, the mirror, the number of palindromes.
-#[derive(Drop)]
+#[derive(Clone, Copy)]
 pub struct Coder {
     pub kernel: Kernel,
     pub s: u64,

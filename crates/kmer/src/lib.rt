@@ -1,5 +1,8 @@
 // The calls for C programs (include/kmer.h): word coding, code reading, mirroring, codes along a sequence, the number of classes, the table, its listing and
 // loading one, and test loads, on numbers and slices.
+
+#![tactic(auto)]
+
 ghost use Rattle.std.specs.Prelude.{◌≡◌};
 ghost use Rattle.files.specs.File.{file_of};
 ghost use Rattle.counts.specs.Calls.{call_of};

@@ -1,4 +1,7 @@
 // The lines of a text: where a line ends, where the next one starts, and where a line's text ends, which is the line without its LF or CR LF.
+
+#![tactic(auto)]
+
 ghost use Rattle.std.specs.Prelude.{◌≡◌, false, ◌+◌, ◌≤◌, length, drop};
 ghost use Rattle.lines.specs.Lines.{text_of, first_byte_is};
 ghost use Rattle.lines.specs.Needs.{first_line, NoLf, LineEnd};

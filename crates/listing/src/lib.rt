@@ -1,4 +1,7 @@
 // The listing of a table: the survey line, a line for each class with a count, the total; written whole into a lent buffer.
+
+#![tactic(auto)]
+
 ghost use Rattle.std.specs.Prelude.{◌≡◌, ◌<◌, ◌≤◌, length};
 ghost use Rattle.std.proofs.Math.Option.{none};
 ghost use Rattle.settings.specs.Grounds.{of_filling};

@@ -1,5 +1,8 @@
 // Loading a listing into a table (document 02, K7). The text is read twice: to its end for its first fault, and then, where it has none, for its counts, so that
 // a refused call writes nothing.
+
+#![tactic(auto)]
+
 mod judge; // one line of a listing
 
 ghost use Rattle.std.specs.Prelude.{◌≡◌, length, drop};
@@ -15,7 +18,7 @@ use loading::Next;
 use settings::{Checked, Filling, Finding, Refusal};
 
 // What a line is judged to be: passed, with what belongs after it; or at fault.
-#[derive(Drop)]
+#[derive(Clone, Copy)]
 pub enum Step {
     On(Next),
     Fault(Refusal),

@@ -1,5 +1,8 @@
 // Letters packed by two bits, four to a byte: the mirror of a window by a table of bytes (document 02, K3). The kernel by two-bit numbers takes every
 // window's mirror from here.
+
+#![tactic(auto)]
+
 ghost use Rattle.std.specs.Prelude.{◌≡◌, ◌%◌, ◌^◌, ◌<◌, ◌≤◌, get_or};
 ghost use Rattle.encoding.specs.Words.{Complement, mirror, plain};
 ghost use Rattle.encoding.specs.WordsOfCodes.{word_of_plain};

@@ -1,5 +1,8 @@
 // Prints what the pick hands back, a line a case, for the comparison with the stored output: a word, or an empty line where the pick is refused.
 // A word in small letters beside the same one in capitals shows which of two equal words came back.
+
+#![tactic(auto)]
+
 fn show<'a>(letters: &[u8], k: usize, mirror: u64, first: &'a [u8], second: &'a [u8]) {
     let part = words::pick(letters, k, mirror, first, second);
     io::write_all(1, part);

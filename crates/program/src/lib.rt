@@ -1,4 +1,7 @@
 // The counter program as one function, from the bytes of its input to those of its output.
+
+#![tactic(auto)]
+
 ghost use Rattle.std.specs.Prelude.{◌≡◌, ◌-◌, ◌≤◌, length, take, drop};
 ghost use Rattle.std.proofs.Math.Option.{none};
 ghost use Rattle.settings.specs.Grounds.{ground_of};

@@ -1,4 +1,7 @@
 // Words of ranks, which coding words and coding along a sequence share: the mirror and the plain rank of a word, the rank of a pair.
+
+#![tactic(auto)]
+
 ghost use Rattle.std.specs.Prelude.{◌≡◌, ◌++◌, ◌<◌, ◌≤◌, min, max, length, get_or, drop};
 ghost use Rattle.encoding.specs.Words.{Ranks, mirror_rank, mirror, plain};
 ghost use Rattle.encoding.specs.Codes.{pair_rank};
@@ -7,10 +10,10 @@ ghost use Rattle.ranks.specs.Needs.{FitWord};
 use settings::Mirror;
 
 // A plain rank counts all words, a code counts classes, and neither may pass for the other.
-#[derive(Drop)]
+#[derive(Clone, Copy)]
 pub struct PlainRank(pub u64);
 
-#[derive(Drop)]
+#[derive(Clone, Copy)]
 pub struct Code(pub u64);
 
 // The lower of two numbers.

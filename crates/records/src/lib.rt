@@ -1,5 +1,8 @@
 // The record reader: each record of a file as two offsets with lengths, from any offset. It takes any bytes and refuses nothing. First the scanner
 // of a slice, then the reader over it, then the functions with plain parameters that use a reader.
+
+#![tactic(auto)]
+
 ghost use Rattle.std.specs.Prelude.{◌≡◌, ◌<◌, ◌≤◌, length};
 ghost use Rattle.std.proofs.Math.Option.{some};
 ghost use Rattle.records.specs.Records.{
@@ -16,7 +19,7 @@ ghost use Rattle.records.specs.Records.{
 };
 
 // A record as the offset and length of its header line and of what follows it.
-#[derive(Drop)]
+#[derive(Clone, Copy)]
 pub enum Found {
     Record {
         header: usize,

@@ -1,4 +1,7 @@
 // What the C calls (crate kmer) return and read as numbers: a refusal beside a call's own number, a file's kind, a file's five numbers.
+
+#![tactic(auto)]
+
 ghost use Rattle.std.specs.Prelude.{◌≡◌, ◌-◌, ◌^◌, ◌<◌, ◌≤◌, min, ◌++◌, length, drop};
 ghost use Rattle.settings.specs.Grounds.{refused as Refused, ground_of, of_filling};
 ghost use Rattle.returned.specs.Returned.{returned, returned_with_place, returned_up_to};

@@ -1,4 +1,7 @@
 // The second pass over a file that was scanned without fault: under good settings, all its windows are counted up or down, or none where ground 12 or 18 applies.
+
+#![tactic(auto)]
+
 ghost use Rattle.std.specs.Prelude.{◌≡◌, ◌≤◌, length};
 ghost use Rattle.std.proofs.Math.Option.{none};
 ghost use Rattle.settings.specs.Settings.{classes, settings_ground, settings_of};

@@ -1,5 +1,8 @@
 // Codes along a sequence: the code of every window of plain sequence bytes, by a kernel for every alphabet or, for ACGT under complement, by two-bit
 // numbers. Both calls have one definition in their contracts.
+
+#![tactic(auto)]
+
 mod batches;
 mod bytes;
 

@@ -1,5 +1,8 @@
 // The settings of a survey: letters, k and mirror. Their check, a byte's rank, powers of s, the number of classes; and the
 // enum of all refusals, with which the calls of the crates above answer.
+
+#![tactic(auto)]
+
 ghost use Rattle.std.specs.Prelude.{◌≡◌, ◌^◌, ◌<◌, ◌≤◌, min, length, drop};
 ghost use Rattle.settings.specs.Grounds.{ground_of, ground, outcome};
 ghost use Rattle.settings.specs.RankTables.{as_rank, RankTable};
@@ -18,14 +21,14 @@ pub const HIGHEST_COUNT: u64 = 4294967295;
 const MORE_WORDS: u64 = MOST_WORDS + 1;
 
 // What the other strand makes of a word: read backwards, or read backwards with each rank i replaced by s - 1 - i.
-#[derive(Drop)]
+#[derive(Clone, Copy)]
 pub enum Mirror {
     Reversal,
     Complement,
 }
 
 // The grounds for refusing, in the order of their numbers 1 to 22, of which 3 is reserved. One that has a P other than 0 holds it.
-#[derive(Drop)]
+#[derive(Clone, Copy)]
 pub enum Refusal {
     BadLetters,
     BadMirror,
@@ -51,14 +54,14 @@ pub enum Refusal {
 }
 
 // The answer of a call that overwrites a lent buffer from its start: how many places it set, or the refusal, which leaves the buffer unchanged.
-#[derive(Drop)]
+#[derive(Clone, Copy)]
 pub enum Filling {
     Filled(usize),
     Unfilled(Refusal),
 }
 
 // What is found of a text, or of a part of it, that is searched for faults: none, or the first one.
-#[derive(Drop)]
+#[derive(Clone, Copy)]
 pub enum Finding {
     Clean,
     Faulty(Refusal),
@@ -123,7 +126,7 @@ pub fn place_of(f: Refusal) -> u64
 }
 
 // Settings to which no ground applies: the number of letters, k, the mirror, the number of words, s^k, and of classes.
-#[derive(Drop)]
+#[derive(Clone, Copy)]
 pub struct Settings {
     pub s: u64,
     pub k: usize,
@@ -133,14 +136,14 @@ pub struct Settings {
 }
 
 // What the check of settings gives: the settings, or why they are refused.
-#[derive(Drop)]
+#[derive(Clone, Copy)]
 pub enum Checked {
     Good(Settings),
     Bad(Refusal),
 }
 
 // A byte's rank among the letters, or that it is read as none of them.
-#[derive(Drop)]
+#[derive(Clone, Copy)]
 pub enum Rank {
     At(usize),
     NoLetter,

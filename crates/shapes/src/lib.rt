@@ -1,5 +1,8 @@
 // The shapes of a listing's lines (document 02, K7): whether a line is the survey line, the line of a class or the total by its shape, and the parts of such
 // lines: numbers, words. A line is lent with its LF, if it has one.
+
+#![tactic(auto)]
+
 ghost use Rattle.std.specs.Prelude.{◌≡◌, ◌≤◌, min};
 ghost use Rattle.survey.specs.Grammar.{spelt};
 ghost use Rattle.survey.specs.Needs.{Within};

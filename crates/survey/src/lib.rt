@@ -1,8 +1,10 @@
 // The survey line: what is printed, what is read, and that the reader takes just that; definitions and theorems, no function. The enums here are what the
 // functions of survey_forms and survey_reader answer, of which the definitions speak too.
 
+#![tactic(auto)]
+
 // The names of the three forms.
-#[derive(Drop)]
+#[derive(Clone, Copy)]
 pub enum Name {
     Letters,
     K,
@@ -11,7 +13,7 @@ pub enum Name {
 
 // A form that was read: its name, where the bytes of its value are, and the number that they stand for
 // (k or the mirror; 0 for letters).
-#[derive(Drop)]
+#[derive(Clone, Copy)]
 pub enum Form {
     Of {
         name: Name,
@@ -23,7 +25,7 @@ pub enum Form {
 }
 
 // The place after the survey line.
-#[derive(Drop)]
+#[derive(Clone, Copy)]
 pub enum End {
     At(usize),
     Nowhere,
@@ -31,7 +33,7 @@ pub enum End {
 
 // A survey line: where its letters are, k, the mirror, and the place after the line's end; or a line whose forms stand in another order (refusal 19); or
 // no such line (13).
-#[derive(Drop)]
+#[derive(Clone, Copy)]
 pub enum Head {
     Survey {
         from: usize,

@@ -1,4 +1,7 @@
 // Reading one form of the survey line: its name, and where its value is. For the reader of the line and for the shapes of a listing's lines.
+
+#![tactic(auto)]
+
 pub mod values; // the value of a form
 
 ghost use Rattle.std.specs.Prelude.{◌≡◌};

@@ -1,5 +1,8 @@
 // Reading the survey line that the counter's input starts with: document 01, "Listing and counter program", and document 02, K5.
 // The line is read from left to right: the opening text, three forms, the closing bracket, the line's end.
+
+#![tactic(auto)]
+
 ghost use Rattle.std.specs.Prelude.{◌≡◌};
 ghost use Rattle.survey.specs.declared.End.TheVariants.{At};
 ghost use Rattle.survey.specs.Needs.{Within};

@@ -1,4 +1,7 @@
 // Writing the survey line that we print: the settings' forms, and then the number of classes (document 02, K6).
+
+#![tactic(auto)]
+
 ghost use Rattle.std.specs.Prelude.{◌≡◌, ◌++◌};
 ghost use Rattle.laws.specs.Text.{bytes};
 ghost use Rattle.settings.specs.Settings.{settings_of};

@@ -1,5 +1,8 @@
 // The table of counts, one place a class: clearing it, adding files to it and withdrawing them. What holds of a list of such calls, demand 3, is
 // stated in the crate tally_book (specs/Demand.antt).
+
+#![tactic(auto)]
+
 ghost use Rattle.std.specs.Prelude.{◌≡◌, length};
 ghost use Rattle.std.proofs.Math.Option.{none};
 ghost use Rattle.settings.specs.Grounds.{outcome, of_filling};

@@ -1,5 +1,8 @@
 // Writers of texts into a lent buffer: a byte, some bytes, a number in decimal, a text with a number behind it. A writer takes the place
 // to write at and answers the place after its text. Bytes that the buffer has no place for are counted and not written.
+
+#![tactic(auto)]
+
 ghost use Rattle.std.specs.Prelude.{◌≡◌, ◌+◌, ◌%◌, min, [], ◌∷◌, ◌++◌, length};
 ghost use Rattle.texts.specs.Decimals.{decimal};
 ghost use Rattle.texts.specs.Needs.{top, Puts};

@@ -1,5 +1,8 @@
 // A list of calls as one function: a clearing and two adds. No program calls it. It is here so that demand 3, a claim about a list of calls, stands in the contract
 // of compiled code too: proved from the contracts of the calls in its body, it shows that they fit together as the claim takes them.
+
+#![tactic(auto)]
+
 ghost use Rattle.files.specs.File.{file_of};
 ghost use Rattle.two_adds.specs.TwoAdds.{AddsTwo};
 
@@ -8,7 +11,7 @@ use files::Kind;
 use settings::Filling;
 
 // The answers of a clearing and of two adds after it.
-#[derive(Drop)]
+#[derive(Clone, Copy)]
 pub struct Answers {
     pub cleared: Filling,
     pub first: Answer,

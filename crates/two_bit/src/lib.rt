@@ -1,5 +1,8 @@
 // The kernel by two-bit numbers, for four letters under complement: a window's plain rank is rolled by a shift and a mask, its mirror's is looked up
 // four letters at a time, and a count of leading zeros finds the pair that differs (source document 002, section 5.2; document 02, K3).
+
+#![tactic(auto)]
+
 ghost use Rattle.std.specs.Prelude.{◌≡◌, ◌+◌, ◌-◌, ◌*◌, ◌/◌, ◌%◌, ◌^◌, ◌<◌, ◌≤◌, length};
 ghost use Rattle.encoding.specs.Words.{Complement, Ranks, plain};
 ghost use Rattle.encoding.specs.Codes.{pair_rank, code};

@@ -17,7 +17,7 @@ use ranks::{Code, PlainRank};
 use settings::{Mirror, Rank};
 
 // Where in a word a byte is found, or that it is nowhere.
-#[derive(Drop)]
+#[derive(Clone, Copy)]
 pub enum Place {
     At(usize),
     Nowhere,

@@ -1,5 +1,8 @@
 // Words and their codes: the code of a word, the word of a code, a word's mirror, and the pick of the lower of two words.
 // The calls take the settings as they are and refuse what no rule allows; the functions below them work on good settings.
+
+#![tactic(auto)]
+
 pub mod letters; // from bytes to ranks and back
 
 ghost use Rattle.std.specs.Prelude.{◌≡◌};
@@ -13,7 +16,7 @@ use ranks::Code;
 use settings::{Checked, Filling, Refusal};
 
 // What coding a word answers: its code, or why it is refused.
-#[derive(Drop)]
+#[derive(Clone, Copy)]
 pub enum Coding {
     Coded(Code),
     Refused(Refusal),
