@@ -216,4 +216,12 @@ for path in PAGES + EDITS:
     if new != text:
         with open(path, "w", encoding="utf8") as file:
             file.write(new)
+
+# The one operator spelled in letters.
+for path in ANTT + RT + EDITS + PAGES:
+    text = read(path)
+    new = text.replace("orElse", "or_else").replace("_or_else_", "◌or_else◌")
+    if new != text:
+        with open(path, "w", encoding="utf8") as file:
+            file.write(new)
 print(f"{len(renames)} names")

@@ -2,7 +2,7 @@
 -- them, a byte for a letter and 0 or 1 for the mirror. Each call's grounds stand in number order.
 use Rattle.std.specs.Prelude.{ℕ, suc, Bool, not, List, [], ◌∷◌, map, length, get_or, eqb, leb, ltb}
 use Rattle.std.proofs.Math.Option.{Option, none, some}
-use Rattle.settings.specs.Grounds.{Ground, Outcome, ground, ground_at, too_short, outcome, ◌orElse◌}
+use Rattle.settings.specs.Grounds.{Ground, Outcome, ground, ground_at, too_short, outcome, ◌or_else◌}
 use Rattle.settings.specs.Settings.{rank_in, mirror_of, classes, settings_ground}
 use Rattle.encoding.specs.Words.{mirror, plain}
 use Rattle.encoding.specs.Codes.{code}

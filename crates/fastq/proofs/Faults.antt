@@ -12,7 +12,7 @@ use Rattle.lines.specs.Lines.{lines, text_of, first_byte_is}
 use Rattle.lines.specs.Needs.{joined}
 use Rattle.lines.proofs.Lines.{joined-lines}
 use Rattle.lines.proofs.Texts.{text_short}
-use Rattle.settings.specs.Grounds.{Ground, ground_at, ◌orElse◌}
+use Rattle.settings.specs.Grounds.{Ground, ground_at, ◌or_else◌}
 use Rattle.settings.proofs.FirstGround.{Has, none_has, some_has, place_has, then_has}
 use Rattle.fasta.specs.File.{is_letter}
 use Rattle.fastq.specs.Fastq.{is_there, unless_at, first_failing, is_quality, record_fault, fastq_fault}

@@ -11,7 +11,7 @@ use borrow.Author.Tests.{eq-eqb, ne_eqb}
 use Rattle.lines.specs.Lines.{lines, text_of, first_byte_is}
 use Rattle.lines.proofs.Lines.{first_of, rest_of, first_of_lines, lines_behind, lines_next, lines_end, line_inside, first_some}
 use Rattle.lines.proofs.Texts.{text_is_part, text_short}
-use Rattle.settings.specs.Grounds.{Ground, ground_at, ◌orElse◌}
+use Rattle.settings.specs.Grounds.{Ground, ground_at, ◌or_else◌}
 use Rattle.settings.proofs.Outcomes.{or_none}
 use Rattle.fasta.specs.File.{is_letter}
 use Rattle.fastq.specs.Fastq.{is_there, unless_at, first_failing, is_quality, record_fault, fastq_fault}

@@ -2,7 +2,7 @@
 use Rattle.std.specs.Prelude.{◌≡◌, Bool, true, ◌&&◌, ◌||◌, List, ℕ, ◌+◌, ◌<◌, ◌≤◌, length, drop, get_or, eqb, leb}
 use Rattle.std.proofs.Math.Option.{Option, none, some}
 use Rattle.lines.specs.Needs.{first_line}
-use Rattle.settings.specs.Grounds.{Ground, ground_at, ◌orElse◌}
+use Rattle.settings.specs.Grounds.{Ground, ground_at, ◌or_else◌}
 use Rattle.fasta.specs.File.{is_letter}
 use Rattle.fastq.specs.Fastq.{unless_at, first_failing, is_quality, record_fault}
 use Rattle.fastq_faults.specs.declared.Place.{Place}

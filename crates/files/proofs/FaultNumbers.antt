@@ -7,7 +7,7 @@ use mathlib.Core.List.{List, [], ◌∷◌}
 use Prim.Native.Nat.{ℕ, ◌≤◌}
 use native.Mathlib.Omega.{arith}
 use lib.ListN.{length}
-use Rattle.settings.specs.Grounds.{Ground, ground, ◌orElse◌}
+use Rattle.settings.specs.Grounds.{Ground, ground, ◌or_else◌}
 use Rattle.settings.specs.Settings.{is_in, settings_ground, RefusedOnlyBy}
 use Rattle.settings.proofs.FirstGround.{Has, NumberIn, in_behind, test_has, then_has, settings_has}
 use Rattle.fasta.specs.declared.Mode.TheVariants.{Start}

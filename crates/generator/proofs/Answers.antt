@@ -2,7 +2,7 @@
 use Rattle.std.proofs.Common.{◌≡◌, ℕ, ◌<◌, ◌≤◌, min, List, length, ◌∙◌, zero-add, arith}
 use mathlib.Core.Option.{none}
 use lib.Seq.{sets, sets-eq}
-use Rattle.settings.specs.Grounds.{Ground, given, refused, ground, ground_at, too_short, outcome, ◌orElse◌}
+use Rattle.settings.specs.Grounds.{Ground, given, refused, ground, ground_at, too_short, outcome, ◌or_else◌}
 use Rattle.settings.specs.Settings.{settings_ground, settings_of}
 use Rattle.settings.proofs.Outcomes.{kept_by, kept_on, set_by}
 use Rattle.settings.proofs.SettingsGrounds.{good_settings}

@@ -10,7 +10,7 @@ use Prim.Native.Nat.{ℕ, ◌≤◌}
 use native.Mathlib.Omega.{arith}
 use borrow.Author.Tests.{le-ltb, ltb-false}
 use lib.ListN.{length, take, drop}
-use Rattle.settings.specs.Grounds.{Ground, Outcome, given, refused, ground, outcome, overwritten, ◌orElse◌}
+use Rattle.settings.specs.Grounds.{Ground, Outcome, given, refused, ground, outcome, overwritten, ◌or_else◌}
 use Rattle.settings.specs.Settings.{rank_in, settings_ground}
 use Rattle.settings.proofs.Outcomes.{passed}
 use Rattle.fasta.specs.declared.Numbers.{Numbers}

@@ -12,7 +12,7 @@ use lib.Dec.{ltb}
 use Rattle.settings.specs.declared.Refusal.{Refusal}
 use Rattle.settings.specs.declared.Checked.{Checked}
 use Rattle.settings.specs.declared.Checked.TheVariants.{Bad}
-use Rattle.settings.specs.Grounds.{Ground, Outcome, given, refused, ground_of, ground_at, too_short, outcome, unless_refused, ◌orElse◌}
+use Rattle.settings.specs.Grounds.{Ground, Outcome, given, refused, ground_of, ground_at, too_short, outcome, unless_refused, ◌or_else◌}
 use Rattle.settings.specs.Settings.{rank_in, settings_of, of_checked}
 use Rattle.settings.proofs.Outcomes.{refused_is, passed, first_none, later_none, nowhere_met, room_enough}
 use Rattle.settings.proofs.FirstGround.{PlaceUpTo, Small, test_small, then_small}

@@ -7,7 +7,7 @@ use mathlib.Core.List.{List}
 use Prim.Native.Nat.{ℕ, ◌-◌, ◌^◌, ◌≤◌, ◌<◌, min}
 use native.Mathlib.Omega.{arith}
 use lib.ListN.{length, take}
-use Rattle.settings.specs.Grounds.{Ground, Outcome, given, outcome, ◌orElse◌}
+use Rattle.settings.specs.Grounds.{Ground, Outcome, given, outcome, ◌or_else◌}
 use Rattle.settings.proofs.Outcomes.{first_none}
 use Rattle.settings.proofs.FirstGround.{Small, then_small}
 use Rattle.tally_book.specs.Table.{class_count, clear_ground}

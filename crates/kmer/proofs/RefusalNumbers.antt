@@ -7,7 +7,7 @@ use Prim.Native.Nat.{ℕ}
 use lib.Dec.{ltb}
 use lib.ListN.{length}
 use Rattle.laws.specs.Windows.{windows}
-use Rattle.settings.specs.Grounds.{ground, ground_at, too_short, ◌orElse◌}
+use Rattle.settings.specs.Grounds.{ground, ground_at, too_short, ◌or_else◌}
 use Rattle.settings.specs.Settings.{is_in, mirror_of, classes, settings_ground, RefusedOnlyBy}
 use Rattle.settings.proofs.FirstGround.{NumberIn, test_has, place_has, then_has, settings_has, sizes_has}
 use Rattle.encoding.specs.Calls.{wrong_length, foreign_from, code_ground, read_ground, mirror_ground}

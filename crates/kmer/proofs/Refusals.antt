@@ -10,7 +10,7 @@ use lib.ListN.{length}
 use borrow.Author.Tests.{eqb-true, not-false}
 use Rattle.laws.specs.Windows.{windows}
 use Rattle.laws.proofs.Windows.{length-windows}
-use Rattle.settings.specs.Grounds.{ground, ground_at, too_short, ◌orElse◌}
+use Rattle.settings.specs.Grounds.{ground, ground_at, too_short, ◌or_else◌}
 use Rattle.settings.specs.Settings.{rank_in, settings_ground}
 use Rattle.settings.proofs.Outcomes.{test_fails, not_too_large}
 use Rattle.settings.proofs.SettingsGrounds.{good_settings}

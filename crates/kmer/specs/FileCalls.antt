@@ -2,7 +2,7 @@
 -- of either kind, through the C calls return and leave. The file's five numbers go into a lent list of 64-bit numbers.
 use Rattle.std.specs.Prelude.{◌≡◌, List, ℕ, length}
 use Rattle.std.proofs.Math.Option.{Option}
-use Rattle.settings.specs.Grounds.{Ground, Outcome, ground_at, too_short, outcome, unless_refused, overwritten, ◌orElse◌}
+use Rattle.settings.specs.Grounds.{Ground, Outcome, ground_at, too_short, outcome, unless_refused, overwritten, ◌or_else◌}
 use Rattle.settings.specs.Settings.{rank_in}
 use Rattle.files.specs.File.{File, file_fault, file_numbers}
 use Rattle.tally_book.specs.Table.{Clears, ready_ground, Call, add, withdraw, call_file, last_ground, table_after}

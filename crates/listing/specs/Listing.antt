@@ -3,7 +3,7 @@
 use Rattle.std.specs.Prelude.{ℕ, zero, suc, List, [], ◌∷◌, ◌++◌, length}
 use Rattle.std.proofs.Math.Option.{Option}
 use Rattle.laws.specs.Text.{bytes}
-use Rattle.settings.specs.Grounds.{Ground, Outcome, ground_at, too_short, Overwrites, ◌orElse◌}
+use Rattle.settings.specs.Grounds.{Ground, Outcome, ground_at, too_short, Overwrites, ◌or_else◌}
 use Rattle.encoding.specs.Calls.{word_bytes}
 use Rattle.tally_book.specs.Table.{clear_ground}
 use Rattle.tally_book.specs.Demand.{sum, counts}

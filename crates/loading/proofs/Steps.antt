@@ -9,7 +9,7 @@ use native.Mathlib.Omega.{arith}
 use lib.ListN.{length, set}
 use lib.Dec.{leb}
 use borrow.Author.Tests.{leb-true, le-leb}
-use Rattle.settings.specs.Grounds.{ground_at, ◌orElse◌}
+use Rattle.settings.specs.Grounds.{ground_at, ◌or_else◌}
 use Rattle.settings.specs.Settings.{mirror_of, settings_ground}
 use Rattle.settings.proofs.Outcomes.{first_none, later_none}
 use Rattle.encoding.specs.Words.{canonical}

@@ -12,7 +12,7 @@ use lib.ListN.{length, take, drop, set, replicate, length-append, length-set, le
 use lib.Seq.{append_snoc, set_at, drop_at, length-take-le}
 use borrow.Author.Tests.{le-ltb}
 use Rattle.laws.proofs.Buffers.{front_is, front_fits}
-use Rattle.settings.specs.Grounds.{Outcome, given, ground_at, ◌orElse◌}
+use Rattle.settings.specs.Grounds.{Outcome, given, ground_at, ◌or_else◌}
 use Rattle.settings.specs.Settings.{settings_ground}
 use Rattle.settings.proofs.Outcomes.{first_none, later_none, passed}
 use Rattle.encoding.specs.Calls.{word_bytes}

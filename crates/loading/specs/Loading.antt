@@ -2,7 +2,7 @@
 -- listed."
 use Rattle.std.specs.Prelude.{ℕ, suc, ◌+◌, Bool, ◌&&◌, cond, List, [], ◌∷◌, length, drop, get_or, set, replicate, leb}
 use Rattle.std.proofs.Math.Option.{Option, none, some}
-use Rattle.settings.specs.Grounds.{Ground, Outcome, ground_at, ◌orElse◌, Overwrites}
+use Rattle.settings.specs.Grounds.{Ground, Outcome, ground_at, ◌or_else◌, Overwrites}
 use Rattle.settings.specs.Settings.{mirror_of}
 use Rattle.settings.specs.Limits.{highest_count}
 use Rattle.encoding.specs.Words.{canonical}

@@ -1,7 +1,7 @@
 -- Document 01, "Codes along a sequence", with the grounds for refusing the call: what both paths, the general and the two-bit one, promise.
 use Rattle.std.specs.Prelude.{ℕ, Bool, true, false, cond, ◌&&◌, List, [], ◌∷◌, map, length}
 use Rattle.std.proofs.Math.Option.{Option, none, some}
-use Rattle.settings.specs.Grounds.{Ground, Outcome, ground, ground_at, too_short, ◌orElse◌, Overwrites}
+use Rattle.settings.specs.Grounds.{Ground, Outcome, ground, ground_at, too_short, ◌or_else◌, Overwrites}
 use Rattle.settings.specs.Settings.{rank_in, mirror_of, settings_ground}
 use Rattle.settings.specs.Limits.{too_long}
 use Rattle.encoding.specs.Codes.{code}

@@ -8,7 +8,7 @@ use Prim.Native.Nat.{ℕ, ◌≤◌}
 use native.Mathlib.Omega.{arith}
 use lib.Dec.{eqb, ltb}
 use lib.ListN.{length}
-use Rattle.settings.specs.Grounds.{Ground, ground, ground_at, too_short, ◌orElse◌}
+use Rattle.settings.specs.Grounds.{Ground, ground, ground_at, too_short, ◌or_else◌}
 use Rattle.settings.specs.Settings.{is_in, good_letters, bad_size, settings_ground, RefusedOnlyBy}
 
 -- The ground that applies, where one does, has the property Q.

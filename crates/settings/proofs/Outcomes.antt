@@ -10,7 +10,7 @@ use lib.ListN.{drop, length, take, drop_of_length-le, take-append-drop}
 use lib.Seq.{length-take-le}
 use lib.Dec.{ltb}
 use borrow.Author.Tests.{ltb-false}
-use Rattle.settings.specs.Grounds.{refused, Ground, Outcome, outcome, ◌orElse◌, given, ground, ground_at, too_short, unless_refused, Overwrites}
+use Rattle.settings.specs.Grounds.{refused, Ground, Outcome, outcome, ◌or_else◌, given, ground, ground_at, too_short, unless_refused, Overwrites}
 
 -- The grounds of a call that is refused.
 pub refused_is : {A : Type 0} (f : Ground) (a : A) (g : Option Ground) → refused f ≡ outcome g a → g ≡ some f

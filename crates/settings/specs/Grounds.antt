@@ -53,8 +53,8 @@ ground_at n none = none
 ground_at n (some p) = some (n, p)
 
 -- "Checks go in number order", save that 15 to 17 "stand where 10 and 11 stood": the first ground, and only if it does not apply the later ones.
-infixr 20 ◌orElse◌
-abbrev pub ◌orElse◌ : Option Ground → Option Ground → Option Ground
+infixr 20 ◌or_else◌
+abbrev pub ◌or_else◌ : Option Ground → Option Ground → Option Ground
 none or_else later = later
 some g or_else later = some g
 

@@ -8,7 +8,7 @@ use Rattle.settings.specs.declared.Checked.{Checked}
 use Rattle.settings.specs.declared.Checked.TheVariants.{Good, Bad}
 use Rattle.settings.specs.declared.Rank.{Rank}
 use Rattle.settings.specs.declared.Rank.TheVariants.{At, NoLetter}
-use Rattle.settings.specs.Grounds.{Ground, Outcome, given, refused, ground_of, ground, ◌orElse◌}
+use Rattle.settings.specs.Grounds.{Ground, Outcome, given, refused, ground_of, ground, ◌or_else◌}
 use Rattle.settings.specs.Limits.{most_words}
 
 -- "capitals A to Z"

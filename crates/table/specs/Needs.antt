@@ -1,6 +1,6 @@
 -- What functions below the calls promise each other. No claim and no call of document 01 rests on it.
 use Rattle.std.specs.Prelude.{ℕ, List, length, replicate}
-use Rattle.settings.specs.Grounds.{Outcome, ground, ground_at, too_short, Overwrites, ◌orElse◌}
+use Rattle.settings.specs.Grounds.{Outcome, ground, ground_at, too_short, Overwrites, ◌or_else◌}
 use Rattle.tally_book.specs.Table.{too_many}
 
 -- A clearing of places for so many classes to which only the grounds 6 and 7 may still apply.

@@ -11,7 +11,7 @@ use lib.Seq.{drop_at}
 use borrow.Author.Tests.{lt-ltb, le-ltb}
 use Rattle.laws.proofs.Buffers.{front_is, front_fits}
 use Rattle.settings.specs.declared.Settings.{Settings}
-use Rattle.settings.specs.Grounds.{Ground, Outcome, given, refused, ground, ground_at, too_short, outcome, ◌orElse◌}
+use Rattle.settings.specs.Grounds.{Ground, Outcome, given, refused, ground, ground_at, too_short, outcome, ◌or_else◌}
 use Rattle.settings.specs.Settings.{settings_ground, settings_of}
 use Rattle.settings.proofs.Outcomes.{refused_is, first_none, later_none, nowhere_met, not_too_large, room_enough}
 use Rattle.settings.proofs.SettingsGrounds.{Known, known}

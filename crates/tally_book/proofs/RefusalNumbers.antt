@@ -4,7 +4,7 @@ use mathlib.Core.Bool.{Bool, ◌||◌}
 use mathlib.Core.List.{List, [], ◌∷◌}
 use Prim.Native.Nat.{ℕ}
 use borrow.Author.Tests.{eq-eqb}
-use Rattle.settings.specs.Grounds.{Ground, ground, ◌orElse◌}
+use Rattle.settings.specs.Grounds.{Ground, ground, ◌or_else◌}
 use Rattle.settings.specs.Settings.{is_in, RefusedOnlyBy}
 use Rattle.settings.proofs.FirstGround.{Has, NumberIn, in_behind, test_has, then_has, sizes_has}
 use Rattle.files.specs.File.{File, file_fault}

@@ -2,7 +2,7 @@
 use Rattle.std.specs.Prelude.{ℕ, zero, suc, ◌+◌, ◌*◌, ◌/◌, ◌%◌, ◌^◌, cond, List, [], ◌∷◌, ◌++◌, length, eqb}
 use Rattle.std.proofs.Math.Option.{Option}
 use Rattle.laws.specs.Text.{bytes}
-use Rattle.settings.specs.Grounds.{Ground, Outcome, ground, ground_at, too_short, Overwrites, ◌orElse◌}
+use Rattle.settings.specs.Grounds.{Ground, Outcome, ground, ground_at, too_short, Overwrites, ◌or_else◌}
 use Rattle.settings.specs.Settings.{settings_ground}
 use Rattle.encoding.specs.Calls.{in_capitals}
 use Rattle.texts.specs.Decimals.{decimal}

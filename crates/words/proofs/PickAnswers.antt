@@ -8,7 +8,7 @@ use native.Mathlib.Omega.{arith}
 use borrow.Author.Tests.{eqb-true, not-false, le-leb, lt-leb}
 use denote.Ref.{Bor}
 use lib.ListN.{length}
-use Rattle.settings.specs.Grounds.{given, Ground, refused, ◌orElse◌}
+use Rattle.settings.specs.Grounds.{given, Ground, refused, ◌or_else◌}
 use Rattle.settings.specs.Limits.{Limits}
 use Rattle.settings.specs.Settings.{settings_ground}
 use Rattle.settings.proofs.Outcomes.{passed, refused_is, test_fails, first_none, later_none}
