@@ -1,0 +1,13 @@
+-- The loops of this function: what holds at each turn, and what falls.
+use Prim.Native.Nat.{◌-◌}
+use native.Mathlib.Omega.{arith}
+use lib.ListN.{length}
+use Rattle.lines.specs.Needs.{NoLf}
+use Rattle.lines.proofs.Searching.{no_lf_none, no_lf_more}
+use Rattle.lines.proofs.lf_from.Given as goal
+
+abbrev pub invariant-loop-i : goal.invariant-loop-i
+invariant-loop-i l = NoLf l.text l.from l.i
+
+abbrev pub decreases-loop-i : goal.decreases-loop-i
+decreases-loop-i l = length l.text - l.i

@@ -1,0 +1,15 @@
+-- The loops of this function: what holds at each turn, and what falls.
+use mathlib.Core.Path.{◌≡◌, refl, sym, ap, ◌∙◌}
+use Prim.Native.Nat.{ℕ, ◌-◌, ◌≤◌}
+use native.Mathlib.Omega.{arith}
+use borrow.Author.Rules.{rules}
+use lib.ListN.{length, drop}
+use Rattle.settings.specs.Settings.{place_from}
+use Rattle.settings.proofs.Ranks.{place_here, place_next, place_none}
+use Rattle.settings.proofs.rank_of.Given as goal
+
+abbrev pub invariant-loop-i : goal.invariant-loop-i
+invariant-loop-i l = (l.i ≤ length l.letters) × (place_from 0 l.c l.letters ≡ place_from l.i l.c (drop l.i l.letters))
+
+abbrev pub decreases-loop-i : goal.decreases-loop-i
+decreases-loop-i l = length l.letters - l.i

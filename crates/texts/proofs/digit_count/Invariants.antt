@@ -1,0 +1,14 @@
+-- The loops of this function: what holds at each turn, and what falls.
+use mathlib.Core.Path.{◌≡◌, ap}
+use Prim.Native.Nat.{◌+◌}
+use native.Mathlib.Omega.{arith}
+use lib.ListN.{length}
+use Rattle.texts.specs.Decimals.{decimal}
+use Rattle.texts.proofs.Decimals.{one_digit, length_more, decimal-length}
+use Rattle.texts.proofs.digit_count.Given as goal
+
+abbrev pub invariant-loop-left : goal.invariant-loop-left
+invariant-loop-left l = l.count + length (decimal l.left) ≡ length (decimal l.n) + 1
+
+abbrev pub decreases-loop-left : goal.decreases-loop-left
+decreases-loop-left l = l.left
