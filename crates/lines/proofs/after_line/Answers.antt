@@ -5,7 +5,6 @@ use native.Mathlib.Omega.{arith}
 use lib.ListN.{length, drop}
 use Rattle.lines.specs.Needs.{first_line}
 use Rattle.lines.proofs.Lines.{line_behind, lf_here, lf_none}
-use borrow.Author.Rules.{rules}
 use Rattle.lines.proofs.after_line.Goals as goal
 
 pub returns-then-text-from : goal.returns-then-text-from

@@ -1,5 +1,4 @@
 -- `lines::byte_is` meets its contract: by its test.
-use borrow.Author.Rules.{rules}
 use Rattle.lines.proofs.Lines.{byte_here, byte_none}
 use Rattle.lines.proofs.byte_is.Goals as goal
 

@@ -1,8 +1,5 @@
 -- `lines::lf_from` meets its contract. The invariant: no byte from `from` up to i is LF.
-use Prim.Native.Nat.{◌-◌}
 use native.Mathlib.Omega.{arith}
-use lib.ListN.{length}
-use Rattle.lines.specs.Needs.{NoLf}
 use Rattle.lines.proofs.Searching.{no_lf_none, no_lf_more}
 use Rattle.lines.proofs.lf_from.Goals as goal
 

@@ -1,10 +1,6 @@
 -- `lines::lf_in` meets its contract. The invariant: where none was found, none of the bytes up to i + j is LF.
 use mathlib.Core.Path.{◌≡◌}
-use mathlib.Core.Bool.{false}
-use Prim.Native.Nat.{◌+◌, ◌-◌, ◌≤◌}
 use native.Mathlib.Omega.{arith}
-use lib.ListN.{length}
-use Rattle.lines.specs.Needs.{NoLf}
 use Rattle.lines.proofs.Searching.{block_none, block_more}
 use Rattle.lines.proofs.lf_in.Goals as goal
 

@@ -2,10 +2,8 @@
 use mathlib.Core.Path.{◌≡◌}
 use mathlib.Core.Bool.{false}
 use Prim.Native.Nat.{◌+◌, ◌-◌, ◌≤◌}
-use native.Mathlib.Omega.{arith}
 use lib.ListN.{length}
 use Rattle.lines.specs.Needs.{NoLf}
-use Rattle.lines.proofs.Searching.{block_none, block_more}
 use Rattle.lines.proofs.lf_in.Given as goal
 
 abbrev pub invariant-loop-j : goal.invariant-loop-j

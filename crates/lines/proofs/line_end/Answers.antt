@@ -1,9 +1,5 @@
 -- `lines::line_end` meets its contract. The invariant: no byte from `from` up to i is LF.
-use Prim.Native.Nat.{◌-◌, ◌≤◌}
 use native.Mathlib.Omega.{arith}
-use borrow.Author.Rules.{rules}
-use lib.ListN.{length}
-use Rattle.lines.specs.Needs.{NoLf}
 use Rattle.lines.proofs.Searching.{no_lf_none, no_lf_then, end_behind}
 use Rattle.lines.proofs.line_end.Goals as goal
 

@@ -3,7 +3,6 @@ use native.Mathlib.Omega.{arith}
 use lib.ListN.{drop, length-drop}
 use Rattle.lines.proofs.Lines.{first_within}
 use Rattle.lines.proofs.Texts.{end_none, end_open, end_one, end_crlf, end_lf}
-use borrow.Author.Rules.{rules}
 use Rattle.lines.proofs.text_end.Goals as goal
 
 pub returns-then-after-from : goal.returns-then-after-from

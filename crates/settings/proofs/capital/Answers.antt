@@ -1,5 +1,4 @@
 -- `settings::capital` meets its contract: by cases on the two tests of a small letter.
-use borrow.Author.Rules.{rules}
 use borrow.Author.Tests.{le-leb, lt-leb}
 use native.Mathlib.Omega.{arith}
 use Rattle.settings.specs.Settings.{capital_of}

@@ -6,7 +6,6 @@ use Rattle.settings.specs.Settings.{good_letters}
 use borrow.Author.Tests.{not-true, not-false}
 use Rattle.settings.proofs.Letters.{good_at_least, good_at_most}
 use Rattle.settings.proofs.SettingsGrounds.{ground_1, ground_2, rest_0, rest_1}
-use borrow.Author.Rules.{rules}
 use Rattle.settings.proofs.check.Goals as goal
 
 pub returns-then-not-good_letters : goal.returns-then-not-good_letters

@@ -17,7 +17,7 @@ enum_told-1 c = search rules
 
 pub overflow_add-result : goal.overflow_add-result
 overflow_add-result c =
-    let powered : Powered c.args.s c.args.k c.power-words.result c.power-half.result = record { two = c.requires.0; small = c.requires.1; words_by = c.power-words.ensures; half_by = c.power-half.ensures; } in
+    let powered : Powered c.args.s c.args.k c.power-words.result c.power-half.result = record { two = c.requires.0; small = c.requires.1; words_by = c.power-words.ensures; half_by = c.power-half.ensures } in
     omega (arith, odd_fits _ _ _ _ powered c.if-k-eq1.true)
 
 pub overflow_mul-result : goal.overflow_mul-result
@@ -32,20 +32,20 @@ overflow_mul-result-then-k-eq1-2 c = omega (arith, overflow_add-result-then-k-eq
 
 pub returns-then-k-eq1 : goal.returns-then-k-eq1
 returns-then-k-eq1 c =
-    let powered : Powered c.args.s c.args.k c.power-words.result c.power-half.result = record { two = c.requires.0; small = c.requires.1; words_by = c.power-words.ensures; half_by = c.power-half.ensures; } in
+    let powered : Powered c.args.s c.args.k c.power-words.result c.power-half.result = record { two = c.requires.0; small = c.requires.1; words_by = c.power-words.ensures; half_by = c.power-half.ensures } in
     odd_reversal _ _ _ _ powered c.if-k-eq1.true ∙ under _ _ c.in-Reversal.is
 
 pub returns-else-k-eq1 : goal.returns-else-k-eq1
 returns-else-k-eq1 c =
-    let powered : Powered c.args.s c.args.k c.power-words.result c.power-half.result = record { two = c.requires.0; small = c.requires.1; words_by = c.power-words.ensures; half_by = c.power-half.ensures; } in
+    let powered : Powered c.args.s c.args.k c.power-words.result c.power-half.result = record { two = c.requires.0; small = c.requires.1; words_by = c.power-words.ensures; half_by = c.power-half.ensures } in
     even_reversal _ _ _ _ powered c.if-k-eq1.false ∙ under _ _ c.in-Reversal.is
 
 pub returns-then-k-eq1-2 : goal.returns-then-k-eq1-2
 returns-then-k-eq1-2 c =
-    let powered : Powered c.args.s c.args.k c.power-words.result c.power-half.result = record { two = c.requires.0; small = c.requires.1; words_by = c.power-words.ensures; half_by = c.power-half.ensures; } in
+    let powered : Powered c.args.s c.args.k c.power-words.result c.power-half.result = record { two = c.requires.0; small = c.requires.1; words_by = c.power-words.ensures; half_by = c.power-half.ensures } in
     odd_complement _ _ _ _ powered c.if-k-eq1-2.true ∙ under _ _ c.in-Complement.is
 
 pub returns-else-k-eq1-2 : goal.returns-else-k-eq1-2
 returns-else-k-eq1-2 c =
-    let powered : Powered c.args.s c.args.k c.power-words.result c.power-half.result = record { two = c.requires.0; small = c.requires.1; words_by = c.power-words.ensures; half_by = c.power-half.ensures; } in
+    let powered : Powered c.args.s c.args.k c.power-words.result c.power-half.result = record { two = c.requires.0; small = c.requires.1; words_by = c.power-words.ensures; half_by = c.power-half.ensures } in
     even_complement _ _ _ _ powered c.if-k-eq1-2.false ∙ under _ _ c.in-Complement.is

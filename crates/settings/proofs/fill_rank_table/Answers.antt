@@ -1,9 +1,7 @@
 -- `settings::fill_rank_table` meets its contract. The invariant: the bytes below b have their ranks.
-use mathlib.Core.Path.{◌≡◌}
-use Prim.Native.Nat.{◌-◌, ◌≤◌}
 use native.Mathlib.Omega.{arith}
-use lib.ListN.{length, length-set}
-use Rattle.settings.proofs.RankTables.{Filled, fill_none, fill_one, fill_all}
+use lib.ListN.{length-set}
+use Rattle.settings.proofs.RankTables.{fill_none, fill_one, fill_all}
 use Rattle.settings.proofs.fill_rank_table.Goals as goal
 
 pub loop-b-init : goal.loop-b-init

@@ -1,9 +1,8 @@
 -- The loops of this function: what holds at each turn, and what falls.
 use mathlib.Core.Path.{◌≡◌}
 use Prim.Native.Nat.{◌-◌, ◌≤◌}
-use native.Mathlib.Omega.{arith}
-use lib.ListN.{length, length-set}
-use Rattle.settings.proofs.RankTables.{Filled, fill_none, fill_one, fill_all}
+use lib.ListN.{length}
+use Rattle.settings.proofs.RankTables.{Filled}
 use Rattle.settings.proofs.fill_rank_table.Given as goal
 
 abbrev pub invariant-loop-b : goal.invariant-loop-b

@@ -1,10 +1,5 @@
 -- `settings::good_letters` meets its contract. The invariant: the letters are good where those that are left are different capitals.
-use mathlib.Core.Path.{◌≡◌, sym, ◌∙◌}
-use Prim.Native.Nat.{◌-◌}
-use native.Mathlib.Omega.{arith}
-use lib.ListN.{length, drop}
-use borrow.Author.Rules.{rules}
-use Rattle.settings.specs.Settings.{good_letters, different_capitals}
+use mathlib.Core.Path.{sym, ◌∙◌}
 use Rattle.settings.proofs.Letters.{below_A, above_Z, repeated, next_good, all_good, too_few, too_many_lem, some_letters}
 use Rattle.settings.proofs.good_letters.Goals as goal
 

@@ -1,9 +1,5 @@
 -- `settings::is_in` meets its contract. The invariant: b stands in the letters from the place asked on exactly where it stands in what is left of them.
-use mathlib.Core.Path.{◌≡◌, refl, sym, ◌∙◌}
-use Prim.Native.Nat.{◌-◌}
-use native.Mathlib.Omega.{arith}
-use lib.ListN.{length, drop}
-use Rattle.settings.specs.Settings.{is_in}
+use mathlib.Core.Path.{refl, sym, ◌∙◌}
 use Rattle.settings.proofs.Letters.{in_here, in_next, in_none}
 use Rattle.settings.proofs.is_in.Goals as goal
 

@@ -1,10 +1,8 @@
 -- The loops of this function: what holds at each turn, and what falls.
-use mathlib.Core.Path.{◌≡◌, refl, sym, ◌∙◌}
+use mathlib.Core.Path.{◌≡◌}
 use Prim.Native.Nat.{◌-◌}
-use native.Mathlib.Omega.{arith}
 use lib.ListN.{length, drop}
 use Rattle.settings.specs.Settings.{is_in}
-use Rattle.settings.proofs.Letters.{in_here, in_next, in_none}
 use Rattle.settings.proofs.is_in.Given as goal
 
 abbrev pub invariant-loop-i : goal.invariant-loop-i

@@ -1,7 +1,7 @@
 -- `settings::power` meets its contract. The invariant: p is s to the i, and at most 2^62. The measure, 63 - i, shows that the loop ends
 -- after at most 63 turns whatever k is.
-use mathlib.Core.Path.{◌≡◌, sym, ap, ◌∙◌}
-use Prim.Native.Nat.{ℕ, ◌-◌, ◌*◌, ◌^◌, ◌<◌, ◌≤◌}
+use mathlib.Core.Path.{sym, ap, ◌∙◌}
+use Prim.Native.Nat.{ℕ, ◌*◌, ◌^◌, ◌<◌, ◌≤◌}
 use native.Mathlib.Nat.{pow-zero, le_antisymm, le-div_iff_mul-le}
 use native.Mathlib.Omega.{arith}
 use Rattle.settings.proofs.Powers.{too_big, power_next, few_turns}

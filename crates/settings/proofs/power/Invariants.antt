@@ -1,9 +1,6 @@
 -- The loops of this function: what holds at each turn, and what falls.
-use mathlib.Core.Path.{◌≡◌, sym, ap, ◌∙◌}
-use Prim.Native.Nat.{ℕ, ◌-◌, ◌*◌, ◌^◌, ◌<◌, ◌≤◌}
-use native.Mathlib.Nat.{pow-zero, le_antisymm, le-div_iff_mul-le}
-use native.Mathlib.Omega.{arith}
-use Rattle.settings.proofs.Powers.{too_big, power_next, few_turns}
+use mathlib.Core.Path.{◌≡◌}
+use Prim.Native.Nat.{◌-◌, ◌^◌, ◌≤◌}
 use Rattle.settings.proofs.power.Given as goal
 
 abbrev pub invariant-loop-i : goal.invariant-loop-i

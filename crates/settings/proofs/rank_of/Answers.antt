@@ -1,9 +1,7 @@
 -- `settings::rank_of` meets its contract. The invariant: the byte's place among the letters is its place among those that are left.
-use mathlib.Core.Path.{◌≡◌, refl, sym, ap, ◌∙◌}
-use Prim.Native.Nat.{ℕ, ◌-◌, ◌≤◌}
+use mathlib.Core.Path.{refl, sym, ap, ◌∙◌}
+use Prim.Native.Nat.{ℕ}
 use native.Mathlib.Omega.{arith}
-use borrow.Author.Rules.{rules}
-use lib.ListN.{length, drop}
 use Rattle.settings.specs.Settings.{place_from}
 use Rattle.settings.proofs.Ranks.{place_here, place_next, place_none}
 use Rattle.settings.proofs.rank_of.Goals as goal

@@ -1,11 +1,8 @@
 -- The loops of this function: what holds at each turn, and what falls.
-use mathlib.Core.Path.{◌≡◌, refl, sym, ap, ◌∙◌}
-use Prim.Native.Nat.{ℕ, ◌-◌, ◌≤◌}
-use native.Mathlib.Omega.{arith}
-use borrow.Author.Rules.{rules}
+use mathlib.Core.Path.{◌≡◌}
+use Prim.Native.Nat.{◌-◌, ◌≤◌}
 use lib.ListN.{length, drop}
 use Rattle.settings.specs.Settings.{place_from}
-use Rattle.settings.proofs.Ranks.{place_here, place_next, place_none}
 use Rattle.settings.proofs.rank_of.Given as goal
 
 abbrev pub invariant-loop-i : goal.invariant-loop-i

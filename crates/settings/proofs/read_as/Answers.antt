@@ -1,6 +1,5 @@
 -- `settings::read_as` meets its contract: by cases on whether the byte is U or u, and on whether U is read as T.
 use mathlib.Core.Path.{sym, ◌∙◌}
-use borrow.Author.Rules.{rules}
 use Rattle.settings.proofs.Ranks.{read_U_as_T, read_own, read_other}
 use Rattle.settings.proofs.read_as.Goals as goal
 

@@ -1,6 +1,5 @@
 -- `settings::reads_u_as_t` meets its contract: by cases on whether U is among the letters.
 use mathlib.Core.Path.{sym, ◌∙◌}
-use borrow.Author.Rules.{rules}
 use Rattle.settings.proofs.Ranks.{with_U, without_U}
 use Rattle.settings.proofs.reads_u_as_t.Goals as goal
 

@@ -3,7 +3,6 @@ use Rattle.settings.proofs.ClassCount.{no_k, large_k, good_k}
 use Rattle.settings.proofs.Powers.{capped}
 use native.Mathlib.Omega.{arith}
 use Prim.Native.Nat.{◌^◌, ◌≤◌}
-use borrow.Author.Rules.{rules}
 use Rattle.settings.proofs.sized.Goals as goal
 
 pub returns-then-k-eq0 : goal.returns-then-k-eq0

@@ -1,9 +1,7 @@
 -- `texts::digit_count` meets its contract. The invariant: the digits counted so far, less one, and those of the number left are all digits.
-use mathlib.Core.Path.{◌≡◌, ap}
-use Prim.Native.Nat.{◌+◌}
+use mathlib.Core.Path.{ap}
 use native.Mathlib.Omega.{arith}
 use lib.ListN.{length}
-use Rattle.texts.specs.Decimals.{decimal}
 use Rattle.texts.proofs.Decimals.{one_digit, length_more, decimal-length}
 use Rattle.texts.proofs.digit_count.Goals as goal
 

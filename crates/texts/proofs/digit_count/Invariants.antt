@@ -1,10 +1,8 @@
 -- The loops of this function: what holds at each turn, and what falls.
-use mathlib.Core.Path.{◌≡◌, ap}
+use mathlib.Core.Path.{◌≡◌}
 use Prim.Native.Nat.{◌+◌}
-use native.Mathlib.Omega.{arith}
 use lib.ListN.{length}
 use Rattle.texts.specs.Decimals.{decimal}
-use Rattle.texts.proofs.Decimals.{one_digit, length_more, decimal-length}
 use Rattle.texts.proofs.digit_count.Given as goal
 
 abbrev pub invariant-loop-left : goal.invariant-loop-left

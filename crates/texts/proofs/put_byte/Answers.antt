@@ -1,6 +1,5 @@
 -- `texts::put_byte` meets its contract: the byte is set where the buffer has a place for it, and else nothing changes (`set_out`).
 use mathlib.Core.Path.{sym}
-use borrow.Author.Rules.{rules}
 use native.Mathlib.Omega.{arith}
 use lib.Seq.{set_out}
 use Rattle.texts.proofs.put_byte.Goals as goal

@@ -1,5 +1,4 @@
 -- `texts::put_field` meets its contract: the text and the number stand one after the other (`then`), by the callees' contracts.
-use borrow.Author.Rules.{rules}
 use Rattle.texts.proofs.Writing.{then}
 use Rattle.texts.proofs.put_field.Goals as goal
 

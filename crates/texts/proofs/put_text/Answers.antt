@@ -1,9 +1,6 @@
 -- `texts::put_text` meets its contract. The invariant: the text's first i bytes are written, and `next` is the place after them.
-use Prim.Native.Nat.{◌-◌, ◌≤◌}
 use native.Mathlib.Omega.{arith}
-use lib.ListN.{length, take}
 use lib.Seq.{take_all}
-use Rattle.texts.specs.Needs.{Puts}
 use Rattle.texts.proofs.Writing.{nothing, more, kept}
 use Rattle.texts.proofs.put_text.Goals as goal
 

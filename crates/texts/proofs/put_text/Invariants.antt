@@ -1,10 +1,7 @@
 -- The loops of this function: what holds at each turn, and what falls.
 use Prim.Native.Nat.{◌-◌, ◌≤◌}
-use native.Mathlib.Omega.{arith}
 use lib.ListN.{length, take}
-use lib.Seq.{take_all}
 use Rattle.texts.specs.Needs.{Puts}
-use Rattle.texts.proofs.Writing.{nothing, more, kept}
 use Rattle.texts.proofs.put_text.Given as goal
 
 abbrev pub invariant-loop-i : goal.invariant-loop-i
