@@ -7,6 +7,8 @@ ghost use Rattle.std.specs.Prelude.{◌≡◌, ◌≤◌, length};
 ghost use Rattle.program.specs.Program.{unread_line, Prints};
 ghost use Rattle.counter.specs.Needs.{bytes_read, text_for};
 
+use std::io::{self, Read, Write};
+
 // How many bytes of standard input were read: to its end, or to the buffer's; or before a read that failed.
 #[derive(Clone, Copy)]
 enum Input {
@@ -29,20 +31,16 @@ fn output_buffer() -> [u8; 2097152]
 }
 
 // Reads standard input to the start of buf. A read that fails is not the input's end: what came before it may be half a file.
-fn read_input(buf: &mut [u8]) -> Input
+fn read_input<R: Read>(input: &mut R, buf: &mut [u8]) -> Input
     ensures { (bytes_read result ≤ length buf.new) × (length buf.new ≡ length buf.old) }
 {
     let mut n: usize = 0;
     while n < buf.len() {
-        let got = libc::read(0, &mut buf[n..]);
-        if got < 0 {
-            return Input::Failed(n);
+        match input.read(&mut buf[n..]) {
+            Err(_) => return Input::Failed(n),
+            Ok(0) => return Input::Whole(n),
+            Ok(more) => n += more,
         }
-        let more = io::count(got, &buf[n..]);
-        if more == 0 {
-            return Input::Whole(n);
-        }
-        n += more;
     }
     Input::Whole(n)
 }
@@ -66,10 +64,12 @@ fn put_answer(out: &mut [u8], read: Input, input: &[u8]) -> usize
     }
 }
 
-fn main() {
+fn main(rt: HostRuntime) -> io::Result<()> {
     let mut input = input_buffer();
     let mut output = output_buffer();
-    let read = read_input(&mut input);
+    let mut stdin = rt.stdin();
+    let mut stdout = rt.stdout();
+    let read = read_input(&mut stdin, &mut input);
     let length = put_answer(&mut output, read, &input);
-    io::write_all(1, &output[..length]);
+    stdout.write_all(&output[..length])
 }

@@ -10,11 +10,12 @@
 
 #![tactic(auto)]
 
-ghost use Rattle.std.specs.Prelude.{◌≡◌, ◌<◌, ◌≤◌, length};
+ghost use Rattle.std.specs.Prelude.{◌≡◌, ◌<◌, ◌≤◌, length, IfOk};
 
 use fasta::Answer;
 use files::Kind;
 use records::Found;
+use std::io::{self, Read, Write};
 
 // A byte of a file, and how many bytes of the line stand for it.
 #[derive(Clone, Copy)]
@@ -133,31 +134,30 @@ fn unescape(s: &[u8], out: &mut [u8]) -> usize
     n
 }
 
-fn put(n: usize) {
-    io::write_all(1, b" ");
-    io::print_decimal(1, n as u64);
+fn put<W: Write>(out: &mut W, n: usize) -> io::Result<()> {
+    write!(out, " {n}")
 }
 
-fn put_scanned(r: Answer) {
+fn put_scanned<W: Write>(out: &mut W, r: Answer) -> io::Result<()> {
     match r {
         Answer::Taken(n) => {
-            io::write_all(1, b"taken");
-            put(n.records);
-            put(n.letters);
-            put(n.foreign);
-            put(n.edge);
-            put(n.windows);
+            out.write_all(b"taken")?;
+            put(out, n.records)?;
+            put(out, n.letters)?;
+            put(out, n.foreign)?;
+            put(out, n.edge)?;
+            put(out, n.windows)?;
         }
         Answer::Refused(f) => {
-            io::write_all(1, b"refused");
-            put(settings::number_of(f) as usize);
-            put(settings::place_of(f) as usize);
+            out.write_all(b"refused")?;
+            put(out, settings::number_of(f) as usize)?;
+            put(out, settings::place_of(f) as usize)?;
         }
     }
-    io::write_all(1, b"\n");
+    out.write_all(b"\n")
 }
 
-fn put_found(f: Found) {
+fn put_found<W: Write>(out: &mut W, f: Found) -> io::Result<()> {
     match f {
         Found::Record {
             header,
@@ -165,22 +165,23 @@ fn put_found(f: Found) {
             body,
             body_len,
         } => {
-            io::write_all(1, b"record");
-            put(header);
-            put(header_len);
-            put(body);
-            put(body_len);
+            out.write_all(b"record")?;
+            put(out, header)?;
+            put(out, header_len)?;
+            put(out, body)?;
+            put(out, body_len)?;
         }
         Found::Nothing => {
-            io::write_all(1, b"none");
+            out.write_all(b"none")?;
         }
     }
+    Ok(())
 }
 
-fn put_after(at: usize) {
-    io::write_all(1, b" after");
-    put(at);
-    io::write_all(1, b"\n");
+fn put_after<W: Write>(out: &mut W, at: usize) -> io::Result<()> {
+    out.write_all(b" after")?;
+    put(out, at)?;
+    out.write_all(b"\n")
 }
 
 // The place after the space at the end of a field.
@@ -191,7 +192,7 @@ fn after_field(s: &[u8], end: usize) -> usize
     if end < s.len() { end + 1 } else { end }
 }
 
-fn scan_case(kind: Kind, s: &[u8], file: &mut [u8]) {
+fn scan_case<W: Write>(out: &mut W, kind: Kind, s: &[u8], file: &mut [u8]) -> io::Result<()> {
     let a = find(s, 0, b' ');
     let b = after_field(s, a);
     let c = find(s, b, b' ');
@@ -201,56 +202,78 @@ fn scan_case(kind: Kind, s: &[u8], file: &mut [u8]) {
     let k = decimal(&s[b..c]);
     let mirror = decimal(&s[d..e]);
     let n = unescape(&s[f..], file);
-    put_scanned(files::scan(kind, &file[..n], &s[..a], k, mirror as u64));
+    put_scanned(
+        out,
+        files::scan(kind, &file[..n], &s[..a], k, mirror as u64),
+    )
 }
 
-fn read_case(s: &[u8], file: &mut [u8]) {
+fn read_case<W: Write>(out: &mut W, s: &[u8], file: &mut [u8]) -> io::Result<()> {
     let a = find(s, 0, b' ');
     let b = after_field(s, a);
     let at = decimal(&s[..a]);
     let n = unescape(&s[b..], file);
-    put_found(records::read_from(&file[..n], at));
-    put_after(records::moved_from(&file[..n], at));
+    put_found(out, records::read_from(&file[..n], at))?;
+    put_after(out, records::moved_from(&file[..n], at))
 }
 
-fn nth_case(s: &[u8], file: &mut [u8]) {
+fn nth_case<W: Write>(out: &mut W, s: &[u8], file: &mut [u8]) -> io::Result<()> {
     let a = find(s, 0, b' ');
     let b = after_field(s, a);
     let number = decimal(&s[..a]);
     let n = unescape(&s[b..], file);
-    put_found(records::record_number(&file[..n], number));
-    io::write_all(1, b"\n");
+    put_found(out, records::record_number(&file[..n], number))?;
+    out.write_all(b"\n")
 }
 
 // One line: one under six bytes is skipped, one that begins with s, f, r or n is run as a case, every other is copied.
-fn case(s: &[u8], file: &mut [u8]) {
+fn case<W: Write>(out: &mut W, s: &[u8], file: &mut [u8]) -> io::Result<()> {
     if s.len() < 6 {
-        return;
+        return Ok(());
     }
     match s[0] {
-        b's' => scan_case(Kind::Fasta, &s[5..], file),
-        b'f' => scan_case(Kind::Fastq, &s[6..], file),
-        b'r' => read_case(&s[5..], file),
-        b'n' => nth_case(&s[4..], file),
+        b's' => scan_case(out, Kind::Fasta, &s[5..], file),
+        b'f' => scan_case(out, Kind::Fastq, &s[6..], file),
+        b'r' => read_case(out, &s[5..], file),
+        b'n' => nth_case(out, &s[4..], file),
         _ => {
-            io::write_all(1, s);
-            io::write_all(1, b"\n");
+            out.write_all(s)?;
+            out.write_all(b"\n")
         }
     }
 }
 
-fn cases(s: &[u8], file: &mut [u8]) {
+fn cases<W: Write>(out: &mut W, s: &[u8], file: &mut [u8]) -> io::Result<()> {
     let mut i = 0;
     while i < s.len() {
         let e = find(s, i, b'\n');
-        case(&s[i..e], file);
+        case(out, &s[i..e], file)?;
         i = e + 1;
     }
+    Ok(())
 }
 
-fn main() {
-    let mut input = io::large_buffer();
-    let mut file = io::buffer();
-    let n = io::read_full(0, &mut input);
-    cases(&input[..n], &mut file);
+// Reads to the start of buf, to the end of the input or of buf; how many bytes.
+fn read_full<R: Read>(input: &mut R, buf: &mut [u8]) -> io::Result<usize>
+    ensures read { IfOk result (λ n. n ≤ length buf.new) }
+    ensures kept { length buf.new ≡ length buf.old }
+{
+    let mut n: usize = 0;
+    while n < buf.len() {
+        let more = input.read(&mut buf[n..])?;
+        if more == 0 {
+            return Ok(n);
+        }
+        n += more;
+    }
+    Ok(n)
+}
+
+fn main(rt: HostRuntime) -> io::Result<()> {
+    let mut input = [0u8; 65536];
+    let mut file = [0u8; 4096];
+    let mut stdin = rt.stdin();
+    let mut out = rt.stdout();
+    let n = read_full(&mut stdin, &mut input)?;
+    cases(&mut out, &input[..n], &mut file)
 }
