@@ -2,7 +2,7 @@
  * generate.c: how a C program makes a test load with kmer.h, a sequence file that is the same wherever it is
  * made: it asks for the length, makes the file, and adds it to a table. generate.expected has what it must print.
  *
- *   rt staticlib kmer
+ *   tools/build kmer
  *   cc -std=c11 -Iinclude examples/generate.c target/staticlib/libkmer.a -o target/generate && target/generate
  */
 #include <inttypes.h>

@@ -3,7 +3,7 @@
  * mirror have one code, finds the place that a refusal tells, and codes all k-mers along a sequence.
  * mirror.expected has what it must print.
  *
- *   rt staticlib kmer
+ *   tools/build kmer
  *   cc -std=c11 -Iinclude examples/mirror.c target/staticlib/libkmer.a -o target/mirror && target/mirror
  */
 #include <inttypes.h>

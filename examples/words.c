@@ -3,7 +3,7 @@
  * Prints the starred cases of document 01 (AACTT as the word of code 0), words of an odd alphabet (document 02,
  * K10), and some refused calls; words.expected has what it must print.
  *
- *   rt staticlib kmer
+ *   tools/build kmer
  *   cc -std=c11 -Iinclude examples/words.c target/staticlib/libkmer.a -o target/words && target/words
  */
 #include <inttypes.h>

@@ -13,7 +13,7 @@ fn main() {
     };
     let library = folder.join("libkmer.a");
     if !library.is_file() {
-        panic!("{} is not there: run `rt staticlib kmer` first", library.display());
+        panic!("{} is not there: run `tools/build kmer` first", library.display());
     }
     println!("cargo:rerun-if-changed={}", library.display());
     println!("cargo:rustc-link-search=native={}", folder.display());

@@ -41,10 +41,10 @@ fn the_index_and_the_counts_are_as_the_command_writes_them() {
 fn the_command_mends_the_page() {
     let page = written(&read(PAGE)).unwrap_or_else(|what| panic!("{PAGE}: {what}"));
     let edits = [
-        ("| `classes-suc`, `twice-classes` |", "| `twice-classes` |"),
-        ("| `classes-suc`, `twice-classes` |", "| `twice-classes`, `classes-suc` |"),
-        ("| `encoding/proofs/Bounds.antt` | `value-lt` |\n", ""),
-        ("| `value-lt` |", "| `made-up`, `value-lt` |"),
+        ("| `classes-suc`, `twice_classes` |", "| `twice_classes` |"),
+        ("| `classes-suc`, `twice_classes` |", "| `twice_classes`, `classes-suc` |"),
+        ("| `encoding/proofs/Bounds.antt` | `value_lt` |\n", ""),
+        ("| `value_lt` |", "| `made-up`, `value_lt` |"),
         ("`settings/specs/Grounds.antt` ", "`settings/specs/Grounds.antt` 1"),
         (" in all.", "0 in all."),
         (" lines on which no sentence", "7 lines on which no sentence"),

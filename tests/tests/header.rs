@@ -67,7 +67,7 @@ fn rust_function(text: &str, start: usize, name_at: usize) -> Declared {
 }
 
 fn exported(text: &str) -> Vec<Declared> {
-    marked(text, "#[no_mangle]\npub extern \"C\" fn ")
+    marked(text, "#[unsafe(no_mangle)]\npub extern \"C\" fn ")
 }
 
 fn called(text: &str) -> Vec<Declared> {

@@ -1,5 +1,5 @@
 //! Writes the index of names and the counts of lines in docs/CLAIMS.md anew, in place. From the repository's root,
-//! after `rt staticlib kmer`:
+//! after `tools/build kmer`:
 //!   CARGO_TARGET_DIR=target/tests cargo run --release --offline --locked --manifest-path tests/Cargo.toml --bin claims
 
 use kmer_tests::claims::{written, PAGE};
