@@ -5,7 +5,6 @@ use native.Mathlib.Omega.{arith}
 use lib.ListN.{length}
 use Rattle.windows.proofs.Filling.{fills_none, filling_first, filling_done, filling_length, filling_next, filling_room}
 use Rattle.any_alphabet.proofs.fill.Goals as goal
-use Rattle.any_alphabet.proofs.fill.Goals.{After-window_code-first, Start}
 
 pub returns-then-ranks-k : goal.returns-then-ranks-k
 returns-then-ranks-k c = fills_none _ _ _ _ _ c.if-ranks-k.true

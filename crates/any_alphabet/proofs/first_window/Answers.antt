@@ -4,7 +4,6 @@ use native.Mathlib.Omega.{arith}
 use Rattle.any_alphabet.proofs.FirstWindows.{open_none, Letter, open_lt, open_ahead, open_behind, open_more}
 use Rattle.any_alphabet.proofs.AnyAlphabet.{k_lt, power_fits, first_window_is}
 use Rattle.any_alphabet.proofs.first_window.Goals as goal
-use Rattle.any_alphabet.proofs.first_window.Goals.{After-rank_at-x, Start}
 
 pub loop-i-init : goal.loop-i-init
 loop-i-init c = open_none _ _ _ _ _

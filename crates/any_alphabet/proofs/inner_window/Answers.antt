@@ -3,7 +3,6 @@ use Prim.Native.Nat.{◌*◌, ◌<◌, ◌≤◌}
 use native.Mathlib.Omega.{arith}
 use Rattle.any_alphabet.proofs.AnyAlphabet.{k_lt, within_short, digit_fits, first_le, last_le, within_long}
 use Rattle.any_alphabet.proofs.inner_window.Goals as goal
-use Rattle.any_alphabet.proofs.inner_window.Goals.{After-power_at-power, Start}
 
 pub returns-then-k-lt4 : goal.returns-then-k-lt4
 returns-then-k-lt4 c = within_short c.requires.window _ c.requires.le_k c.if-k-lt4.true c.divided-palindromes.ensures

@@ -8,7 +8,6 @@ use Rattle.encoding.specs.Words.{Complement}
 use Rattle.windows.proofs.Filling.{fills_none, codes_none, codes_upto, codes_room, codes_next, codes_all}
 use Rattle.two_bit.proofs.TwoBitRolls.{first_low_is, low_rank_is}
 use Rattle.two_bit.proofs.fill.Goals as goal
-use Rattle.two_bit.proofs.fill.Goals.{After-first_rank-x, Start}
 
 pub returns-then-ranks-n : goal.returns-then-ranks-n
 returns-then-ranks-n c = fills_none _ _ _ _ _ c.if-ranks-n.true

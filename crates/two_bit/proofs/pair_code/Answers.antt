@@ -8,7 +8,6 @@ use Rattle.encoding.specs.Codes.{code}
 use Rattle.ranks.specs.Needs.{part}
 use Rattle.two_bit.proofs.TwoBit.{pair_fits, two_fits, pair_in, pair_lt, ones_fit, pair_is}
 use Rattle.two_bit.proofs.pair_code.Goals as goal
-use Rattle.two_bit.proofs.pair_code.Goals.{After-pair_rank_of_four-pair, After-without_low-one}
 
 pub returns : goal.returns
 returns c =

@@ -9,7 +9,6 @@ use Rattle.sequence.proofs.Pieces.{ranks_in_array, ranks_fit, batch_numbers, bat
 use Rattle.sequence.proofs.RankTables.{length-ranks_by, Bytes, ranks_below}
 use Rattle.encoding.specs.Words.{Ranks}
 use Rattle.sequence.proofs.batches.fill_batch.Goals as goal
-use Rattle.sequence.proofs.batches.fill_batch.Goals.{After-fill_codes, After-read_ranks-all_letters}
 
 pub slice_bounds-read_ranks-end : goal.slice_bounds-read_ranks-end
 slice_bounds-read_ranks-end c = sym (length-take-le _ _ (omega (arith, c.rank_buffer-ranks.ensures, c.requires.bytes_len_bound)))
