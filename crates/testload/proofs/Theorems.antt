@@ -20,7 +20,7 @@ use Rattle.settings.proofs.SettingsGrounds.{good_settings}
 use Rattle.settings.proofs.LetterPlaces.{capitals_differ}
 use Rattle.lines.specs.Lines.{on_first}
 use Rattle.fasta.specs.declared.Item.{Item}
-use Rattle.fasta.specs.declared.Item.TheVariants.{Opens, Skip, Letter}
+use Rattle.fasta.specs.declared.Item.TheVariants.{Opens, Skip, Letter, Stray}
 use Rattle.fasta.specs.declared.Mode.TheVariants.{Start, Header}
 use Rattle.fasta.specs.File.{item, next, items_from, fault_from}
 use Rattle.fasta.specs.Items.{records_in, letters_in, foreign_in, one_if_foreign, marks, runs, edge, edges_of, windows_of}
@@ -45,6 +45,7 @@ module _ (letters : List ℕ) where
       go Opens opens ih = ih
       go Skip skip ih = ih
       go (Letter b) (letter f) ih = ih
+      go Stray x ih = elim x [ ]
 
   sound_foreign : (is : List Item) → Each (Sound letters) is → foreign_in (rank_in letters) is ≡ 0
   unfolding foreign_in one_if_foreign
@@ -55,6 +56,7 @@ module _ (letters : List ℕ) where
       go Opens opens ih = ih
       go Skip skip ih = ih
       go (Letter b) (letter f) ih = rw (f, ih)
+      go Stray x ih = elim x [ ]
 
   -- The first byte of a file with a record opens it.
   opened : (rest : List ℕ) → Each (Sound letters) (items_from Start (62 ∷ rest)) → fault_from false 0 (items_from Start (62 ∷ rest)) ≡ none
