@@ -1,0 +1,11 @@
+-- The loops of this function: what holds at each turn, and what falls.
+use Rattle.batches.proofs.Moving.{Moving, moving_none, moving_length, moving_next, moved}
+use Prim.Native.Nat.{◌-◌}
+use native.Mathlib.Omega.{arith}
+use Rattle.batches.proofs.move_front.Given as goal
+
+abbrev pub invariant-loop-j : goal.invariant-loop-j
+invariant-loop-j l = Moving l.initial.array l.from l.count l.array l.j
+
+abbrev pub decreases-loop-j : goal.decreases-loop-j
+decreases-loop-j l = l.count - l.j
