@@ -84,7 +84,7 @@ gathering_none h g =
 -- Bytes that are skipped add nothing.
 pub skip_on : {table r file : List ℕ} {start : Mode} {from letters : ℕ} {array : List ℕ} {at e : ℕ} {mode : Mode} {n : ℕ}
     → Gathering table r file start from letters array at mode n → Skips file mode at e → Gathering table r file start from letters array e mode n
-skip_on {table} {r} {file} {_} {from} {letters} {array} {at} {e} {mode} {n} G J =
+skip_on {table} {r} {file} {start} {from} {letters} {array} {at} {e} {mode} {n} G J =
     record {
       begun = omega (arith, G.begun, J.on);
       untouched = λ f. G.untouched (omega (arith, G.begun, J.on));

@@ -1,7 +1,6 @@
 -- `batches::carry` meets its contract: the last k - 1 letters are at the array's start, or none where their run ended.
 use native.Mathlib.Omega.{arith}
 use Rattle.batches.proofs.BatchLaws.{carried}
-use borrow.Author.Rules.{rules}
 use Rattle.batches.proofs.carry.Goals as goal
 
 pub overflow_sub-n : goal.overflow_sub-n

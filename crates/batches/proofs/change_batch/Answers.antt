@@ -6,11 +6,10 @@ use native.Mathlib.Omega.{arith}
 use lib.ListN.{length}
 use Rattle.counts.specs.Needs.{Changed}
 use Rattle.batches.proofs.BatchLaws.{codes_first, first_length, first_below}
-use borrow.Author.Rules.{rules}
 use Rattle.batches.proofs.change_batch.Goals as goal
 
 pub fill_codes-requires : goal.fill_codes-requires
-fill_codes-requires c = record { ready_coder = c.requires.ready_coder; ranks = c.requires.ranks; k_in_bounds = omega (arith, c.requires.ready_coder.some, c.requires.ranks_len_bound, c.code_buffer-codes.ensures); }
+fill_codes-requires c = record { ready_coder = c.requires.ready_coder; ranks = c.requires.ranks; k_in_bounds = omega (arith, c.requires.ready_coder.some, c.requires.ranks_len_bound, c.code_buffer-codes.ensures) }
 
 pub slice_bounds-change_codes-end : goal.slice_bounds-change_codes-end
 slice_bounds-change_codes-end c =

@@ -1,13 +1,11 @@
 -- `batches::change_file` meets its contract. The invariant, `Changing`: so many codes of the file were counted or taken away, the counts allowed it,
 -- and the rest of the file, behind the letters kept in the array, gives the others.
-use Prim.Native.Nat.{◌-◌}
 use native.Mathlib.Omega.{arith}
-use borrow.Author.Rules.{rules}
 use mathlib.Core.Path.{◌≡◌, sym, ◌∙◌}
 use lib.ListN.{length}
 use lib.Seq.{length-take-le}
 use Rattle.batches.proofs.Walks.{short_words, long_enough, few_letters, few_ranks, batch_ranks, batch_count}
-use Rattle.batches.proofs.FileLoops.{Changing, changing_none, same_length as kept_length, changed_all, batch_room, within_limit, changes_stop, changes_on}
+use Rattle.batches.proofs.FileLoops.{changing_none, same_length as kept_length, changed_all, batch_room, within_limit, changes_stop, changes_on}
 use Rattle.batches.proofs.change_file.Goals as goal
 
 pub loop-at-init : goal.loop-at-init
@@ -37,7 +35,7 @@ change_batch-r-requires c =
     let K = c.loop-at.invariant in
     let G = c.gather-g.ensures in
     let kept = array-kept in
-    let ranks = batch_ranks c.requires.ready_coder K.walk G kept c.requires.ranks_below in record { ready_coder = c.requires.ready_coder; ranks = ranks; ranks_len_bound = few_ranks c.requires.ready_coder K.walk G kept; counts_len = kept_length c.requires.ready_coder K ∙ c.requires.counts_len; fits = batch_room c.requires.ready_coder K G kept; }
+    let ranks = batch_ranks c.requires.ready_coder K.walk G kept c.requires.ranks_below in record { ready_coder = c.requires.ready_coder; ranks = ranks; ranks_len_bound = few_ranks c.requires.ready_coder K.walk G kept; counts_len = kept_length c.requires.ready_coder K ∙ c.requires.counts_len; fits = batch_room c.requires.ready_coder K G kept }
 
 pub overflow_add-done : goal.overflow_add-done
 overflow_add-done c =
@@ -74,7 +72,7 @@ pub carry-n-requires : goal.carry-n-requires
 carry-n-requires c =
     let array-kept : length c.gather-g.new.array ≡ length c.loop-at.array = c.gather-g.auto.array in
     let K = c.loop-at.invariant in
-    let G = c.gather-g.ensures in record { le_k = (c.requires.ready_coder.some, G.fits); k_bound = long_enough c.requires.ready_coder K.walk G array-kept; }
+    let G = c.gather-g.ensures in record { le_k = (c.requires.ready_coder.some, G.fits); k_bound = long_enough c.requires.ready_coder K.walk G array-kept }
 
 pub loop-at-smaller : goal.loop-at-smaller
 loop-at-smaller c =

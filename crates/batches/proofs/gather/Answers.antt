@@ -2,10 +2,8 @@
 -- of what is left of the file. Bytes that the mode skips leave it as it is.
 use Rattle.batches.proofs.Gathering.{Gathering, ByteRead, gathering_none, skip_on, gathered_full, gathered_all, gathered_run, gathers_on, adds_one}
 use native.Mathlib.Omega.{arith}
-use borrow.Author.Rules.{rules}
-use mathlib.Core.Path.{◌≡◌, refl, ap, ◌∙◌}
-use Prim.Native.Nat.{◌-◌}
-use lib.ListN.{length, take, length-set}
+use mathlib.Core.Path.{refl, ap, ◌∙◌}
+use lib.ListN.{take, length-set}
 use Rattle.settings.specs.RankTables.{rank_by_table}
 use Rattle.batches.specs.Needs.{mark_of}
 use Rattle.batches.proofs.gather.Goals as goal
@@ -35,7 +33,7 @@ shape_of-array-then-m c = c.loop-at.invariant.0
 pub returns-then-m : goal.returns-then-m
 returns-then-m c =
     let skipped : let a = c.args in Gathering a.table.now (take a.letters a.array.now) a.file.now a.start a.from a.letters c.loop-at.array c.pass_over-e.result c.loop-at.mode c.loop-at.n = skip_on c.loop-at.invariant.1 c.pass_over-e.ensures in
-    let byte-read : ByteRead c.args.table.now c.args.file.now c.pass_over-e.result c.loop-at.mode c.mark_of-m.result c.next_mode-mode.result = record { more = c.if-e-file.false; mark_is = c.mark_of-m.ensures ∙ ap (mark_of (rank_by_table c.args.table.now)) c.item_at.ensures; mode_is = c.next_mode-mode.ensures; } in
+    let byte-read : ByteRead c.args.table.now c.args.file.now c.pass_over-e.result c.loop-at.mode c.mark_of-m.result c.next_mode-mode.result = record { more = c.if-e-file.false; mark_is = c.mark_of-m.ensures ∙ ap (mark_of (rank_by_table c.args.table.now)) c.item_at.ensures; mode_is = c.next_mode-mode.ensures } in
     rw c.gathered_to-then-m.ensures (gathered_run skipped byte-read c.if-m.true)
 
 pub bounds-array-n : goal.bounds-array-n
@@ -45,7 +43,7 @@ bounds-array-n c =
 pub overflow_add-n : goal.overflow_add-n
 overflow_add-n c =
     let skipped : let a = c.args in Gathering a.table.now (take a.letters a.array.now) a.file.now a.start a.from a.letters c.loop-at.array c.pass_over-e.result c.loop-at.mode c.loop-at.n = skip_on c.loop-at.invariant.1 c.pass_over-e.ensures in
-    let byte-read : ByteRead c.args.table.now c.args.file.now c.pass_over-e.result c.loop-at.mode c.mark_of-m.result c.next_mode-mode.result = record { more = c.if-e-file.false; mark_is = c.mark_of-m.ensures ∙ ap (mark_of (rank_by_table c.args.table.now)) c.item_at.ensures; mode_is = c.next_mode-mode.ensures; } in
+    let byte-read : ByteRead c.args.table.now c.args.file.now c.pass_over-e.result c.loop-at.mode c.mark_of-m.result c.next_mode-mode.result = record { more = c.if-e-file.false; mark_is = c.mark_of-m.ensures ∙ ap (mark_of (rank_by_table c.args.table.now)) c.item_at.ensures; mode_is = c.next_mode-mode.ensures } in
     omega (arith, adds_one skipped byte-read, c.loop-at.invariant.1.fits, c.loop-at.invariant.0, c.well_formed)
 
 pub loop-at-smaller : goal.loop-at-smaller
@@ -54,8 +52,7 @@ loop-at-smaller c = omega (arith, c.pass_over-e.ensures.on)
 pub loop-at-preserved : goal.loop-at-preserved
 loop-at-preserved c =
     let skipped : let a = c.args in Gathering a.table.now (take a.letters a.array.now) a.file.now a.start a.from a.letters c.loop-at.array c.pass_over-e.result c.loop-at.mode c.loop-at.n = skip_on c.loop-at.invariant.1 c.pass_over-e.ensures in
-    let byte-read : ByteRead c.args.table.now c.args.file.now c.pass_over-e.result c.loop-at.mode c.mark_of-m.result c.next_mode-mode.result = record { more = c.if-e-file.false; mark_is = c.mark_of-m.ensures ∙ ap (mark_of (rank_by_table c.args.table.now)) c.item_at.ensures; mode_is = c.next_mode-mode.ensures; } in
-    (
+    let byte-read : ByteRead c.args.table.now c.args.file.now c.pass_over-e.result c.loop-at.mode c.mark_of-m.result c.next_mode-mode.result = record { more = c.if-e-file.false; mark_is = c.mark_of-m.ensures ∙ ap (mark_of (rank_by_table c.args.table.now)) c.item_at.ensures; mode_is = c.next_mode-mode.ensures } in (
       simp length-set c.loop-at.invariant.0,
       gathers_on skipped byte-read (omega (arith, c.shared_slice_known-in-loop-at-1.given c.pass_over-e.result))
           (omega (arith, c.loop-at.invariant.1.fits, c.if-n-array.false)) c.if-m.false,

@@ -1,6 +1,5 @@
 -- `batches::move_front` meets its contract. The invariant: j letters are moved, and the array is as it was behind them.
-use Rattle.batches.proofs.Moving.{Moving, moving_none, moving_length, moving_next, moved}
-use Prim.Native.Nat.{◌-◌}
+use Rattle.batches.proofs.Moving.{moving_none, moving_length, moving_next, moved}
 use native.Mathlib.Omega.{arith}
 use Rattle.batches.proofs.move_front.Goals as goal
 

@@ -1,7 +1,6 @@
 -- The loops of this function: what holds at each turn, and what falls.
-use Rattle.batches.proofs.Moving.{Moving, moving_none, moving_length, moving_next, moved}
+use Rattle.batches.proofs.Moving.{Moving}
 use Prim.Native.Nat.{◌-◌}
-use native.Mathlib.Omega.{arith}
 use Rattle.batches.proofs.move_front.Given as goal
 
 abbrev pub invariant-loop-j : goal.invariant-loop-j
