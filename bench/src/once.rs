@@ -1,5 +1,5 @@
 //! One call of the library and nothing else that takes time, for a count of its instructions: what a test load of
-//! twice the letters takes more, by the letters more, is what a letter takes (docs/SPEED.md).
+//! twice the letters takes more, by the letters more, is what a letter takes.
 
 use crate::{drawn, test_load};
 use wontirje::{codes_two_bit, Kind, Settings};
