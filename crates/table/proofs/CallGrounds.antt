@@ -12,7 +12,7 @@ use Rattle.settings.specs.declared.Settings.{Settings}
 use Rattle.settings.specs.declared.Checked.{Checked}
 use Rattle.settings.specs.declared.Checked.TheVariants.{Good}
 use Rattle.settings.specs.Grounds.{Ground, Outcome, given, refused, ground, ground_at, too_short, outcome, ◌or_else◌}
-use Rattle.settings.specs.Settings.{rank_in, classes, settings_ground, settings_of, of_checked}
+use Rattle.settings.specs.Settings.{rank_in, settings_ground, settings_of, of_checked}
 use Rattle.settings.proofs.Outcomes.{refused_on, refused_leaves, Passed, passed, first_none, later_none, test_fails, kept_by, set_by, kept_on}
 use Rattle.settings.proofs.SettingsGrounds.{Known, known}
 use Rattle.fasta.specs.declared.Numbers.{Numbers}
