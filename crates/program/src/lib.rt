@@ -53,8 +53,8 @@ fn put_counted(
     file: &[u8],
     st: Settings,
 ) -> usize
-    requires mirror_value { settings_ground letters.now k mirror ≡ none }
-    requires st_value { st ≡ settings_of letters.now k mirror }
+    requires good { settings_ground letters.now k mirror ≡ none }
+    requires checked { st ≡ settings_of letters.now k mirror }
     ensures { Prints (survey_text letters.now k mirror (file_of kind file.now)) out.old result out.new }
 {
     let mut table = cleared_table();
