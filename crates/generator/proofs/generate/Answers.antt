@@ -1,13 +1,10 @@
 -- `generator::generate` meets its contract: at each test the ground that applies, and else the text, written whole.
-use Rattle.std.proofs.Common.{◌≡◌, sym, ap, ◌∙◌, rules}
+use Rattle.std.proofs.Common.{◌≡◌, sym, ap, ◌∙◌}
 use mathlib.Core.Option.{none}
 use Rattle.settings.specs.Settings.{settings_ground, settings_of, of_checked}
 use Rattle.settings.proofs.Outcomes.{passed}
 use Rattle.generator.proofs.Answers.{settings_refused, too_large, short_buffer, load_fits, written}
 use Rattle.generator.proofs.generate.Goals as goal
-
-pub enum_told-1 : goal.enum_told-1
-enum_told-1 c = search rules
 
 pub returns-then-needed-gt-MOST_BYTES : goal.returns-then-needed-gt-MOST_BYTES
 returns-then-needed-gt-MOST_BYTES c =

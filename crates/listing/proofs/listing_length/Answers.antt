@@ -21,19 +21,19 @@ pub overflow_add-result : goal.overflow_add-result
 overflow_add-result c =
     let sum : ℕ = c.put_survey-survey.result + c.lines_length.result + c.put_total-total.result in
     let whole : ℕ = let a = c.args in length (listing_of a.letters.now a.k a.mirror a.counts.now) in
-    let parts : (sum ≡ whole) × (sum ≤ longest 16777216) = parts_are _ _ _ _ c.requires (λ i. omega (arith, c.shared_slice_known-2-1.given i)) c.put_survey-survey.ensures c.lines_length.ensures c.put_total-total.ensures in
+    let parts : (sum ≡ whole) × (sum ≤ longest 16777216) = parts_are _ _ _ _ c.requires (λ i. omega (arith, c.type_inv.counts i)) c.put_survey-survey.ensures c.lines_length.ensures c.put_total-total.ensures in
     omega (arith, parts.1)
 
 pub overflow_add-result-2 : goal.overflow_add-result-2
 overflow_add-result-2 c =
     let sum : ℕ = c.put_survey-survey.result + c.lines_length.result + c.put_total-total.result in
     let whole : ℕ = let a = c.args in length (listing_of a.letters.now a.k a.mirror a.counts.now) in
-    let parts : (sum ≡ whole) × (sum ≤ longest 16777216) = parts_are _ _ _ _ c.requires (λ i. omega (arith, c.shared_slice_known-2-1.given i)) c.put_survey-survey.ensures c.lines_length.ensures c.put_total-total.ensures in
+    let parts : (sum ≡ whole) × (sum ≤ longest 16777216) = parts_are _ _ _ _ c.requires (λ i. omega (arith, c.type_inv.counts i)) c.put_survey-survey.ensures c.lines_length.ensures c.put_total-total.ensures in
     omega (arith, parts.1)
 
 pub returns : goal.returns
 returns c =
     let sum : ℕ = c.put_survey-survey.result + c.lines_length.result + c.put_total-total.result in
     let whole : ℕ = let a = c.args in length (listing_of a.letters.now a.k a.mirror a.counts.now) in
-    let parts : (sum ≡ whole) × (sum ≤ longest 16777216) = parts_are _ _ _ _ c.requires (λ i. omega (arith, c.shared_slice_known-2-1.given i)) c.put_survey-survey.ensures c.lines_length.ensures c.put_total-total.ensures in
+    let parts : (sum ≡ whole) × (sum ≤ longest 16777216) = parts_are _ _ _ _ c.requires (λ i. omega (arith, c.type_inv.counts i)) c.put_survey-survey.ensures c.lines_length.ensures c.put_total-total.ensures in
     parts.0

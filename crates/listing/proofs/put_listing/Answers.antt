@@ -14,5 +14,5 @@ unfolding listing_of
 returns c =
     record {
       puts = then c.put_survey-after_survey.ensures (then c.put_counts-after_counts.ensures c.put_total.ensures);
-      counts_len_bound = listing_length _ _ _ _ c.requires (λ i. omega (arith, c.shared_slice_known-2-1.given i));
+      counts_len_bound = listing_length _ _ _ _ c.requires (λ i. omega (arith, c.type_inv.counts i));
     }

@@ -8,16 +8,16 @@ pub loop-i-init : goal.loop-i-init
 loop-i-init c = (omega arith, omega arith, omega arith)
 
 pub overflow_cast-t : goal.overflow_cast-t
-overflow_cast-t c = omega (arith, c.shared_slice_known-1.given c.loop-i.i)
+overflow_cast-t c = omega (arith, c.type_inv.counts c.loop-i.i)
 
 pub overflow_add-t : goal.overflow_add-t
-overflow_add-t c = omega (arith, c.shared_slice_known-1.given c.loop-i.i)
+overflow_add-t c = omega (arith, c.type_inv.counts c.loop-i.i)
 
 pub loop-i-preserved : goal.loop-i-preserved
 loop-i-preserved c =
     let counts = c.args.counts.now in
     let step = sum_step counts-add-up counts c.loop-i.i c.loop-i-test.true in
-    (omega (arith, c.loop-i.invariant.0, step), omega arith, omega (arith, c.shared_slice_known-1.given c.loop-i.i))
+    (omega (arith, c.loop-i.invariant.0, step), omega arith, omega (arith, c.type_inv.counts c.loop-i.i))
 
 pub returns : goal.returns
 returns c =

@@ -3,14 +3,10 @@ use mathlib.Core.Path.{sym, ap, ◌∙◌}
 use Rattle.settings.proofs.SettingsGrounds.{good_settings}
 use Rattle.settings.specs.Needs.{of_finding}
 use Rattle.loader.proofs.LoadAnswers.{text_refused, sets_counts, counts_set}
-use borrow.Author.Rules.{rules}
 use Rattle.loader.proofs.load_counts.Goals as goal
 
 pub rank_table-ranks-requires : goal.rank_table-ranks-requires
 rank_table-ranks-requires c = (good_settings _ _ _ c.requires.0.good).few
-
-pub enum_told-1 : goal.enum_told-1
-enum_told-1 c = search rules
 
 pub set_counts-requires : goal.set_counts-requires
 set_counts-requires c =

@@ -4,7 +4,6 @@ use Prim.Native.Nat.{◌+◌, ◌-◌, ◌≤◌}
 use native.Mathlib.Omega.{arith}
 use lib.ListN.{length, drop, length-drop}
 use lib.Seq.{take_all}
-use borrow.Author.Tests.{not-true, not-false}
 use Rattle.survey.specs.Needs.{Within}
 use Rattle.loading.specs.Shapes.{is_classes_end, classes_last}
 use Rattle.shapes.proofs.classes_last.Goals as goal
@@ -25,7 +24,7 @@ returns-in_default-third c =
 pub returns-then-not-in_order : goal.returns-then-not-in_order
 unfolding classes_last
 returns-then-not-in_order c =
-    let other = sym c.in_order.ensures ∙ not-true c.in_order.result c.if-not-in_order.true-raw in
+    let other = sym c.in_order.ensures ∙ c.if-not-in_order.true in
     rw (c.in-Of.is, c.in-Of-second.is, c.in-Of-third.is, other)
 
 pub overflow_add-e : goal.overflow_add-e
@@ -46,7 +45,7 @@ slice_bounds-is_classes_end-start c =
 pub returns : goal.returns
 unfolding classes_last
 returns c =
-    let right = sym c.in_order.ensures ∙ not-false c.in_order.result c.if-not-in_order.false-raw in
+    let right = sym c.in_order.ensures ∙ c.if-not-in_order.false in
     let e = c.in-Of-third.from + c.in-Of-third.len in
     let l = c.args.line.now in
     rw (c.in-Of.is, c.in-Of-second.is, c.in-Of-third.is, right)

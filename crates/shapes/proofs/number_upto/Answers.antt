@@ -10,7 +10,7 @@ pub loop-i-init : goal.loop-i-init
 loop-i-init c = (omega arith, refl)
 
 pub overflow_add-v : goal.overflow_add-v
-overflow_add-v c = omega (arith, c.digit.ensures, c.shared_slice_known-in-loop-i-1.given c.loop-i.i)
+overflow_add-v c = omega (arith, c.digit.ensures, c.type_inv.ds c.loop-i.i)
 
 pub loop-i-preserved : goal.loop-i-preserved
 loop-i-preserved c =

@@ -1,6 +1,5 @@
 -- `shapes::of_letters` meets its contract. The invariant: all are letters where all from i on are.
 use mathlib.Core.Path.{refl, sym, ◌∙◌}
-use borrow.Author.Tests.{not-true, not-false}
 use Rattle.shapes.proofs.Loops.{letter_foreign, letter_next, letters_done}
 use Rattle.shapes.proofs.of_letters.Goals as goal
 
@@ -10,12 +9,12 @@ loop-i-init c = refl
 pub returns-then-not-is_in : goal.returns-then-not-is_in
 returns-then-not-is_in c =
     sym (c.loop-i.invariant
-    ∙ letter_foreign _ _ _ c.loop-i-test.true (sym c.is_in.ensures ∙ not-true c.is_in.result c.if-not-is_in.true-raw))
+    ∙ letter_foreign _ _ _ c.loop-i-test.true (sym c.is_in.ensures ∙ c.if-not-is_in.true))
 
 pub loop-i-preserved : goal.loop-i-preserved
 loop-i-preserved c =
     c.loop-i.invariant
-    ∙ letter_next _ _ _ c.loop-i-test.true (sym c.is_in.ensures ∙ not-false c.is_in.result c.if-not-is_in.false-raw)
+    ∙ letter_next _ _ _ c.loop-i-test.true (sym c.is_in.ensures ∙ c.if-not-is_in.false)
 
 pub returns : goal.returns
 returns c = sym (c.loop-i.invariant ∙ letters_done _ _ _ c.loop-i-test.false)

@@ -1,10 +1,6 @@
 -- `survey_reader::head_of` meets its contract: each answer stands at its own test, after the tests before it.
-use borrow.Author.Rules.{rules}
 use Rattle.survey.specs.Reading.{head_of}
 use Rattle.survey_reader.proofs.head_of.Goals as goal
-
-pub enum_told-1 : goal.enum_told-1
-enum_told-1 c = search rules
 
 pub returns-in_default : goal.returns-in_default
 unfolding head_of

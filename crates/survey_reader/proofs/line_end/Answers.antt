@@ -1,11 +1,7 @@
 -- `survey_reader::line_end` meets its contract: a form's value ends inside the input.
 use native.Mathlib.Omega.{arith}
-use borrow.Author.Rules.{rules}
 use Rattle.survey.specs.Reading.{line_end}
 use Rattle.survey_reader.proofs.line_end.Goals as goal
-
-pub enum_told-1 : goal.enum_told-1
-enum_told-1 c = search rules
 
 pub overflow_add-from : goal.overflow_add-from
 overflow_add-from c =

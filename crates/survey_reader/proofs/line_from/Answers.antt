@@ -1,6 +1,5 @@
 -- `survey_reader::line_from` meets its contract: the forms are read one after the other, and each ends inside the input.
 use mathlib.Core.Path.{◌∙◌}
-use borrow.Author.Rules.{rules}
 use Rattle.survey.specs.Reading.{head_of}
 use Rattle.survey.proofs.FormLaws.{form-within, next-within, line_made}
 use Rattle.survey_reader.proofs.line_from.Goals as goal
@@ -14,9 +13,6 @@ next_form-third-requires c = rw c.next_form-second.ensures (next-within c.args.i
 pub line_end-requires : goal.line_end-requires
 line_end-requires c =
     rw c.next_form-third.ensures (next-within c.args.input.now c.next_form-second.result)
-
-pub enum_told-1 : goal.enum_told-1
-enum_told-1 c = search rules
 
 pub returns-in-Nowhere : goal.returns-in-Nowhere
 unfolding head_of

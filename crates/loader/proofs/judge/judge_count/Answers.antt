@@ -1,6 +1,5 @@
 -- `loader::judge::judge_count` meets its contract. The total, no shape, or the line of a class.
 use mathlib.Core.Path.{sym, ◌∙◌}
-use borrow.Author.Tests.{not-true, not-false}
 use Rattle.settings.proofs.SettingsGrounds.{good_settings}
 use Rattle.loader.proofs.Judged.{total_good, total_bad, no_shape}
 use Rattle.loader.proofs.judge.judge_count.Goals as goal
@@ -21,7 +20,7 @@ is_count_line-requires c = (good_settings _ _ _ c.requires.0.good).short_k
 pub returns-then-not-is_count_line : goal.returns-then-not-is_count_line
 returns-then-not-is_count_line c =
     no_shape _ _ _ _ _ _ _ (sym c.is_total_line.ensures ∙ c.if-is_total_line.false)
-    (sym c.is_count_line.ensures ∙ not-true c.is_count_line.result c.if-not-is_count_line.true-raw)
+    (sym c.is_count_line.ensures ∙ c.if-not-is_count_line.true)
 
 pub judge_class-requires : goal.judge_class-requires
 judge_class-requires c = (
@@ -29,7 +28,7 @@ judge_class-requires c = (
   c.requires.1,
   record {
     no_total = sym c.is_total_line.ensures ∙ c.if-is_total_line.false;
-    shaped = sym c.is_count_line.ensures ∙ not-false c.is_count_line.result c.if-not-is_count_line.false-raw;
+    shaped = sym c.is_count_line.ensures ∙ c.if-not-is_count_line.false;
   },
   c.requires.2,
 )

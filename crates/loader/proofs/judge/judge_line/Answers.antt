@@ -1,10 +1,6 @@
 -- `loader::judge::judge_line` meets its contract. By what belongs next.
 use Rattle.loader.proofs.Judged.{none_belongs}
-use borrow.Author.Rules.{rules}
 use Rattle.loader.proofs.judge.judge_line.Goals as goal
-
-pub enum_told-1 : goal.enum_told-1
-enum_told-1 c = search rules
 
 pub judge_count-requires : goal.judge_count-requires
 judge_count-requires c =

@@ -16,25 +16,25 @@ fill_ranks_by-requires c =
 pub slice_bounds-own-end : goal.slice_bounds-own-end
 slice_bounds-own-end c =
     let RanksFrom : Type 0 = let a = c.args in WordRanks a.letters.now a.k a.line.now c.fill_ranks_by.new.out in
-    let word_ranks : RanksFrom = let a = c.args in ranks_read a.k a.line.now _ (limits a.letters.now a.k a.mirror c.requires.0) c.requires.1 (record { below = λ i h. omega (arith, c.shared_slice_known-2-1.given i) }) c.requires.2 c.fill_ranks_by.ensures in
+    let word_ranks : RanksFrom = let a = c.args in ranks_read a.k a.line.now _ (limits a.letters.now a.k a.mirror c.requires.0) c.requires.1 (record { below = λ i h. omega (arith, c.type_inv.line i) }) c.requires.2 c.fill_ranks_by.ensures in
     ranks_fit word_ranks
 
 pub slice_bounds-ranks_code-end : goal.slice_bounds-ranks_code-end
 slice_bounds-ranks_code-end c =
     let RanksFrom : Type 0 = let a = c.args in WordRanks a.letters.now a.k a.line.now c.fill_ranks_by.new.out in
-    let word_ranks : RanksFrom = let a = c.args in ranks_read a.k a.line.now _ (limits a.letters.now a.k a.mirror c.requires.0) c.requires.1 (record { below = λ i h. omega (arith, c.shared_slice_known-2-1.given i) }) c.requires.2 c.fill_ranks_by.ensures in
+    let word_ranks : RanksFrom = let a = c.args in ranks_read a.k a.line.now _ (limits a.letters.now a.k a.mirror c.requires.0) c.requires.1 (record { below = λ i h. omega (arith, c.type_inv.line i) }) c.requires.2 c.fill_ranks_by.ensures in
     sym (ranks_length word_ranks)
 
 pub ranks_code-requires : goal.ranks_code-requires
 ranks_code-requires c =
     let RanksFrom : Type 0 = let a = c.args in WordRanks a.letters.now a.k a.line.now c.fill_ranks_by.new.out in
-    let word_ranks : RanksFrom = let a = c.args in ranks_read a.k a.line.now _ (limits a.letters.now a.k a.mirror c.requires.0) c.requires.1 (record { below = λ i h. omega (arith, c.shared_slice_known-2-1.given i) }) c.requires.2 c.fill_ranks_by.ensures in
+    let word_ranks : RanksFrom = let a = c.args in ranks_read a.k a.line.now _ (limits a.letters.now a.k a.mirror c.requires.0) c.requires.1 (record { below = λ i h. omega (arith, c.type_inv.line i) }) c.requires.2 c.fill_ranks_by.ensures in
     (ranks_word word_ranks, word_ranks.array.within.few)
 
 pub returns : goal.returns
 returns c =
     let RanksFrom : Type 0 = let a = c.args in WordRanks a.letters.now a.k a.line.now c.fill_ranks_by.new.out in
-    let word_ranks : RanksFrom = let a = c.args in ranks_read a.k a.line.now _ (limits a.letters.now a.k a.mirror c.requires.0) c.requires.1 (record { below = λ i h. omega (arith, c.shared_slice_known-2-1.given i) }) c.requires.2 c.fill_ranks_by.ensures in
+    let word_ranks : RanksFrom = let a = c.args in ranks_read a.k a.line.now _ (limits a.letters.now a.k a.mirror c.requires.0) c.requires.1 (record { below = λ i h. omega (arith, c.type_inv.line i) }) c.requires.2 c.fill_ranks_by.ensures in
     let mirror = c.args.mirror in (
       code_found word_ranks mirror c.mirror_named-m.ensures c.ranks_code.ensures.0,
       canonical_found word_ranks mirror c.mirror_named-m.ensures c.ranks_code.ensures.1,

@@ -1,11 +1,7 @@
 -- `survey_forms::values::number_of` meets its contract. A value for k that has an admitted length has at most 3 digits.
-use borrow.Author.Rules.{rules}
 use Rattle.survey.specs.Reading.{number_of}
 use Rattle.survey.proofs.ValueLaws.{few_digits}
 use Rattle.survey_forms.proofs.values.number_of.Goals as goal
-
-pub enum_told-1 : goal.enum_told-1
-enum_told-1 c = search rules
 
 pub spelt_at-requires : goal.spelt_at-requires
 spelt_at-requires c =

@@ -2,7 +2,6 @@
 use mathlib.Core.Path.{sym, ap, ◌∙◌}
 use mathlib.Core.Bool.{not}
 use native.Mathlib.Omega.{arith}
-use borrow.Author.Rules.{rules}
 use borrow.Author.Tests.{le-leb}
 use Rattle.survey.specs.Reading.{sized}
 use Rattle.survey.proofs.ValueLaws.{sized-none, k_long, k_single, k_more}
@@ -10,9 +9,6 @@ use Rattle.survey_forms.proofs.values.sized.Goals as goal
 
 pub returns-then-len-eq0 : goal.returns-then-len-eq0
 returns-then-len-eq0 c = rw c.if-len-eq0.true (sym (sized-none c.args.name _))
-
-pub enum_told-1 : goal.enum_told-1
-enum_told-1 c = search rules
 
 pub returns-then-len-gt3 : goal.returns-then-len-gt3
 returns-then-len-gt3 c = rw c.in-K.is (sym (k_long _ c.args.len c.if-len-gt3.true))

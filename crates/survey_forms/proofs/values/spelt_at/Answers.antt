@@ -19,14 +19,14 @@ overflow_mul-v c = omega (arith, small c.loop-j.v c.loop-j.j c.loop-j.invariant.
 pub overflow_add-v : goal.overflow_add-v
 overflow_add-v c =
     let at = c.args.from + c.loop-j.j in
-    omega (arith, small c.loop-j.v c.loop-j.j c.loop-j.invariant.1 (omega arith), c.digit.ensures, c.shared_slice_known-in-loop-j-1.given at)
+    omega (arith, small c.loop-j.v c.loop-j.j c.loop-j.invariant.1 (omega arith), c.digit.ensures, c.type_inv.input at)
 
 pub loop-j-preserved : goal.loop-j-preserved
 loop-j-preserved c =
     let args = c.args in
     let v = c.loop-j.v in
     let j = c.loop-j.j in
-    let small-digit : c.digit.result < 256 = omega (arith, c.digit.ensures, c.shared_slice_known-in-loop-j-1.given (args.from + j)) in (
+    let small-digit : c.digit.result < 256 = omega (arith, c.digit.ensures, c.type_inv.input (args.from + j)) in (
       omega arith,
       grows v c.digit.result j c.loop-j.invariant.1 small-digit,
       c.loop-j.invariant.2 ∙ spelt_turn args.input.now args.from args.len v j (omega arith) (omega arith) c.digit.result c.digit.ensures,

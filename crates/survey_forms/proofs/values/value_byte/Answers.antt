@@ -3,7 +3,6 @@ use mathlib.Core.Path.{◌≡◌, sym}
 use mathlib.Core.Logic.{◌⊎◌, inl, inr}
 use Prim.Native.Nat.{ℕ, ◌<◌}
 use native.Mathlib.Omega.{arith}
-use borrow.Author.Rules.{rules}
 use Rattle.survey.specs.declared.Name.TheVariants.{Letters, K, Mirror}
 use Rattle.survey.specs.Grammar.{LetterByte}
 use Rattle.survey.proofs.ByteLaws.{letter_above, byte_passes, byte_fails}
@@ -21,9 +20,6 @@ blank b (inr (inr e)) h = h.1.1.0 e
 -- The bytes below the brackets but these are letters.
 below : (b : ℕ) → b < 40 → (Blank b → ⊥) → LetterByte b
 below b h other = (λ e. omega arith, (λ e. omega arith, (λ e. other (inr (inr e)), (λ e. other (inr (inl e)), (λ e. other (inl e), tt)))))
-
-pub enum_told-1 : goal.enum_told-1
-enum_told-1 c = search rules
 
 pub returns-in_default : goal.returns-in_default
 returns-in_default c =

@@ -1,7 +1,6 @@
 -- `survey_forms::values::value_end` meets its contract. The invariant: the stretch ends as far after i as it has bytes from i on.
 use mathlib.Core.Path.{refl, sym, ◌∙◌}
 use native.Mathlib.Omega.{arith}
-use borrow.Author.Tests.{not-true, not-false}
 use Rattle.survey.specs.Reading.{value_byte}
 use Rattle.survey.proofs.TextLaws.{stretch_stop, stretch_go, stretch_end}
 use Rattle.survey_forms.proofs.values.value_end.Goals as goal
@@ -12,13 +11,13 @@ loop-i-init c = refl
 pub returns-then-not-value_byte : goal.returns-then-not-value_byte
 returns-then-not-value_byte c =
     let args = c.args in
-    let differs = sym c.value_byte.ensures ∙ not-true c.value_byte.result c.if-not-value_byte.true-raw in
+    let differs = sym c.value_byte.ensures ∙ c.if-not-value_byte.true in
     omega (arith, c.loop-i.invariant, stretch_stop (value_byte args.name) args.input.now c.loop-i.i c.loop-i-test.true differs)
 
 pub loop-i-preserved : goal.loop-i-preserved
 loop-i-preserved c =
     let args = c.args in
-    let passes = sym c.value_byte.ensures ∙ not-false c.value_byte.result c.if-not-value_byte.false-raw in
+    let passes = sym c.value_byte.ensures ∙ c.if-not-value_byte.false in
     omega (arith, c.loop-i.invariant, stretch_go (value_byte args.name) args.input.now c.loop-i.i c.loop-i-test.true passes)
 
 pub returns : goal.returns
