@@ -128,6 +128,8 @@ for name in LEMMAS:
     renames[name] = name + "_lem"
 # Two fields of one name but for the spelling: the one is on `word_of` at a code, the other the theorem about words of codes.
 renames["wordOf-code"], renames["word-of-code"] = "word_of-code", "word_of_code"
+# Two public fields that would have got _lem.
+renames["letters-of"], renames["cleared-table"] = "letters_only", "table_cleared"
 taken = set(tokens) & {new for new in renames.values() if new.endswith("_lem")}
 together += sorted(taken)
 

@@ -7,7 +7,7 @@ ghost use Rattle.std.specs.Prelude.{◌≡◌, ◌≤◌, length};
 ghost use Rattle.program.specs.Program.{unread_line, Prints};
 ghost use Rattle.counter.specs.Needs.{bytes_read, text_for};
 
-use std::io::{self, Read, Write};
+use std::io::{Read, Write};
 
 // How many bytes of standard input were read: to its end, or to the buffer's; or before a read that failed.
 #[derive(Clone, Copy)]
@@ -64,12 +64,16 @@ fn put_answer(out: &mut [u8], read: Input, input: &[u8]) -> usize
     }
 }
 
-fn main(rt: HostRuntime) -> io::Result<()> {
+// What cannot be written is passed over: nobody is left to tell, and the program ends as it does otherwise.
+fn main(rt: HostRuntime) {
     let mut input = input_buffer();
     let mut output = output_buffer();
     let mut stdin = rt.stdin();
     let mut stdout = rt.stdout();
     let read = read_input(&mut stdin, &mut input);
     let length = put_answer(&mut output, read, &input);
-    stdout.write_all(&output[..length])
+    match stdout.write_all(&output[..length]) {
+        Ok(()) => {}
+        Err(_) => {}
+    }
 }

@@ -52,7 +52,7 @@ module _ (k : ℕ) (word digits : List ℕ) (h : length word ≡ k) where
 -- What the line of a class is made of.
 pub record CountParts (letters : List ℕ) (k : ℕ) (l : List ℕ) : Type 0 where
   pub word_long : length (word_in k l) ≡ k
-  pub letters_of_lem : of_letters letters (word_in k l) ≡ true
+  pub letters_only : of_letters letters (word_in k l) ≡ true
   pub is : l ≡ count_line (word_in k l) (spelt 0 (digits_in k l))
 
 pub count_parts : (letters : List ℕ) (k : ℕ) (l : List ℕ) → is_count_line letters k l ≡ true → CountParts letters k l
@@ -64,7 +64,7 @@ count_parts letters k l e =
     let c = (and-eq-true_iff (of_letters letters (word_in k l)) (is_number (digits_in k l))).0 b.1 in
     record {
       word_long = eqb-true (length (word_in k l)) k b.0;
-      letters_of_lem = c.0;
+      letters_only = c.0;
       is = word_same l (count_shape (word_in k l) (digits_in k l)) a.0 ∙ ap (count_shape (word_in k l)) (number_is_decimal (digits_in k l) c.1);
     }
 
@@ -74,8 +74,8 @@ unfolding count_line
 count_shaped letters k l = (
   λ e.
       let P = count_parts letters k l e in
-      record { word = word_in k l; n = spelt 0 (digits_in k l); long = P.word_long; letters_of_lem = P.letters_of_lem; line = P.is },
-  λ S. rw S.line (count_shape_lem k S.word (decimal S.n) S.long letters S.letters_of_lem (decimal-is_number S.n).0),
+      record { word = word_in k l; n = spelt 0 (digits_in k l); long = P.word_long; letters_only = P.letters_only; line = P.is },
+  λ S. rw S.line (count_shape_lem k S.word (decimal S.n) S.long letters S.letters_only (decimal-is_number S.n).0),
 )
 
 pub count_one_line : (word : List ℕ) (n : ℕ) → is_in 10 word ≡ false → Ended (count_line word n)

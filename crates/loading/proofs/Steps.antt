@@ -86,7 +86,7 @@ module _ (letters : List ℕ) (k m : ℕ) (good : settings_ground letters k m �
       rw W.own (same_word_lem (ranks_of letters word)) in
       record {
         no_total = count_no_total k word (decimal n) long;
-        shape = count_shape_lem k word (decimal n) long letters W.letters_of_lem D.0;
+        shape = count_shape_lem k word (decimal n) long letters W.letters_only D.0;
         passed = rw (code, count, w-in, own, le-leb low q rises, le-leb 1 n some, le-leb n 4294967295 few);
         code = code;
         count = count;
@@ -130,7 +130,7 @@ module _ (letters : List ℕ) (k m : ℕ) (good : settings_ground letters k m �
       (passes 22 at (good_count letters k m low l) (later_none shaped counted here)) in
       let b = (and-eq-true_iff high (leb 1 (count_in k l) && leb (count_in k l) 4294967295)).0 a.1 in
       let c = (and-eq-true_iff (leb 1 (count_in k l)) (leb (count_in k l) 4294967295)).0 b.1 in
-      let word = canonical_text letters k m good (word_in k l) C.word_long C.letters_of_lem (word_same _ _ a.0) in
+      let word = canonical_text letters k m good (word_in k l) C.word_long C.letters_only (word_same _ _ a.0) in
       record {
         is = C.is ∙ ap (λ (w : List ℕ). count_line w (count_in k l)) word;
         shape = passes 20 at (is_count_line letters k l) (first_none shaped counted here);

@@ -92,7 +92,7 @@ module _ (letters : List ℕ) (k m : ℕ) (good : settings_ground letters k m �
 
   -- What a code is printed as: a canonical word in the settings' letters that has the code.
   pub record PrintedWord (q : ℕ) (word : List ℕ) : Type 0 where
-    pub letters_of_lem : of_letters letters word ≡ true
+    pub letters_only : of_letters letters word ≡ true
     pub own : canonical (length letters) (mirror_of m) (ranks_of letters word) ≡ ranks_of letters word
     pub code_is : place_of letters k m (ranks_of letters word) ≡ q
     pub no_lf : is_in 10 word ≡ false
@@ -103,7 +103,7 @@ module _ (letters : List ℕ) (k m : ℕ) (good : settings_ground letters k m �
       let W = word_of_code (length letters) (mirror_of m) k (limits letters k m good) q h in
       let same = ranks_of_word letters capitals (word_of (length letters) (mirror_of m) k q) W.word.ranks in
       record {
-        letters_of_lem = capitals_of_letters letters capitals (word_of (length letters) (mirror_of m) k q) W.word.ranks;
+        letters_only = capitals_of_letters letters capitals (word_of (length letters) (mirror_of m) k q) W.word.ranks;
         own = rw same W.own_canonical;
         code_is = rw same W.own_code;
         no_lf =

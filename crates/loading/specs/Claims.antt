@@ -28,7 +28,7 @@ pub record CountShape (letters : List ℕ) (k : ℕ) (l : List ℕ) : Type 0 whe
   pub word : List ℕ
   pub n : ℕ
   pub long : length word ≡ k
-  pub letters_of_lem : of_letters letters word ≡ true
+  pub letters_only : of_letters letters word ≡ true
   pub line : l ≡ count_line word n
 
 -- The total of some number. That `is_total_line` finds just these is a theorem.

@@ -31,7 +31,7 @@ pub enum Found {
 }
 
 // The lent file with the offset reached. `new` starts at offset 0; a caller that wants another offset sets it.
-#[derive(Drop)]
+#[derive(Clone, Copy)]
 pub struct Reader<'a> {
     pub file: &'a [u8],
     pub at: usize,

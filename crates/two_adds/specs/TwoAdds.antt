@@ -15,7 +15,7 @@ two_answers r = of_answer r.first ∷ of_answer r.second ∷ []
 
 -- A clearing of t₀ and two adds after it, each on the table that the call before left; demand 3 holds of them.
 pub record AddsTwo (letters : List ℕ) (k mirror : ℕ) (t₀ : List ℕ) (one other : File) (r : Answers) (t : List ℕ) : Type 0 where
-  pub cleared_table_lem : List ℕ
-  pub clearing : Clears letters k mirror t₀ (of_filling r.cleared) cleared_table_lem
-  pub adds : TableCalls letters k mirror cleared_table_lem (add one ∷ add other ∷ []) (two_answers r) t
-  pub demand_three : clear_ground letters k mirror (length t₀) ≡ none → DemandThree letters k mirror t₀ cleared_table_lem (add one ∷ add other ∷ []) (two_answers r) t
+  pub table_cleared : List ℕ
+  pub clearing : Clears letters k mirror t₀ (of_filling r.cleared) table_cleared
+  pub adds : TableCalls letters k mirror table_cleared (add one ∷ add other ∷ []) (two_answers r) t
+  pub demand_three : clear_ground letters k mirror (length t₀) ≡ none → DemandThree letters k mirror t₀ table_cleared (add one ∷ add other ∷ []) (two_answers r) t

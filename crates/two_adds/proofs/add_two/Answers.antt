@@ -9,7 +9,7 @@ returns c =
     let clearing = c.clear-cleared.ensures in
     let adds = then c.add-first.ensures (then c.add-second.ensures done) in
     record {
-      cleared_table_lem = _;
+      table_cleared = _;
       clearing = clearing;
       adds = adds;
       demand_three = λ none_applies_lem. demand_three a.letters.now a.k a.mirror none_applies_lem clearing adds;

@@ -2,11 +2,7 @@
 use mathlib.Core.Path.{sym}
 use Prim.Native.Nat.{ℕ}
 use lib.ListN.{length-replicate}
-use Rattle.counter.proofs.output_buffer.Statement.{statement}
-use Rattle.counter.proofs.output_buffer.Tie as tie
+use Rattle.counter.proofs.output_buffer.Goals as goal
 
-returns : tie.Need-returns
+pub returns : goal.returns
 returns c = sym (length-replicate {A = ℕ} 2097152 0)
-
-pub output-buffer-spec : {M : Type 1} → statement M
-output-buffer-spec = tie.close (tie.spec returns)
