@@ -111,7 +111,7 @@ fn differing_code(
 ) -> u64
     requires window { Window s m k powers.now ranks.now j inner }
     requires outer_pair { OuterPair s m k ranks.now j l r }
-    requires l_nonzero { l ≢ r }
+    requires letters_differ { l ≢ r }
     ensures { result ≡ code s m k (part j k ranks.now) }
 {
     let between = by_order(l, r, inner.forward, inner.back);

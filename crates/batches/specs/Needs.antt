@@ -54,8 +54,8 @@ codes_of_file c table file start = codes_by c (windows_in (rank_by_table table) 
 -- Letters were gathered, from the place i on behind the letters r: to the end of their run or of the file, or to the end of the array.
 pub record Gathers (table r file : List ℕ) (mode : Mode) (i : ℕ) (g : Gathered) (array : List ℕ) : Type 0 where
   pub on : i < g.at
-  pub inside : ◌≤◌ g.at (length file)
-  pub fits : ◌≤◌ g.letters (length array)
+  pub inside : g.at ≤ length file
+  pub fits : g.letters ≤ length array
   pub ranks : (s : ℕ) → RanksBelow s table → Ranks s r → Ranks s (take g.letters array)
   pub windows_are : (k : ℕ)
       → cut_from (rank_by_table table) k r file mode i ≡ cut_after g.ended (rank_by_table table) k (take g.letters array) file g.mode g.at

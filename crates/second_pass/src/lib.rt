@@ -49,7 +49,7 @@ fn count_unless_full(
     requires ranks_below { RanksBelow c.s ranks.now }
     requires counts_len { length counts.old ≡ classes c.s c.mirror c.k }
     requires windows_value { n.windows ≡ length (codes_of c ranks.now (file_of kind file.now)) }
-    requires fact { ◌≤◌ n.windows 16777216 }
+    requires few_windows { n.windows ≤ 16777216 }
     ensures { ChangedUnlessRefused In n (codes_of c ranks.now (file_of kind file.now)) counts.old (of_answer result) counts.new }
 {
     if counts::too_full(counts, n.windows) {
@@ -109,7 +109,7 @@ fn change_counts(
     requires ranks_below { RanksBelow c.s ranks.now }
     requires counts_len { length counts.old ≡ classes c.s c.mirror c.k }
     requires windows_value { n.windows ≡ length (codes_of c ranks.now (file_of kind file.now)) }
-    requires fact { ◌≤◌ n.windows 16777216 }
+    requires few_windows { n.windows ≤ 16777216 }
     ensures { ChangedUnlessRefused way n (codes_of c ranks.now (file_of kind file.now)) counts.old (of_answer result) counts.new }
 {
     match way {
@@ -131,11 +131,11 @@ pub fn call_scanned(
     ranks: &[u8; 256],
     n: Numbers,
 ) -> Answer
-    requires mirror_value { settings_ground letters.now k mirror ≡ none }
-    requires st_value { st ≡ settings_of letters.now k mirror }
+    requires no_ground { settings_ground letters.now k mirror ≡ none }
+    requires settings_are { st ≡ settings_of letters.now k mirror }
     requires rank_table { RankTable letters.now ranks.now }
     requires clean_file { CleanFile letters.now k (file_of kind file.now) n }
-    requires mirror_in_bounds { class_count letters.now k mirror ≤ length table.old }
+    requires long_enough { class_count letters.now k mirror ≤ length table.old }
     ensures { CalledUnlessRefused letters.now k mirror table.old (call_of way (file_of kind file.now)) (of_answer result) table.new }
 {
     let m = st.mirror;

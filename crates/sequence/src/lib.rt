@@ -27,8 +27,8 @@ fn fill_checked(
     sequence: &[u8],
     list: &mut [u64],
 ) -> Filling
-    requires mirror_value { settings_ground letters.now k mirror ≡ none }
-    requires st_value { st ≡ settings_of letters.now k mirror }
+    requires no_ground { settings_ground letters.now k mirror ≡ none }
+    requires settings_are { st ≡ settings_of letters.now k mirror }
     requires takes { Takes kernel (length letters.now) (mirror_of mirror) }
     ensures { FillsCodes letters.now k mirror sequence.now list.old (of_filling result) list.new }
 {

@@ -76,8 +76,8 @@ fn call_checked(
     file: &[u8],
     st: Settings,
 ) -> Answer
-    requires file_value { ready_ground letters.now k mirror (length table.old) file.now ≡ none }
-    requires st_value { st ≡ settings_of letters.now k mirror }
+    requires no_ground { ready_ground letters.now k mirror (length table.old) file.now ≡ none }
+    requires settings_are { st ≡ settings_of letters.now k mirror }
     ensures { Called letters.now k mirror table.old (call_of way (file_of kind file.now)) (of_answer result) table.new }
 {
     let ranks = settings::rank_table(letters);

@@ -9,7 +9,7 @@ use Rattle.any_alphabet.proofs.differing_code.Goals as goal
 
 pub returns : goal.returns
 returns c =
-    differing_is c.requires.window _ _ _ _ c.requires.outer_pair c.requires.l_nonzero c.by_order-between.ensures (c.pair_rank-pair.ensures ∙ cc)
+    differing_is c.requires.window _ _ _ _ c.requires.outer_pair c.requires.letters_differ c.by_order-between.ensures (c.pair_rank-pair.ensures ∙ cc)
     c.power_at-top.ensures c.power_at-low.ensures
 
 pub power_at-top-requires : goal.power_at-top-requires
@@ -21,7 +21,7 @@ power_at-low-requires c = let W = c.requires.window in record { powers = W.input
 pub pair_rank-pair-requires : goal.pair_rank-pair-requires
 pair_rank-pair-requires c =
     let lt = outer_lt c.requires.window c.requires.outer_pair in
-    (omega (arith, c.requires.l_nonzero), omega (arith, lt.0, lt.1), c.requires.window.input.limits.few)
+    (omega (arith, c.requires.letters_differ), omega (arith, lt.0, lt.1), c.requires.window.input.limits.few)
 
 pub overflow_add-result : goal.overflow_add-result
 overflow_add-result c =

@@ -19,7 +19,7 @@ mirror_rank_at-r-requires c = record { i_in_bounds = omega (arith, c.loop-n.inva
 
 pub differing_code-requires : goal.differing_code-requires
 differing_code-requires c =
-    let outer : let a = c.args in OuterPair a.s a.m c.loop-n.n a.ranks.now c.loop-n.a c.rank_at-l.result c.mirror_rank_at-r.result = record { two = c.loop-n-test.true; first = c.rank_at-l.ensures; last = c.mirror_rank_at-r.ensures } in record { window = c.loop-n.invariant.window; outer_pair = outer; l_nonzero = c.if-l-r.true }
+    let outer : let a = c.args in OuterPair a.s a.m c.loop-n.n a.ranks.now c.loop-n.a c.rank_at-l.result c.mirror_rank_at-r.result = record { two = c.loop-n-test.true; first = c.rank_at-l.ensures; last = c.mirror_rank_at-r.ensures } in record { window = c.loop-n.invariant.window; outer_pair = outer; letters_differ = c.if-l-r.true }
 
 pub returns-then-l-r : goal.returns-then-l-r
 returns-then-l-r c = scan_done c.loop-n.invariant _ c.differing_code.ensures

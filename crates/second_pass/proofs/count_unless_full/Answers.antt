@@ -15,7 +15,7 @@ change_file-requires c =
     let a = c.args in
     let codes = codes_of a.c a.ranks.now (file_of a.kind a.file.now) in
     let free = sym c.if-too_full.false ∙ c.too_full.ensures in
-    let room = counts-free a.n.windows codes a.counts.now free c.requires.fact c.requires.windows_value in
+    let room = counts-free a.n.windows codes a.counts.now free c.requires.few_windows c.requires.windows_value in
     rw c.start_of.ensures record { ready_coder = c.requires.ready_coder; ranks_below = c.requires.ranks_below; counts_len = c.requires.counts_len; fits = λ _. room }
 
 pub returns : goal.returns

@@ -7,28 +7,28 @@ use Rattle.settings.proofs.SettingsGrounds.{good_settings}
 use Rattle.sequence.proofs.fill_checked.Goals as goal
 
 pub returns-then-sequence-gt-MOST_BYTES : goal.returns-then-sequence-gt-MOST_BYTES
-returns-then-sequence-gt-MOST_BYTES c = too_large _ _ _ _ _ c.requires.mirror_value c.if-sequence-gt-MOST_BYTES.true
+returns-then-sequence-gt-MOST_BYTES c = too_large _ _ _ _ _ c.requires.no_ground c.if-sequence-gt-MOST_BYTES.true
 
 pub returns-then-list-needed : goal.returns-then-list-needed
 returns-then-list-needed c =
-    too_short_lem _ _ _ _ _ c.requires.mirror_value c.if-sequence-gt-MOST_BYTES.false _ c.window_count-needed.ensures c.if-list-needed.true
+    too_short_lem _ _ _ _ _ c.requires.no_ground c.if-sequence-gt-MOST_BYTES.false _ c.window_count-needed.ensures c.if-list-needed.true
 
 pub rank_table-table-requires : goal.rank_table-table-requires
-rank_table-table-requires c = (good_settings _ _ _ c.requires.mirror_value).few
+rank_table-table-requires c = (good_settings _ _ _ c.requires.no_ground).few
 
 pub power_table-powers-requires : goal.power_table-powers-requires
 power_table-powers-requires c =
-    let q = power_ready _ _ _ c.requires.mirror_value c.args.kernel c.requires.takes _ c.requires.st_value in record { lt_s = q.0; k_bound = q.1 }
+    let q = power_ready _ _ _ c.requires.no_ground c.args.kernel c.requires.takes _ c.requires.settings_are in record { lt_s = q.0; k_bound = q.1 }
 
 pub coder_of-c-requires : goal.coder_of-c-requires
 coder_of-c-requires c =
-    let q = palindromes_fit _ _ _ c.requires.mirror_value c.args.kernel c.requires.takes _ c.requires.st_value in record { classes_bound = q.0; power_bound = q.1 }
+    let q = palindromes_fit _ _ _ c.requires.no_ground c.args.kernel c.requires.takes _ c.requires.settings_are in record { classes_bound = q.0; power_bound = q.1 }
 
 pub fill_sequence-requires : goal.fill_sequence-requires
 fill_sequence-requires c =
     let kernel = c.args.kernel in
-    let good = c.requires.mirror_value in
-    let is = c.requires.st_value in
+    let good = c.requires.no_ground in
+    let is = c.requires.settings_are in
     let takes = c.requires.takes in
     let made = coder_is _ _ _ good kernel takes _ is c.coder_of-c.ensures in
     rw made record {
@@ -40,8 +40,8 @@ fill_sequence-requires c =
 pub returns : goal.returns
 returns c =
     let a = c.args in
-    let good = c.requires.mirror_value in
-    let is = c.requires.st_value in
+    let good = c.requires.no_ground in
+    let is = c.requires.settings_are in
     let coded = c.fill_sequence.ensures in
     let table = c.rank_table-table.result in
     let numbers = coder_codes a.letters.now a.k a.mirror a.kernel _ is table a.sequence.now c.coder_of-c.ensures coded in

@@ -9,7 +9,7 @@ pub fill_checked-requires : goal.fill_checked-requires
 fill_checked-requires c =
     let a = c.args in
     let ok = passed (settings_of a.letters.now a.k a.mirror) (settings_ground a.letters.now a.k a.mirror) (ap of_checked (sym
-    c.in-Good.is) ∙ c.check.ensures) in record { mirror_value = ok.none_applies_lem; st_value = ok.value; takes = c.requires }
+    c.in-Good.is) ∙ c.check.ensures) in record { no_ground = ok.none_applies_lem; settings_are = ok.value; takes = c.requires }
 
 pub returns-in-Bad : goal.returns-in-Bad
 returns-in-Bad c = settings_refused _ _ _ _ _ c.in-Bad.f (ap of_checked (sym c.in-Bad.is) ∙ c.check.ensures)

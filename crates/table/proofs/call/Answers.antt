@@ -7,7 +7,7 @@ use Rattle.table.proofs.call.Goals as goal
 
 pub call_checked-requires : goal.call_checked-requires
 call_checked-requires c =
-    let ok = ready_passed _ _ _ _ _ _ c.ready.ensures _ c.in-Good.is in record { file_value = ok.none_applies_lem; st_value = ok.value }
+    let ok = ready_passed _ _ _ _ _ _ c.ready.ensures _ c.in-Good.is in record { no_ground = ok.none_applies_lem; settings_are = ok.value }
 
 pub returns-in-Bad : goal.returns-in-Bad
 returns-in-Bad c =
