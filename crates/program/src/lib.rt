@@ -15,6 +15,9 @@ use files::Kind;
 use settings::{Checked, Refusal, Settings};
 use survey::Head;
 
+// The most bytes of an input.
+const MOST_INPUT: usize = 65536;
+
 // The line of a refusal, which is then the whole output.
 fn put_refused(out: &mut [u8], f: Refusal) -> usize
     ensures { Prints (refused_line (ground_of f)) out.old result out.new }
@@ -124,7 +127,7 @@ fn put_parts(
 pub fn run(input: &[u8], out: &mut [u8]) -> usize
     ensures { Prints (program_text input.now) out.old result out.new }
 {
-    if 65536 < input.len() {
+    if MOST_INPUT < input.len() {
         return put_refused(out, Refusal::LongInput);
     }
     match survey_reader::read_line(input) {
