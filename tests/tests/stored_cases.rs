@@ -9,11 +9,11 @@ use kmer_tests::second_reader::{next_record, scanning, Record};
 use kmer_tests::settings::Settings;
 use kmer_tests::vectors::number;
 
-/// The arguments of each `show(..)` of a source, in order: letters, k, mirror and two words.
+/// The arguments of each `show(out, ..)` of a source, in order, but for the first: letters, k, mirror and two words.
 fn shown_calls(source: &'static str) -> Vec<[&'static str; 5]> {
     let calls = source.split(" show(").skip(1).map(|call| call.split(')').next().expect("the call's end"));
     let arguments = calls.map(|call| call.split(',').map(str::trim).filter(|part| !part.is_empty()));
-    arguments.map(|parts| parts.collect::<Vec<_>>().try_into().expect("five arguments")).collect()
+    arguments.map(|parts| parts.skip(1).collect::<Vec<_>>().try_into().expect("five arguments")).collect()
 }
 
 /// A byte string of the source.
@@ -26,10 +26,10 @@ fn literal(text: &str) -> Vec<u8> {
 #[test]
 fn stored_picks() {
     let source = include_str!("../../crates/pick_cases/src/main.rt");
-    let (functions, main) = source.split_once("\nfn main() {\n").expect("a main");
+    let (functions, main) = source.split_once("\nfn main(").expect("a main");
     let named = functions.split("\nfn ").skip(1).filter(|part| part.contains(" show("));
-    let called = main.lines().take_while(|line| *line != "}").map(|line| line.trim().trim_end_matches("();"));
-    assert!(named.map(|part| part.split('(').next().expect("a name")).eq(called), "another order");
+    let called = main.lines().filter_map(|line| line.trim().strip_suffix("(&mut out)?;"));
+    assert!(named.map(|part| part.split('<').next().expect("a name")).eq(called), "another order");
     let calls = shown_calls(functions);
     let outputs = include_str!("../../crates/pick_cases/stdout").lines();
     assert_eq!((calls.len(), outputs.clone().count()), (58, 58), "cases");
