@@ -22,11 +22,13 @@ fn general(settings: &Settings, letters: usize) {
     settings.codes(&drawn(b"ACGT", letters), &mut vec![0; letters]).expect("room for all codes");
 }
 
-/// The listing of a table whose first classes, so many as letters are asked for, have a count.
+/// The listing of a table whose first classes, so many as letters are asked for, have a count. Its length is asked first,
+/// which goes over the table too.
 fn listing(settings: &Settings, letters: usize) {
     let mut table = vec![0; settings.table_places().expect("settings of a table")];
     table[..letters].fill(1);
-    settings.listing(&table).expect("a listing");
+    let length = settings.listing(&table, &mut []).expect_err("no room").place as usize;
+    settings.listing(&table, &mut vec![0; length]).expect("room for the listing");
 }
 
 /// `once CALL K LETTERS`: runs the call, for DNA under complement.
