@@ -301,10 +301,10 @@ static inline unsigned kmer_refusal(uint64_t answer)
 }
 
 /*
- * P of a refusal by any call but kmer_code and kmer_word: the length needed for KMER_SHORT_BUFFER, the place
+ * P of a refusal by any call but kmer_code, kmer_word and kmer_classes: the length needed for KMER_SHORT_BUFFER, the place
  * or offset from 0 for KMER_FOREIGN_BYTE, KMER_STRAY_BYTE, KMER_EARLY_LETTER, KMER_BAD_RECORD,
  * KMER_QUALITY_LENGTH, KMER_QUALITY_BYTE, KMER_BAD_LINE, KMER_OTHER_SETTINGS and KMER_BAD_COUNT, else 0.
- * kmer_code and kmer_word return no P, so for these it is always 0.
+ * kmer_code, kmer_word and kmer_classes return no P, so for these it is always 0.
  */
 static inline uint64_t kmer_refusal_p(uint64_t answer)
 {

@@ -22,7 +22,7 @@ pub struct Refusal {
     pub number: u64,
     /// The length needed for 7; the place or offset, from 0, of the byte for 9, 10, 11 and 17, of the line
     /// for 15, 16 and 20 to 22 (the length of the file or the listing for a missing line); else 0.
-    /// [`crate::Settings::code`] and [`crate::Settings::word`] always give 0.
+    /// [`crate::Settings::code`], [`crate::Settings::word`] and [`crate::Settings::classes`] always give 0.
     pub place: u64,
 }
 

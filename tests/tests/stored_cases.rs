@@ -28,7 +28,10 @@ fn stored_picks() {
     let source = include_str!("../../crates/pick_cases/src/main.rt");
     let (functions, main) = source.split_once("\nfn main(").expect("a main");
     let named = functions.split("\nfn ").skip(1).filter(|part| part.contains(" show("));
-    let called = main.lines().filter_map(|line| line.trim().strip_suffix("(&mut out)?;"));
+    let (first, rest) = main.split_once("\n    let mut out = rt.stdout();\n").expect("where it prints");
+    let (calls, last) = rest.split_once("    Ok(())\n").expect("its end");
+    assert_eq!((first, last), ("rt: HostRuntime) -> io::Result<()> {", "}\n"), "main");
+    let called = calls.lines().map(|line| line.trim().trim_end_matches("(&mut out)?;"));
     assert!(named.map(|part| part.split('<').next().expect("a name")).eq(called), "another order");
     let calls = shown_calls(functions);
     let outputs = include_str!("../../crates/pick_cases/stdout").lines();
