@@ -3,7 +3,7 @@ use mathlib.Core.Path.{◌≡◌, refl, sym, ap, ◌∙◌}
 use Prim.Native.Nat.{ℕ, ◌+◌, ◌-◌, ◌≤◌}
 use native.Mathlib.Omega.{arith}
 use mathlib.Core.Bool.{cond}
-use mathlib.Core.Option.{Option, none, some}
+use Rattle.std.specs.Prelude.{Option, None, Some}
 use mathlib.Core.List.{List, [], ◌∷◌, ◌++◌, append_assoc, append-nil}
 use lib.ListN.{length, take, drop, length-append, length-drop}
 use lib.Seq.{take_at, drop-append-le, drop-drop}
@@ -21,8 +21,8 @@ use Rattle.batches.specs.Needs.{mark_of_rank, mark_of, cut}
 cut-stream : (k : ℕ) (r : List ℕ) (ms : List (Option ℕ)) → 1 ≤ k → cut k r ms ≡ windows k r ++ windows_from k r ms
 unfolding cut windows_from windows
 cut-stream k r [] h = sym (append-nil (windows k r))
-cut-stream k r (none ∷ ms) h = rw (cut-stream k [] ms h)
-cut-stream k r (some x ∷ ms) h = cut-stream k (r ++ (x ∷ [])) ms h ∙ rw (windows-snoc k r x h, append_assoc)
+cut-stream k r (None ∷ ms) h = rw (cut-stream k [] ms h)
+cut-stream k r (Some x ∷ ms) h = cut-stream k (r ++ (x ∷ [])) ms h ∙ rw (windows-snoc k r x h, append_assoc)
 
 -- From the start, with no letter at hand, the windows that the batches take are those of all runs.
 pub cut_all : (k : ℕ) (ms : List (Option ℕ)) → 1 ≤ k → cut k [] ms ≡ windows_of k (runs ms)
@@ -46,8 +46,8 @@ cut-item rank k r (Letter b) is = by_rank (rank b)
         → cut k r (o ∷ marks rank is)
         ≡ cond (mark_of_rank o).ends (windows k r ++ cut k [] (marks rank is))
         (cut k (r ++ take (mark_of_rank o).letters ((mark_of_rank o).rank ∷ [])) (marks rank is))
-    by_rank none = refl
-    by_rank (some x) = refl
+    by_rank None = refl
+    by_rank (Some x) = refl
 
 -- ---- one batch
 
@@ -65,8 +65,8 @@ module _ (k : ℕ) (some_k : 1 ≤ k) where
   pub cut_batch : (ms : List (Option ℕ)) (r : List ℕ) → k ≤ length r + 1 → cut k r ms ≡ windows k r ++ cut k (drop (length r + 1 - k) r) ms
   unfolding cut
   cut_batch [] r h = rw (windows-none k (drop (length r + 1 - k) r) (omega (arith, length-drop (length r + 1 - k) r)), append-nil (windows k r))
-  cut_batch (none ∷ ms) r h = rw (windows-none k (drop (length r + 1 - k) r) (omega (arith, length-drop (length r + 1 - k) r)))
-  cut_batch (some x ∷ ms) r h =
+  cut_batch (None ∷ ms) r h = rw (windows-none k (drop (length r + 1 - k) r) (omega (arith, length-drop (length r + 1 - k) r)))
+  cut_batch (Some x ∷ ms) r h =
       let d : List ℕ = drop (length r + 1 - k) r in
       let nd : length d ≡ k - 1 = omega (arith, length-drop (length r + 1 - k) r) in
       let n : length (r ++ (x ∷ [])) ≡ length r + 1 = length-append r (x ∷ []) in

@@ -5,7 +5,7 @@ use native.Mathlib.Decide.{ℕ_discrete}
 use native.Mathlib.Numerals.{add-one}
 use native.Mathlib.Omega.{arith}
 use mathlib.Core.Bool.{Bool, true, false, cond, true≢false}
-use mathlib.Core.Option.{Option, none, some}
+use Rattle.std.specs.Prelude.{Option, None, Some}
 use mathlib.Core.List.{List, [], ◌∷◌, ◌++◌, append-nil}
 use lib.ListN.{length, get_or, take, drop, set, length-set}
 use lib.Seq.{take-set-le, take-suc-set}
@@ -36,16 +36,16 @@ one_letter rank Stray = omega arith
 one_letter rank (Letter b) = by_rank (rank b)
   where
     by_rank : (o : Option ℕ) → (mark_of_rank o).letters ≤ 1
-    by_rank none = omega arith
-    by_rank (some x) = omega arith
+    by_rank None = omega arith
+    by_rank (Some x) = omega arith
 
 abbrev added : (ℕ → Option ℕ) → Item → List ℕ
 added rank it = take (mark_of rank it).letters ((mark_of rank it).rank ∷ [])
 
 module _ {s : ℕ} {table : List ℕ} (T : RanksBelow s table) (b : ℕ) (byte : b < 256) where
   letter_rank : (o : Option ℕ) → rank_by_table table b ≡ o → Ranks s (take (mark_of_rank o).letters ((mark_of_rank o).rank ∷ []))
-  letter_rank none e = tt
-  letter_rank (some x) e = (T.below b x byte e, tt)
+  letter_rank None e = tt
+  letter_rank (Some x) e = (T.below b x byte e, tt)
 
   -- The letter that a byte adds is a rank below s.
   item_rank : (mode : Mode) (lf : Bool) → Ranks s (added (rank_by_table table) (item mode b lf))

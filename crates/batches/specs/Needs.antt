@@ -1,6 +1,6 @@
 -- What the functions that count a file, or take it away, ask of each other and promise each other. No claim and no call of document 01 rests on it.
 use Rattle.std.specs.Prelude.{◌≡◌, ℕ, ◌+◌, ◌-◌, ◌<◌, ◌≤◌, Bool, true, false, cond, List, [], ◌∷◌, ◌++◌, map, length, take, drop}
-use Rattle.std.proofs.Math.Option.{Option, none, some}
+use Rattle.std.specs.Prelude.{Option, None, Some}
 use Rattle.encoding.specs.Words.{Ranks}
 use Rattle.encoding.specs.Codes.{code}
 use Rattle.fasta.specs.declared.Item.{Item}
@@ -18,8 +18,8 @@ use Rattle.batches.specs.declared.Gathered.{Gathered}
 
 -- What a letter does to a run, by its rank: it is the run's next letter, or ends the run.
 abbrev pub mark_of_rank : Option ℕ → Mark
-mark_of_rank none = record { rank = 0; letters = 0; ends = true }
-mark_of_rank (some x) = record { rank = x; letters = 1; ends = false }
+mark_of_rank None = record { rank = 0; letters = 0; ends = true }
+mark_of_rank (Some x) = record { rank = x; letters = 1; ends = false }
 
 -- What an item does to a run.
 abbrev pub mark_of : (ℕ → Option ℕ) → Item → Mark
@@ -31,8 +31,8 @@ mark_of rank (Letter b) = mark_of_rank (rank b)
 -- The windows of what is to come, the letters r of the present run being at hand.
 unfoldable pub cut : ℕ → (r : List ℕ) → List (Option ℕ) → List (List ℕ)
 cut k r [] = windows k r
-cut k r (none ∷ ms) = windows k r ++ cut k [] ms
-cut k r (some x ∷ ms) = cut k (r ++ (x ∷ [])) ms
+cut k r (None ∷ ms) = windows k r ++ cut k [] ms
+cut k r (Some x ∷ ms) = cut k (r ++ (x ∷ [])) ms
 
 -- The same of the bytes of a file from the place i on.
 abbrev pub cut_from : (ℕ → Option ℕ) → ℕ → (r file : List ℕ) → Mode → ℕ → List (List ℕ)

@@ -2,7 +2,7 @@
 -- the order of the word calls' grounds; the pick.
 use mathlib.Core.Path.{◌≡◌, refl}
 use mathlib.Core.Bool.{true, false}
-use mathlib.Core.Option.{some}
+use Rattle.std.specs.Prelude.{Some}
 use mathlib.Core.List.{List, [], ◌∷◌, map}
 use Prim.Native.Nat.{ℕ, zero, suc}
 use native.Mathlib.Omega.{arith}
@@ -110,8 +110,8 @@ starred_cases = record {
 pub number_order : record {
   coded_5_9 : code_of "ACGT" 2 1 "N" ≡ refused (5, 0);
   read_7_8 : reading (bytes "ACGT") 2 1 10 1 ≡ refused (7, 2);
-  mirrored_5_7 : mirror_ground (bytes "ACGT") 2 1 (bytes "A") 1 ≡ some (5, 0);
-  mirrored_7_9 : mirror_ground (bytes "ACGT") 2 1 (bytes "AN") 1 ≡ some (7, 2);
+  mirrored_5_7 : mirror_ground (bytes "ACGT") 2 1 (bytes "A") 1 ≡ Some (5, 0);
+  mirrored_7_9 : mirror_ground (bytes "ACGT") 2 1 (bytes "AN") 1 ≡ Some (7, 2);
   first_place : code_of "ACGT" 4 1 "ANAN" ≡ refused (9, 1);
 }
 unfolding is_capital is_in different_capitals good_letters capital_of reads_u_as_t read_as place_from is_odd half_up classes bad_size settings_ground foreign_from code_ground read_ground

@@ -1,7 +1,7 @@
 -- Document 01, "Code of a word", "Word of a code, and the canonical pick" and "Grounds for refusing": words and codes as the calls take and give
 -- them, a byte for a letter and 0 or 1 for the mirror. Each call's grounds stand in number order.
 use Rattle.std.specs.Prelude.{ℕ, suc, Bool, not, List, [], ◌∷◌, map, length, get_or, eqb, leb, ltb}
-use Rattle.std.proofs.Math.Option.{Option, none, some}
+use Rattle.std.specs.Prelude.{Option, None, Some}
 use Rattle.settings.specs.Grounds.{Ground, Outcome, ground, ground_at, too_short, outcome, ◌or_else◌}
 use Rattle.settings.specs.Settings.{rank_in, mirror_of, classes, settings_ground}
 use Rattle.encoding.specs.Words.{mirror, plain}
@@ -12,8 +12,8 @@ use Rattle.encoding.specs.WordsOfCodes.{word_of}
 
 -- A byte that has no rank stands as rank 0, which no answer shows: ground 9 refuses its word.
 abbrev pub rank_or_zero : Option ℕ → ℕ
-rank_or_zero none = 0
-rank_or_zero (some rank) = rank
+rank_or_zero None = 0
+rank_or_zero (Some rank) = rank
 
 abbrev pub rank_at : List ℕ → ℕ → ℕ
 rank_at letters b = rank_or_zero (rank_in letters b)
@@ -34,12 +34,12 @@ wrong_length k word = not (eqb (length word) k)
 
 -- The place n where the byte there has no rank, else what is found later.
 abbrev pub here_or : Option ℕ → ℕ → Option ℕ → Option ℕ
-here_or none n later = some n
-here_or (some rank) n later = later
+here_or None n later = Some n
+here_or (Some rank) n later = later
 
 -- 9: "a byte of a word is no settings letter; P its place": the place of the first that has no rank, of bytes whose first has the place n.
 unfoldable pub foreign_from : List ℕ → ℕ → List ℕ → Option ℕ
-foreign_from letters n [] = none
+foreign_from letters n [] = None
 foreign_from letters n (b ∷ bs) = here_or (rank_in letters b) n (foreign_from letters (suc n) bs)
 
 -- Coding a word: the grounds 1, 2, 4, 5 and 9.

@@ -3,7 +3,7 @@
 use mathlib.Core.Path.{◌≡◌, refl}
 use mathlib.Core.Bool.{false}
 use Prim.Native.Nat.{ℕ}
-use mathlib.Core.Option.{Option, none, some}
+use Rattle.std.specs.Prelude.{Option, None, Some}
 use mathlib.Core.List.{List, [], ◌∷◌}
 use Rattle.laws.specs.Text.{bytes}
 use Rattle.settings.specs.Grounds.{Ground}
@@ -78,34 +78,34 @@ fastq_items = refl
 -- ---- faults
 
 -- Grounds 10 and 11 with the offset of the byte.
-stray : file_fault (bytes ">a\nAC*T\n") ≡ some (10, 5)
+stray : file_fault (bytes ">a\nAC*T\n") ≡ Some (10, 5)
 unfolding is_letter lf_next line_item item next items_from fault_from
 stray = refl
 
-early : file_fault (bytes "\r\nACGT\n>a\n") ≡ some (11, 2)
+early : file_fault (bytes "\r\nACGT\n>a\n") ≡ Some (11, 2)
 unfolding is_letter lf_next line_item item next items_from fault_from
 early = refl
 
 -- "of 10 and 11, the earlier byte wins"
-stray_first : file_fault (bytes "*A\n>a\n") ≡ some (10, 0)
+stray_first : file_fault (bytes "*A\n>a\n") ≡ Some (10, 0)
 unfolding is_letter lf_next line_item item next items_from fault_from
 stray_first = refl
 
-early_first : file_fault (bytes "A*\n>a\n") ≡ some (11, 0)
+early_first : file_fault (bytes "A*\n>a\n") ≡ Some (11, 0)
 unfolding is_letter lf_next line_item item next items_from fault_from
 early_first = refl
 
 -- Of several stray bytes the first; a CR at the file's end is one.
-first_stray : file_fault (bytes ">\nA-C-\n") ≡ some (10, 3)
+first_stray : file_fault (bytes ">\nA-C-\n") ≡ Some (10, 3)
 unfolding is_letter lf_next line_item item next items_from fault_from
 first_stray = refl
 
-last_cr : file_fault (bytes ">\nA\r") ≡ some (10, 3)
+last_cr : file_fault (bytes ">\nA\r") ≡ Some (10, 3)
 unfolding is_letter lf_next line_item item next items_from fault_from
 last_cr = refl
 
 -- No fault: what a header holds, foreign and small letters, a header that the file's end cuts off, a CR at the end of such a header.
-no_fault : file_fault (bytes ">*\n\nAxN\n>b 1\r\n>-\r") ≡ none
+no_fault : file_fault (bytes ">*\n\nAxN\n>b 1\r\n>-\r") ≡ None
 unfolding is_letter lf_next line_item item next items_from fault_from
 no_fault = refl
 
@@ -151,6 +151,6 @@ unfolding numbers_of_file
 empty_file = refl
 
 -- And it has no fault: neither 10 nor 11 refuses it.
-empty_faultless : file_fault [] ≡ none
+empty_faultless : file_fault [] ≡ None
 unfolding is_letter lf_next line_item item next items_from fault_from
 empty_faultless = refl

@@ -2,7 +2,7 @@
 -- (`same_fault`) and, where U has T's rank, the same windows and the same five numbers (`same_windows`, `same_numbers`). Byte by byte and item by item.
 use mathlib.Core.Path.{◌≡◌, refl, sym, ap, ◌∙◌}
 use mathlib.Core.Bool.{Bool, true, false}
-use mathlib.Core.Option.{Option}
+use Rattle.std.specs.Prelude.{Option}
 use mathlib.Core.List.{List, [], ◌∷◌, map}
 use Prim.Native.Nat.{ℕ, suc}
 use Rattle.lines.proofs.Mapped.{lf_mapped}

@@ -4,7 +4,7 @@
 use mathlib.Core.Path.{◌≡◌, refl, ap, ◌∙◌}
 use Prim.Native.Nat.{ℕ, suc, ◌+◌, ◌≤◌}
 use native.Mathlib.Omega.{arith}
-use mathlib.Core.Option.{Option, none, some}
+use Rattle.std.specs.Prelude.{Option, None, Some}
 use mathlib.Core.List.{List, [], ◌∷◌}
 use lib.ListN.{length, length-append}
 use Rattle.laws.proofs.Windows.{length-windows}
@@ -17,8 +17,8 @@ use Rattle.fasta.specs.File.{next, items_from}
 -- How many settings letters there are.
 ranked : List (Option ℕ) → ℕ
 ranked [] = 0
-ranked (none ∷ ms) = ranked ms
-ranked (some x ∷ ms) = suc (ranked ms)
+ranked (None ∷ ms) = ranked ms
+ranked (Some x ∷ ms) = suc (ranked ms)
 
 total : List (List ℕ) → ℕ
 total [] = 0
@@ -32,8 +32,8 @@ total_on_first x (r ∷ rs) = omega arith
 total_runs : (ms : List (Option ℕ)) → total (runs ms) ≡ ranked ms
 unfolding total runs ranked
 total_runs [] = omega arith
-total_runs (none ∷ ms) = omega (arith, total_runs ms)
-total_runs (some x ∷ ms) = total_on_first x (runs ms) ∙ ap suc (total_runs ms)
+total_runs (None ∷ ms) = omega (arith, total_runs ms)
+total_runs (Some x ∷ ms) = total_on_first x (runs ms) ∙ ap suc (total_runs ms)
 
 letters_split : (rank : ℕ → Option ℕ) (is : List Item) → letters_in is ≡ ranked (marks rank is) + foreign_in rank is
 unfolding letters_in ranked marks foreign_in one_if_foreign
@@ -45,8 +45,8 @@ letters_split rank (Letter b ∷ is) = by_rank (rank b) (letters_split rank is)
   where
     by_rank : (o : Option ℕ) → letters_in is ≡ ranked (marks rank is) + foreign_in rank is
         → suc (letters_in is) ≡ ranked (o ∷ marks rank is) + (one_if_foreign o + foreign_in rank is)
-    by_rank none h = omega arith
-    by_rank (some x) h = omega arith
+    by_rank None h = omega arith
+    by_rank (Some x) h = omega arith
 
 -- "its windows .. are as many as the rest"
 pub run_split : (k : ℕ) (r : List ℕ) → 1 ≤ k → length (windows k r) + edge k r ≡ length r

@@ -5,7 +5,7 @@ use Prim.Native.Nat.{ℕ, zero, suc, ◌+◌, ◌-◌, ◌<◌, ◌≤◌}
 use native.Mathlib.Numerals.{add-one}
 use native.Mathlib.Omega.{arith}
 use mathlib.Core.Bool.{Bool, true, false, cond}
-use mathlib.Core.Option.{Option, none, some}
+use Rattle.std.specs.Prelude.{Option, None, Some}
 use mathlib.Core.List.{List, [], ◌∷◌, ◌++◌}
 use lib.ListN.{length, get_or, drop, drop_of_length-le, length-append}
 use lib.Seq.{drop-cons}
@@ -58,7 +58,7 @@ same_numbers p q r s t = rw (p, q, r, s, t)
 
 -- The windows of what is to come from the letter x on: one more where x closes one.
 closes_one : (k : ℕ) (r : List ℕ) (x : ℕ) (ms : List (Option ℕ))
-    → length (windows_from k r (some x ∷ ms)) ≡ cond (leb k (length r + 1)) 1 0 + length (windows_from k (r ++ (x ∷ [])) ms)
+    → length (windows_from k r (Some x ∷ ms)) ≡ cond (leb k (length r + 1)) 1 0 + length (windows_from k (r ++ (x ∷ [])) ms)
 unfolding closes windows_from
 closes_one k r x ms =
     let n : length (r ++ (x ∷ [])) ≡ length r + 1 = omega (arith, length-append r (x ∷ [])) in
@@ -88,13 +88,13 @@ module _ (rank : ℕ → Option ℕ) (k : ℕ) where
       (plus t (records_in is) (suc (letters_in is)) (one_if_foreign o + foreign_in rank is) (edges_from k (length r) (o ∷ marks rank is))
       (length (windows_from k r (o ∷ marks rank is))))
   unfolding Told with_letter one_if_foreign edges_from windows_from
-  ranked is ih none at t r e h =
-      ih (suc at) (with_letter k t none) [] refl
+  ranked is ih None at t r e h =
+      ih (suc at) (with_letter k t None) [] refl
       ∙ rw h (ap (outcome (fault_from true (suc at) is)) (same_numbers refl (omega arith) (omega arith) refl refl))
-  ranked is ih (some x) at t r e h =
+  ranked is ih (Some x) at t r e h =
       let n : length (r ++ (x ∷ [])) ≡ length r + 1 = omega (arith, length-append r (x ∷ [])) in
       let l = closes_one k r x (marks rank is) in
-      ih (suc at) (with_letter k t (some x)) (r ++ (x ∷ [])) (omega arith)
+      ih (suc at) (with_letter k t (Some x)) (r ++ (x ∷ [])) (omega arith)
       ∙ rw (h, n, e) (ap (outcome (fault_from true (suc at) is)) (same_numbers refl (omega arith) (omega arith) (omega arith) (omega arith)))
 
   lettered : (b : ℕ) (is : List Item) → Told is → Told (Letter b ∷ is)
@@ -103,7 +103,7 @@ module _ (rank : ℕ → Option ℕ) (k : ℕ) where
     where
       go : (c : Bool) → eqb t.records 0 ≡ c
           → after_step (cond c AtEarly (On (with_letter k t (rank b)))) at (λ (u : Scanned). scan_from rank k (suc at) u is)
-          ≡ outcome (cond (ltb 0 t.records) (fault_from (ltb 0 t.records) (suc at) is) (some (11, at))) (rest rank k t r (Letter b ∷ is))
+          ≡ outcome (cond (ltb 0 t.records) (fault_from (ltb 0 t.records) (suc at) is) (Some (11, at))) (rest rank k t r (Letter b ∷ is))
       go true f = rw (le-ltb 0 t.records (omega (arith, eqb-true t.records 0 f)))
       go false f =
           let ne = eqb-false t.records 0 f in
@@ -153,8 +153,8 @@ at_most_one false = omega arith
 
 small_letter : (k n : ℕ) (t : Scanned) (o : Option ℕ) → Small n t → Small (n + 1) (with_letter k t o)
 unfolding with_letter
-small_letter k n t none s = search rules
-small_letter k n t (some x) s = let h = at_most_one (leb k (t.run + 1)) in search rules
+small_letter k n t None s = search rules
+small_letter k n t (Some x) s = let h = at_most_one (leb k (t.run + 1)) in search rules
 
 small_step : (rank : ℕ → Option ℕ) (k n : ℕ) (t : Scanned) (it : Item) → Small n t → SmallStep (n + 1) (took rank k t it)
 unfolding SmallStep

@@ -4,7 +4,7 @@ use mathlib.Core.Path.{◌≡◌, refl, sym, ap, ◌∙◌}
 use Prim.Native.Nat.{ℕ, suc, ◌+◌, ◌-◌, ◌≤◌, min}
 use native.Mathlib.Omega.{arith}
 use mathlib.Core.Bool.{Bool, true, false, cond}
-use mathlib.Core.Option.{Option, none, some}
+use Rattle.std.specs.Prelude.{Option, None, Some}
 use mathlib.Core.List.{List, [], ◌∷◌, ◌++◌, append_assoc, append-nil}
 use lib.ListN.{length, take, drop, length-append}
 use lib.Seq.{take-append-le, take_all}
@@ -51,8 +51,8 @@ windows-snoc k (y ∷ ys) x h =
 -- The windows of what is still to come, where the present run has the letters r.
 unfoldable pub windows_from : ℕ → List ℕ → List (Option ℕ) → List (List ℕ)
 windows_from k r [] = []
-windows_from k r (none ∷ ms) = windows_from k [] ms
-windows_from k r (some x ∷ ms) = closes k (r ++ (x ∷ [])) ++ windows_from k (r ++ (x ∷ [])) ms
+windows_from k r (None ∷ ms) = windows_from k [] ms
+windows_from k r (Some x ∷ ms) = closes k (r ++ (x ∷ [])) ++ windows_from k (r ++ (x ∷ [])) ms
 
 -- The letters r in front of the first run.
 prefixed : List ℕ → List (List ℕ) → List (List ℕ)
@@ -72,15 +72,15 @@ prefixed_none (r ∷ rs) x = refl
 runs-prefixed : (ms : List (Option ℕ)) → prefixed [] (runs ms) ≡ runs ms
 unfolding runs prefixed
 runs-prefixed [] = refl
-runs-prefixed (none ∷ ms) = refl
-runs-prefixed (some x ∷ ms) = prefixed_none (runs ms) x
+runs-prefixed (None ∷ ms) = refl
+runs-prefixed (Some x ∷ ms) = prefixed_none (runs ms) x
 
 windows-from : (k : ℕ) (r : List ℕ) (ms : List (Option ℕ)) → 1 ≤ k → windows_of k (prefixed r (runs ms)) ≡ windows k r ++ windows_from k r ms
 unfolding windows_of prefixed runs windows_from windows
 windows-from k r [] h = simp append-nil
-windows-from k r (none ∷ ms) h =
+windows-from k r (None ∷ ms) h =
     rw append-nil (ap (λ (l : List (List ℕ)). windows k r ++ l) (ap (windows_of k) (sym (runs-prefixed ms)) ∙ windows-from k [] ms h))
-windows-from k r (some x ∷ ms) h = rw (prefixed_on_first r x (runs ms), windows-from k (r ++ (x ∷ [])) ms h, windows-snoc k r x h, append_assoc)
+windows-from k r (Some x ∷ ms) h = rw (prefixed_on_first r x (runs ms), windows-from k (r ++ (x ∷ [])) ms h, windows-snoc k r x h, append_assoc)
 
 -- The windows of all runs, in the order in which the letters close them.
 pub windows-stream : (k : ℕ) (ms : List (Option ℕ)) → 1 ≤ k → windows_of k (runs ms) ≡ windows_from k [] ms
@@ -90,8 +90,8 @@ windows-stream k ms h = ap (windows_of k) (sym (runs-prefixed ms)) ∙ windows-f
 -- The edge letters of what is still to come, where the present run has n letters.
 unfoldable pub edges_from : ℕ → ℕ → List (Option ℕ) → ℕ
 edges_from k n [] = 0
-edges_from k n (none ∷ ms) = edges_from k 0 ms
-edges_from k n (some x ∷ ms) = cond (leb k (n + 1)) 0 1 + edges_from k (n + 1) ms
+edges_from k n (None ∷ ms) = edges_from k 0 ms
+edges_from k n (Some x ∷ ms) = cond (leb k (n + 1)) 0 1 + edges_from k (n + 1) ms
 
 edge-snoc : (k n : ℕ) (b : Bool) → 1 ≤ k → leb k (n + 1) ≡ b → min (n + 1) (k - 1) ≡ min n (k - 1) + cond b 0 1
 edge-snoc k n true h e = omega (arith, leb-true k (n + 1) e)
@@ -100,10 +100,10 @@ edge-snoc k n false h e = omega (arith, leb-false k (n + 1) e)
 edges_from_lem : (k : ℕ) (r : List ℕ) (ms : List (Option ℕ)) → 1 ≤ k → edges_of k (prefixed r (runs ms)) ≡ edge k r + edges_from k (length r) ms
 unfolding edges_of edge prefixed runs edges_from
 edges_from_lem k r [] h = simp append-nil
-edges_from_lem k r (none ∷ ms) h =
+edges_from_lem k r (None ∷ ms) h =
     let ih : edges_of k (runs ms) ≡ edges_from k 0 ms = ap (edges_of k) (sym (runs-prefixed ms)) ∙ edges_from_lem k [] ms h ∙ (omega arith) in
     rw append-nil (omega arith)
-edges_from_lem k r (some x ∷ ms) h =
+edges_from_lem k r (Some x ∷ ms) h =
     let n : length (r ++ (x ∷ [])) ≡ length r + 1 = omega (arith, length-append r (x ∷ [])) in
     rw (prefixed_on_first r x (runs ms), edges_from_lem k (r ++ (x ∷ [])) ms h, n) (omega (arith, edge-snoc k (length r) (leb k (length r + 1)) h refl))
 

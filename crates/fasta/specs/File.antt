@@ -1,7 +1,7 @@
 -- Document 01, "Sequence file (FASTA)", and document 02, K1: what each byte of a sequence file is, by the place in its line; and the first fault of
 -- FASTA. What is cut from a file once this is known is in Items; the grounds of FASTQ are in the crate fastq, and a file with its kind in the crate files.
 use Rattle.std.specs.Prelude.{ℕ, suc, Bool, true, ◌&&◌, ◌||◌, cond, List, [], ◌∷◌, leb, eqb}
-use Rattle.std.proofs.Math.Option.{Option, none, some}
+use Rattle.std.specs.Prelude.{Option, None, Some}
 use Rattle.settings.specs.Grounds.{Ground}
 use Rattle.lines.specs.Lines.{is_line_end}
 unfoldable pub use Rattle.lines.specs.Lines.{lf_next}
@@ -52,8 +52,8 @@ items_from m (b ∷ bs) = item m b (lf_next bs) ∷ items_from (next m b) bs
 -- Grounds 10 and 11: "stray byte; P its offset", "letter before the first header; P its offset"; "the earlier byte wins". `opened` says
 -- that a header came before, `at` is the offset of the first item.
 unfoldable pub fault_from : Bool → ℕ → List Item → Option Ground
-fault_from opened at [] = none
+fault_from opened at [] = None
 fault_from opened at (Opens ∷ is) = fault_from true (suc at) is
 fault_from opened at (Skip ∷ is) = fault_from opened (suc at) is
-fault_from opened at (Stray ∷ is) = some (10, at)
-fault_from opened at (Letter b ∷ is) = cond opened (fault_from opened (suc at) is) (some (11, at))
+fault_from opened at (Stray ∷ is) = Some (10, at)
+fault_from opened at (Letter b ∷ is) = cond opened (fault_from opened (suc at) is) (Some (11, at))

@@ -1,7 +1,7 @@
 -- Document 01, "Sequence file (FASTA)": what is counted in a file and cut from it, once it is known what each of its bytes is.
 -- Nothing here depends on the file's kind. `rank` gives a letter's rank in the settings, none for a letter not in them.
 use Rattle.std.specs.Prelude.{ℕ, suc, ◌+◌, ◌-◌, min, List, [], ◌∷◌, ◌++◌, length}
-use Rattle.std.proofs.Math.Option.{Option, none, some}
+use Rattle.std.specs.Prelude.{Option, None, Some}
 unfoldable pub use Rattle.laws.specs.Windows.{windows}
 unfoldable pub use Rattle.lines.specs.Lines.{on_first}
 use Rattle.fasta.specs.declared.Item.{Item}
@@ -26,8 +26,8 @@ letters_in (Letter b ∷ is) = suc (letters_in is)
 
 -- "A letter not in the settings is foreign": one that has no rank.
 unfoldable pub one_if_foreign : Option ℕ → ℕ
-one_if_foreign none = 1
-one_if_foreign (some x) = 0
+one_if_foreign None = 1
+one_if_foreign (Some x) = 0
 
 unfoldable pub foreign_in : (ℕ → Option ℕ) → List Item → ℕ
 foreign_in rank [] = 0
@@ -40,7 +40,7 @@ foreign_in rank (Letter b ∷ is) = one_if_foreign (rank b) + foreign_in rank is
 -- foreign letter."
 unfoldable pub marks : (ℕ → Option ℕ) → List Item → List (Option ℕ)
 marks rank [] = []
-marks rank (Opens ∷ is) = none ∷ marks rank is
+marks rank (Opens ∷ is) = None ∷ marks rank is
 marks rank (Skip ∷ is) = marks rank is
 marks rank (Stray ∷ is) = marks rank is
 marks rank (Letter b ∷ is) = rank b ∷ marks rank is
@@ -49,8 +49,8 @@ marks rank (Letter b ∷ is) = rank b ∷ marks rank is
 -- breaks stand side by side there is an empty one, which has neither window nor edge letter.
 unfoldable pub runs : List (Option ℕ) → List (List ℕ)
 runs [] = [] ∷ []
-runs (none ∷ ms) = [] ∷ runs ms
-runs (some x ∷ ms) = on_first x (runs ms)
+runs (None ∷ ms) = [] ∷ runs ms
+runs (Some x ∷ ms) = on_first x (runs ms)
 
 -- "Its edge letters are the lesser of its length and k − 1"
 unfoldable pub edge : ℕ → List ℕ → ℕ

@@ -1,6 +1,6 @@
 -- What functions below the calls ask of each other and promise each other: the scan takes item by item. No claim and no call of document 01 rests on it.
 use Rattle.std.specs.Prelude.{ℕ, zero, suc, ◌+◌, ◌-◌, ◌≤◌, ◌≡◌, List, ◌∷◌, length, drop, Bool, true, false, cond, leb, eqb}
-use Rattle.std.proofs.Math.Option.{Option, none, some}
+use Rattle.std.specs.Prelude.{Option, None, Some}
 use Rattle.fasta.specs.declared.Item.{Item}
 use Rattle.fasta.specs.declared.Item.TheVariants.{Opens, Skip, Stray, Letter}
 use Rattle.fasta.specs.declared.Mode.{Mode}
@@ -28,9 +28,9 @@ with_header t = record { records = t.records + 1; letters = t.letters; foreign =
 
 -- A letter with its rank: a foreign one ends the run; a settings letter either closes a window or is one of the run's edge letters.
 unfoldable pub with_letter : ℕ → Scanned → Option ℕ → Scanned
-with_letter k t none =
+with_letter k t None =
     record { records = t.records; letters = t.letters + 1; foreign = t.foreign + 1; edge = t.edge; windows = t.windows; run = 0 }
-with_letter k t (some x) =
+with_letter k t (Some x) =
     let closes = leb k (t.run + 1) in
     record {
       records = t.records;

@@ -2,7 +2,7 @@
 -- (`fastq_has`). Record by record, from the definitions.
 use mathlib.Core.Path.{◌≡◌, ap}
 use mathlib.Core.Bool.{Bool, true, false, cond}
-use mathlib.Core.Option.{some}
+use Rattle.std.specs.Prelude.{Some}
 use mathlib.Core.List.{List, [], ◌∷◌, ◌++◌}
 use Prim.Native.Nat.{ℕ, suc, ◌+◌, ◌<◌, ◌≤◌}
 use native.Mathlib.Omega.{arith}
@@ -23,12 +23,12 @@ unfolding unless_at
 unless_has Q i q true at h = none_has Q
 unless_has Q i q false at h = some_has Q (i, at) (q at h)
 
-failing_below : (test : ℕ → Bool) (at : ℕ) (l : List ℕ) (p : ℕ) → first_failing test at l ≡ some p → p < at + length l
+failing_below : (test : ℕ → Bool) (at : ℕ) (l : List ℕ) (p : ℕ) → first_failing test at l ≡ Some p → p < at + length l
 unfolding first_failing
 failing_below test at [] p e = absurd (let z : ◌≡◌ {A = ℕ} 0 1 = cc in omega arith)
 failing_below test at (b ∷ l) p e = go (test b) e (failing_below test (suc at) l p)
   where
-    go : (t : Bool) → cond t (first_failing test (suc at) l) (some at) ≡ some p → (first_failing test (suc at) l ≡ some p → p < suc at + length l)
+    go : (t : Bool) → cond t (first_failing test (suc at) l) (Some at) ≡ Some p → (first_failing test (suc at) l ≡ Some p → p < suc at + length l)
         → p < at + suc (length l)
     go true f h = omega (arith, h f)
     go false f h = let z : at ≡ p = cc in omega arith

@@ -4,7 +4,8 @@
 use mathlib.Core.Path.{◌≡◌, refl, sym, ap, ◌∙◌}
 use Prim.Native.Nat.{ℕ, suc, ◌+◌}
 use mathlib.Core.Bool.{Bool, true, false, cond, ◌&&◌}
-use mathlib.Core.Option.{Option, none, some, some-ne-none}
+use Rattle.std.specs.Prelude.{Option, None, Some}
+use Rattle.std.proofs.lemmas.Option.{none-some}
 use mathlib.Core.List.{List, [], ◌∷◌, ◌++◌, map, append-nil}
 use lib.ListN.{length}
 use lib.Dec.{eqb}
@@ -66,39 +67,39 @@ foreign_counted rank (Letter b ∷ is) = ap (λ (n : ℕ). one_if_foreign (rank 
 marks-counted : (rank : ℕ → Option ℕ) (is : List Item) → marks rank (counted is) ≡ marks rank is
 unfolding counted marks
 marks-counted rank [] = refl
-marks-counted rank (Opens ∷ is) = ap (λ (ms : List (Option ℕ)). none ∷ ms) (marks-counted rank is)
+marks-counted rank (Opens ∷ is) = ap (λ (ms : List (Option ℕ)). None ∷ ms) (marks-counted rank is)
 marks-counted rank (Skip ∷ is) = marks-counted rank is
 marks-counted rank (Stray ∷ is) = marks-counted rank is
 marks-counted rank (Letter b ∷ is) = ap (λ (ms : List (Option ℕ)). rank b ∷ ms) (marks-counted rank is)
 
 -- A scan goes by the items that count, but for the places.
-fault_counted : (o : Bool) (p p' : ℕ) (is : List Item) → fault_from o p' (counted is) ≡ none → fault_from o p is ≡ none
+fault_counted : (o : Bool) (p p' : ℕ) (is : List Item) → fault_from o p' (counted is) ≡ None → fault_from o p is ≡ None
 unfolding counted fault_from
 fault_counted o p p' [] e = refl
 fault_counted o p p' (Opens ∷ is) e = fault_counted true (suc p) (suc p') is e
 fault_counted o p p' (Skip ∷ is) e = fault_counted o (suc p) p' is e
-fault_counted o p p' (Stray ∷ is) e = absurd (some-ne-none (10, p') e)
+fault_counted o p p' (Stray ∷ is) e = absurd (none-some (10, p') (sym e))
 fault_counted true p p' (Letter b ∷ is) e = fault_counted true (suc p) (suc p') is e
-fault_counted false p p' (Letter b ∷ is) e = absurd (some-ne-none (11, p') e)
+fault_counted false p p' (Letter b ∷ is) e = absurd (none-some (11, p') (sym e))
 
 -- ---- the items of a line
 
 -- A letter more in front of the text of a sequence line.
-letter_step : (b p : ℕ) (is rest : List Item) (bs : List ℕ) → first_failing is_letter p (b ∷ bs) ≡ none
-    → (first_failing is_letter (suc p) bs ≡ none → counted is ≡ map Letter bs ++ rest)
+letter_step : (b p : ℕ) (is rest : List Item) (bs : List ℕ) → first_failing is_letter p (b ∷ bs) ≡ None
+    → (first_failing is_letter (suc p) bs ≡ None → counted is ≡ map Letter bs ++ rest)
     → counted (cond (is_letter b) (Letter b) Stray ∷ is) ≡ map Letter (b ∷ bs) ++ rest
 unfolding first_failing counted
 letter_step b p is rest bs e ih = go (is_letter b) e
   where
-    go : (c : Bool) → cond c (first_failing is_letter (suc p) bs) (some p) ≡ none
+    go : (c : Bool) → cond c (first_failing is_letter (suc p) bs) (Some p) ≡ None
         → counted (cond c (Letter b) Stray ∷ is) ≡ Letter b ∷ (map Letter bs ++ rest)
     go true f = ap (λ (js : List Item). Letter b ∷ js) (ih f)
-    go false f = absurd (some-ne-none p f)
+    go false f = absurd (none-some p (sym f))
 
 -- The same of the bytes of the line, of which the next is no LF.
 sequence_on : (p b : ℕ) (m n : List ℕ) (rest : List Item) → (b ≡ 10 → ⊥) → lf_next m ≡ false → lf_next n ≡ false
-    → first_failing is_letter p (text_of (b ∷ n)) ≡ none
-    → (first_failing is_letter (suc p) (text_of n) ≡ none → counted (items_from FastqSequence m) ≡ map Letter (text_of n) ++ rest)
+    → first_failing is_letter p (text_of (b ∷ n)) ≡ None
+    → (first_failing is_letter (suc p) (text_of n) ≡ None → counted (items_from FastqSequence m) ≡ map Letter (text_of n) ++ rest)
     → counted (items_from FastqSequence (b ∷ m)) ≡ map Letter (text_of (b ∷ n)) ++ rest
 sequence_on p b m n rest ne e f h ih =
     rw (items-on b m ne e, text_on b n ne f) (letter_step b p (items_from FastqSequence m) rest (text_of n) (rw (text_on b n ne f) at h) ih)
@@ -122,13 +123,13 @@ module _ (rest : List ℕ) where
   header_line (more {b} {c} {l} ne E) = ap counted (header_on b (c ∷ l ++ rest) ne) ∙ ap (λ (is : List Item). Opens ∷ is) (passed_line FastqHeader refl E)
 
   -- A sequence line without a stray byte is the letters of its text.
-  sequence_line : (p : ℕ) {l : List ℕ} → Ended l → first_failing is_letter p (text_of l) ≡ none
+  sequence_line : (p : ℕ) {l : List ℕ} → Ended l → first_failing is_letter p (text_of l) ≡ None
       → counted (items_from FastqSequence (l ++ rest)) ≡ map Letter (text_of l) ++ counted (items_from FastqPlus rest)
   unfolding counted items_from item next text_of lf_next line_item
   sequence_line p lf e = refl
   sequence_line p (more {b} ne lf) e = rw (ne_eqb b 10 ne) (go (eqb b 13) (rw (ne_eqb b 10 ne) at e))
     where
-      go : (c : Bool) → first_failing is_letter p (cond (c && true) [] (b ∷ [])) ≡ none
+      go : (c : Bool) → first_failing is_letter p (cond (c && true) [] (b ∷ [])) ≡ None
           → counted (cond (c && true) Skip (cond (is_letter b) (Letter b) Stray) ∷ Skip ∷ items_from FastqPlus rest)
           ≡ map Letter (cond (c && true) [] (b ∷ [])) ++ counted (items_from FastqPlus rest)
       go true f = refl
@@ -146,7 +147,7 @@ quality_open (free {b} ne O) = rw (ne_eqb b 10 ne) (quality_open O)
 -- ---- a record without fault
 
 -- Its sequence line has no stray byte.
-no_stray : (at : ℕ) (h s p q : List ℕ) → record_fault at h s p q ≡ none → first_failing is_letter (at + length h) (text_of s) ≡ none
+no_stray : (at : ℕ) (h s p q : List ℕ) → record_fault at h s p q ≡ None → first_failing is_letter (at + length h) (text_of s) ≡ None
 unfolding record_fault
 no_stray at h s p q e =
     let a = later_none (ground_at 15 (unless_at (first_byte_is 64 h) at)) _ e in
@@ -155,15 +156,15 @@ no_stray at h s p q e =
     nowhere_met 10 _ (first_none (ground_at 10 (first_failing is_letter (at + length h) (text_of s))) _ c)
 
 -- Its third line is there, and its fourth.
-no_plus : (at : ℕ) (h s q : List ℕ) → record_fault at h s [] q ≡ none → ⊥
+no_plus : (at : ℕ) (h s q : List ℕ) → record_fault at h s [] q ≡ None → ⊥
 unfolding record_fault first_byte_is unless_at
-no_plus at h s q e = some-ne-none (15, at + length h + length s) (later_none (ground_at 15 (unless_at (first_byte_is 64 h) at)) _ e)
+no_plus at h s q e = none-some (15, at + length h + length s) (sym (later_none (ground_at 15 (unless_at (first_byte_is 64 h) at)) _ e))
 
-no_quality : (at : ℕ) (h s p : List ℕ) → record_fault at h s p [] ≡ none → ⊥
+no_quality : (at : ℕ) (h s p : List ℕ) → record_fault at h s p [] ≡ None → ⊥
 unfolding record_fault is_there unless_at
 no_quality at h s p e =
     let a = later_none (ground_at 15 (unless_at (first_byte_is 64 h) at)) _ e in
-    some-ne-none (15, at + length h + length s + length p) (later_none (ground_at 15 (unless_at (first_byte_is 43 p) (at + length h + length s))) _ a)
+    none-some (15, at + length h + length s + length p) (sym (later_none (ground_at 15 (unless_at (first_byte_is 43 p) (at + length h + length s))) _ a))
 
 -- ---- all lines
 
@@ -171,7 +172,7 @@ no_quality at h s p e =
 abbrev opened : List ℕ → List Item → List Item
 opened s is = Opens ∷ (map Letter (text_of s) ++ is)
 
-sequence_lines : (at : ℕ) (ls : List (List ℕ)) → Lines ls → fastq_fault at ls ≡ none → counted (items_from FastqStart (joined ls)) ≡ sequence_items ls
+sequence_lines : (at : ℕ) (ls : List (List ℕ)) → Lines ls → fastq_fault at ls ≡ None → counted (items_from FastqStart (joined ls)) ≡ sequence_items ls
 unfolding fastq_fault joined items_from counted sequence_items next
 sequence_lines at [] L e = refl
 sequence_lines at (h ∷ []) L e = absurd (no_plus at h [] [] e)
@@ -190,7 +191,7 @@ sequence_lines at (h ∷ s ∷ p ∷ q ∷ ls) (then H (then S (then P (then Q L
     ∙ ap (opened s)
     (passed_line (q ++ joined ls) FastqPlus refl P ∙ passed_line (joined ls) FastqQuality refl Q ∙ sequence_lines after ls L (later_none (record_fault at h s p q) _ e))
 
-module _ (f : List ℕ) (e : fastq_fault 0 (lines f) ≡ none) where
+module _ (f : List ℕ) (e : fastq_fault 0 (lines f) ≡ None) where
   -- The items that count are those of the sequence lines.
   only_the_sequence : counted (items_from FastqStart f) ≡ sequence_items (lines f)
   only_the_sequence =
@@ -210,12 +211,12 @@ module _ (f : List ℕ) (e : fastq_fault 0 (lines f) ≡ none) where
 
 -- ---- the scan
 
-letters_pass : (p : ℕ) (bs : List ℕ) (is : List Item) → ((q : ℕ) → fault_from true q is ≡ none) → fault_from true p (map Letter bs ++ is) ≡ none
+letters_pass : (p : ℕ) (bs : List ℕ) (is : List Item) → ((q : ℕ) → fault_from true q is ≡ None) → fault_from true p (map Letter bs ++ is) ≡ None
 unfolding fault_from
 letters_pass p [] is h = h p
 letters_pass p (b ∷ bs) is h = letters_pass (suc p) bs is h
 
-sequence_faultless : (o : Bool) (p : ℕ) (ls : List (List ℕ)) → fault_from o p (sequence_items ls) ≡ none
+sequence_faultless : (o : Bool) (p : ℕ) (ls : List (List ℕ)) → fault_from o p (sequence_items ls) ≡ None
 unfolding fault_from sequence_items
 sequence_faultless o p [] = refl
 sequence_faultless o p (h ∷ []) = refl
@@ -224,6 +225,6 @@ sequence_faultless o p (h ∷ s ∷ t ∷ []) = refl
 sequence_faultless o p (h ∷ s ∷ t ∷ q ∷ ls) = letters_pass (suc p) (text_of s) (sequence_items ls) (λ r. sequence_faultless true r ls)
 
 -- A scan meets neither 10 nor 11 in a file to which no ground of FASTQ applies.
-pub clean_items : (f : List ℕ) → fastq_fault 0 (lines f) ≡ none → fault_from false 0 (items_from FastqStart f) ≡ none
+pub clean_items : (f : List ℕ) → fastq_fault 0 (lines f) ≡ None → fault_from false 0 (items_from FastqStart f) ≡ None
 clean_items f e =
     fault_counted false 0 0 (items_from FastqStart f) (ap (fault_from false 0) (only_the_sequence f e) ∙ sequence_faultless false 0 (lines f))

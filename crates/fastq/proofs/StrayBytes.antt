@@ -2,7 +2,7 @@
 -- By induction over the line.
 use mathlib.Core.Path.{◌≡◌, refl}
 use mathlib.Core.Bool.{Bool, true, false, cond, ◌&&◌, and-false}
-use mathlib.Core.Option.{some}
+use Rattle.std.specs.Prelude.{Some}
 use mathlib.Core.List.{List, [], ◌∷◌}
 use Prim.Native.Nat.{ℕ, suc}
 use lib.Dec.{eqb}
@@ -23,7 +23,7 @@ letter_step : (b p : ℕ) (is : List Item) (bs : List ℕ) → fault_from true (
 unfolding first_failing fault_from
 letter_step b p is bs ih = go (is_letter b)
   where
-    go : (c : Bool) → fault_from true p (cond c (Letter b) Stray ∷ is) ≡ ground_at 10 (cond c (first_failing is_letter (suc p) bs) (some p))
+    go : (c : Bool) → fault_from true p (cond c (Letter b) Stray ∷ is) ≡ ground_at 10 (cond c (first_failing is_letter (suc p) bs) (Some p))
     go true = ih
     go false = refl
 

@@ -1,7 +1,7 @@
 -- Document 02, K1: the first ground for refusing a FASTQ file, from its lines, each with its end: "four lines a record, @ header, sequence on one line,
 -- + line, and quality of the same length". What its letters, windows and numbers are is defined for both kinds of file alike, in fasta.
 use Rattle.std.specs.Prelude.{ℕ, suc, ◌+◌, Bool, true, false, cond, ◌&&◌, List, [], ◌∷◌, ◌++◌, map, length, eqb, leb}
-use Rattle.std.proofs.Math.Option.{Option, none, some}
+use Rattle.std.specs.Prelude.{Option, None, Some}
 use Rattle.lines.specs.Lines.{text_of, first_byte_is}
 use Rattle.settings.specs.Grounds.{Ground, ground_at, ◌or_else◌}
 use Rattle.fasta.specs.declared.Item.{Item}
@@ -15,13 +15,13 @@ is_there (b ∷ bs) = true
 
 -- p, unless a test holds.
 unfoldable pub unless_at : Bool → ℕ → Option ℕ
-unless_at true p = none
-unless_at false p = some p
+unless_at true p = None
+unless_at false p = Some p
 
 -- The offset of the first byte that fails a test, of bytes whose first is at an offset.
 unfoldable pub first_failing : (ℕ → Bool) → (at : ℕ) → List ℕ → Option ℕ
-first_failing test at [] = none
-first_failing test at (b ∷ bs) = cond (test b) (first_failing test (suc at) bs) (some at)
+first_failing test at [] = None
+first_failing test at (b ∷ bs) = cond (test b) (first_failing test (suc at) bs) (Some at)
 
 -- 17: "a quality byte is outside 33 to 126"
 unfoldable pub is_quality : ℕ → Bool
@@ -45,7 +45,7 @@ record_fault at h s p q =
 
 -- "the earliest record at fault wins": of some lines, of which the first starts at an offset. A file is refused by `fastq_fault 0 (lines file)`.
 unfoldable pub fastq_fault : (at : ℕ) → (ls : List (List ℕ)) → Option Ground
-fastq_fault at [] = none
+fastq_fault at [] = None
 fastq_fault at (h ∷ []) = record_fault at h [] [] []
 fastq_fault at (h ∷ s ∷ []) = record_fault at h s [] []
 fastq_fault at (h ∷ s ∷ p ∷ []) = record_fault at h s p []

@@ -2,7 +2,7 @@
 -- other (`record_step`). From the definitions and the laws of lines.
 use mathlib.Core.Path.{◌≡◌, refl, sym, ap, ◌∙◌}
 use mathlib.Core.Bool.{true, false}
-use mathlib.Core.Option.{Option, none, some}
+use Rattle.std.specs.Prelude.{Option, None, Some}
 use mathlib.Core.List.{List, [], ◌∷◌}
 use Prim.Native.Nat.{ℕ, ◌+◌, ◌-◌, ◌≤◌, ◌<◌}
 use native.Mathlib.Omega.{arith}
@@ -20,7 +20,7 @@ use Rattle.fastq_faults.specs.Needs.{quality_ground, text_ground, line_at, Lines
 -- ---- the grounds of the two texts
 
 module _ (n at : ℕ) (text : List ℕ) where
-  pub length_differs : (length text ≡ n → ⊥) → some (16, at) ≡ quality_ground n at text
+  pub length_differs : (length text ≡ n → ⊥) → Some (16, at) ≡ quality_ground n at text
   unfolding quality_ground unless_at
   length_differs ne = rw (ne_eqb (length text) n ne)
 
@@ -49,17 +49,17 @@ not_there (b ∷ l) h = absurd (omega arith)
 
 -- Its header line starts at h, the other three at s, p and q, and what follows it at e.
 module _ {f : List ℕ} {h s p q e : ℕ} (L : LinesAt f h s p q e) where
-  pub first_lacks : false ≡ first_byte_is 64 (line_at f h) → some (15, h) ≡ record_at f h s p q
+  pub first_lacks : false ≡ first_byte_is 64 (line_at f h) → Some (15, h) ≡ record_at f h s p q
   unfolding record_fault unless_at
   first_lacks x = rw (sym x)
 
   module _ (one : true ≡ first_byte_is 64 (line_at f h)) where
-    pub third_lacks : false ≡ first_byte_is 43 (line_at f p) → some (15, p) ≡ record_at f h s p q
+    pub third_lacks : false ≡ first_byte_is 43 (line_at f p) → Some (15, p) ≡ record_at f h s p q
     unfolding record_fault unless_at
     third_lacks x = rw (sym one, sym x, sym L.second, sym L.third)
 
     module _ (three : true ≡ first_byte_is 43 (line_at f p)) where
-      pub fourth_lacks : e ≤ q → some (15, q) ≡ record_at f h s p q
+      pub fourth_lacks : e ≤ q → Some (15, q) ≡ record_at f h s p q
       unfolding record_fault unless_at
       fourth_lacks x =
           rw (sym one, sym three, not_there (line_at f q) (omega (arith, L.behind)), sym L.second, sym L.third, sym L.fourth)
@@ -127,6 +127,6 @@ module _ {f : List ℕ} {h s p q e : ℕ} (L : LinesAt f h s p q e) where
   goes_on = omega (arith, first_some (drop h f) (omega (arith, length-drop h f, L.there)), L.second, L.third, L.fourth, L.behind)
 
 -- No record is left.
-pub no_record : (f : List ℕ) (at : ℕ) → length f ≤ at → fastq_fault at (lines (drop at f)) ≡ none
+pub no_record : (f : List ℕ) (at : ℕ) → length f ≤ at → fastq_fault at (lines (drop at f)) ≡ None
 unfolding fastq_fault
 no_record f at x = rw (lines_end f at x)

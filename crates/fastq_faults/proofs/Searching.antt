@@ -1,7 +1,7 @@
 -- The search for the first byte that fails a test, between two places of a file: byte by byte and block by block. By induction over the bytes between them.
 use mathlib.Core.Path.{◌≡◌, refl, sym, ap, ◌∙◌}
 use mathlib.Core.Bool.{Bool, true, false, ◌&&◌, or_self, true≢false}
-use mathlib.Core.Option.{none, some}
+use Rattle.std.specs.Prelude.{None, Some}
 use mathlib.Core.List.{List, [], ◌∷◌}
 use Prim.Native.Nat.{ℕ, zero, suc, ◌+◌, ◌-◌, ◌≤◌, ◌<◌}
 use native.Mathlib.Decide.{ℕ_discrete}
@@ -30,7 +30,7 @@ module _ (f : List ℕ) (i to : ℕ) where
   part_length h = length-take-le (to - i) (drop i f) (omega (arith, length-drop i f))
 
 module _ (test : ℕ → Bool) (f : List ℕ) (i to : ℕ) where
-  pub fails_here : i < to → to ≤ length f → test (get_or f i 0) ≡ false → first_failing test i (take (to - i) (drop i f)) ≡ some i
+  pub fails_here : i < to → to ≤ length f → test (get_or f i 0) ≡ false → first_failing test i (take (to - i) (drop i f)) ≡ Some i
   unfolding first_failing
   fails_here h g e = rw (part_step f i to h g, e)
 
@@ -39,7 +39,7 @@ module _ (test : ℕ → Bool) (f : List ℕ) (i to : ℕ) where
   unfolding first_failing
   fails_later h g e = rw (part_step f i to h g, e, add-one i)
 
-  pub fails_nowhere : to ≤ i → first_failing test i (take (to - i) (drop i f)) ≡ none
+  pub fails_nowhere : to ≤ i → first_failing test i (take (to - i) (drop i f)) ≡ None
   unfolding first_failing
   fails_nowhere h = rw (part_end f i to h)
 

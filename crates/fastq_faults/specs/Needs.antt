@@ -1,6 +1,6 @@
 -- How answers of functions below the calls are read, and what these functions ask of each other; no sentence of the documents rests on it.
 use Rattle.std.specs.Prelude.{◌≡◌, Bool, true, ◌&&◌, ◌||◌, List, ℕ, ◌+◌, ◌<◌, ◌≤◌, length, drop, get_or, eqb, leb}
-use Rattle.std.proofs.Math.Option.{Option, none, some}
+use Rattle.std.specs.Prelude.{Option, None, Some}
 use Rattle.lines.specs.Needs.{first_line}
 use Rattle.settings.specs.Grounds.{Ground, ground_at, ◌or_else◌}
 use Rattle.fasta.specs.File.{is_letter}
@@ -13,8 +13,8 @@ use Rattle.fastq_faults.specs.declared.Ranges.{Ranges}
 
 -- A place, where there is one.
 abbrev pub of_place : Place → Option ℕ
-of_place Nowhere = none
-of_place (At p) = some p
+of_place Nowhere = None
+of_place (At p) = Some p
 
 -- Whether a byte is in one of two ranges.
 abbrev pub in_ranges : Ranges → ℕ → Bool

@@ -1,6 +1,6 @@
 -- The order of a scan's grounds, computed on a file of one stray byte, of either kind. By computation.
 use mathlib.Core.Path.{◌≡◌, refl}
-use mathlib.Core.Option.{Option, some}
+use Rattle.std.specs.Prelude.{Option, Some}
 use mathlib.Core.List.{List}
 use Prim.Native.Nat.{ℕ}
 use Rattle.laws.specs.Text.{bytes}
@@ -21,28 +21,28 @@ ground_before_stray letters k mirror = scan_ground letters k mirror (file_of Fas
 
 -- "Checks go in number order": the settings' grounds, then those of the file. Ground 6, which comes between them, is of files too long to be written here:
 -- `long_file` in ScanGrounds shows it.
-bad_letters : ground_before_stray (bytes "AA") 0 2 ≡ some (1, 0)
+bad_letters : ground_before_stray (bytes "AA") 0 2 ≡ Some (1, 0)
 unfolding ground_before_stray
 bad_letters = refl
 
-bad_mirror : ground_before_stray (bytes "ACG") 0 2 ≡ some (2, 0)
+bad_mirror : ground_before_stray (bytes "ACG") 0 2 ≡ Some (2, 0)
 unfolding ground_before_stray
 bad_mirror = refl
 
-bad_k : ground_before_stray (bytes "ACGT") 32 1 ≡ some (4, 0)
+bad_k : ground_before_stray (bytes "ACGT") 32 1 ≡ Some (4, 0)
 unfolding ground_before_stray
 bad_k = refl
 
-bad_byte : ground_before_stray (bytes "ACGT") 31 1 ≡ some (10, 0)
+bad_byte : ground_before_stray (bytes "ACGT") 31 1 ≡ Some (10, 0)
 unfolding ground_before_stray
 bad_byte = refl
 
 -- "Refusal 3 then never occurs" (document 02, K10): an odd number of letters under complement is no ground, up to the largest k.
-odd_bad_k : ground_before_stray (bytes "ACG") 40 1 ≡ some (4, 0)
+odd_bad_k : ground_before_stray (bytes "ACG") 40 1 ≡ Some (4, 0)
 unfolding ground_before_stray
 odd_bad_k = refl
 
-odd_bad_byte : ground_before_stray (bytes "ACG") 39 1 ≡ some (10, 0)
+odd_bad_byte : ground_before_stray (bytes "ACG") 39 1 ≡ Some (10, 0)
 unfolding ground_before_stray
 odd_bad_byte = refl
 
@@ -52,10 +52,10 @@ unfolding lf_next on_first lines text_of first_byte_is is_letter is_there unless
     is_capital is_in different_capitals good_letters bad_size settings_ground too_long scan_ground
 ground_before_record letters k mirror = scan_ground letters k mirror (file_of Fastq (bytes "*"))
 
-record_bad_k : ground_before_record (bytes "ACGT") 32 1 ≡ some (4, 0)
+record_bad_k : ground_before_record (bytes "ACGT") 32 1 ≡ Some (4, 0)
 unfolding ground_before_record
 record_bad_k = refl
 
-bad_record : ground_before_record (bytes "ACGT") 31 1 ≡ some (15, 0)
+bad_record : ground_before_record (bytes "ACGT") 31 1 ≡ Some (15, 0)
 unfolding ground_before_record
 bad_record = refl

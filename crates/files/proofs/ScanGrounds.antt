@@ -3,7 +3,7 @@
 use mathlib.Core.Path.{◌≡◌, sym}
 use Prim.Native.Nat.{ℕ, ◌+◌, ◌<◌, ◌≤◌}
 use mathlib.Core.Bool.{false}
-use mathlib.Core.Option.{none}
+use Rattle.std.specs.Prelude.{None}
 use mathlib.Core.List.{List}
 use lib.ListN.{length}
 use borrow.Author.Tests.{lt-ltb, le-ltb}
@@ -27,7 +27,7 @@ use Rattle.files.specs.Scan.{scan_ground}
 -- ---- FASTQ
 
 -- A file to which no ground of FASTQ applies is taken in by the scan of its items.
-pub scan_clean : (f : List ℕ) (n : Numbers) → none ≡ fastq_fault 0 (lines f)
+pub scan_clean : (f : List ℕ) (n : Numbers) → None ≡ fastq_fault 0 (lines f)
     → outcome (fault_from false 0 (items_from FastqStart f)) n ≡ outcome (fastq_fault 0 (lines f)) n
 scan_clean f n e = rw (clean_items f (sym e), sym e)
 
@@ -43,7 +43,7 @@ module _ (letters : List ℕ) (k mirror : ℕ) (file : File) where
   bad_settings f e = refused_on f (settings_of letters k mirror) (file_numbers (rank_in letters) k file) (settings_ground letters k mirror) _ e
 
   -- Where no ground of the settings applies.
-  module _ (good : settings_ground letters k mirror ≡ none) where
+  module _ (good : settings_ground letters k mirror ≡ None) where
     pub long_file : 16777216 < length file.bytes → refused (6, 0) ≡ answer
     unfolding scan_ground too_long
     long_file h = rw (good, lt-ltb 16777216 (length file.bytes) h)

@@ -1,6 +1,6 @@
 -- What the call answers and leaves at each of its tests. From the length that is worked out, the grounds by it, and the records that are written.
 use Rattle.std.proofs.Common.{◌≡◌, ℕ, ◌<◌, ◌≤◌, min, List, length, ◌∙◌, zero-add, arith}
-use mathlib.Core.Option.{none}
+use Rattle.std.specs.Prelude.{None}
 use lib.Seq.{sets, sets-eq}
 use Rattle.settings.specs.Grounds.{Ground, given, refused, ground, ground_at, too_short, outcome, ◌or_else◌}
 use Rattle.settings.specs.Settings.{settings_ground, settings_of}
@@ -23,7 +23,7 @@ module _ (letters : List ℕ) (k m start records each : ℕ) (old : List ℕ) wh
       kept_on f (settings_of letters k m) (settings_ground letters k m) (ground 6 (too_long text) or_else ground_at 7 (too_short (length old) (length text)))
       (length text) text old e
 
-  module _ (good : settings_ground letters k m ≡ none) (needed : ℕ) (is : min needed 16777217 ≡ min (records_length each 1 records) 16777217) where
+  module _ (good : settings_ground letters k m ≡ None) (needed : ℕ) (is : min needed 16777217 ≡ min (records_length each 1 records) 16777217) where
     pub too_large : 16777216 < needed → Generates letters k m text old (refused (6, 0)) old
     too_large h =
         kept_by _ (length text) text old (6, 0) (larger_gives_6 letters k m good text (length old) (omega (arith, is, length-records letters each 1 records start)))

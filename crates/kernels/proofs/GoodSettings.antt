@@ -1,7 +1,7 @@
 -- What the kernels ask, and what their callers ask of a table of ranks, holds under settings that pass the check.
 use mathlib.Core.Path.{◌≡◌, ap, ◌∙◌, subst, subst⁻¹}
 use mathlib.Core.List.{List}
-use mathlib.Core.Option.{none}
+use Rattle.std.specs.Prelude.{None}
 use Prim.Native.Nat.{ℕ, ◌*◌, ◌^◌, ◌<◌, ◌≤◌}
 use native.Mathlib.Omega.{arith}
 use lib.ListN.{length}
@@ -17,7 +17,7 @@ use Rattle.kernels.specs.declared.Coder.{Coder}
 use Rattle.any_alphabet.specs.Needs.{Powers}
 use Rattle.kernels.specs.Needs.{Takes, coder_of, ReadyCoder}
 
-module _ (letters : List ℕ) (k m : ℕ) (good : settings_ground letters k m ≡ none) (kernel : Kernel) (takes : Takes kernel (length letters) (mirror_of m)) where
+module _ (letters : List ℕ) (k m : ℕ) (good : settings_ground letters k m ≡ None) (kernel : Kernel) (takes : Takes kernel (length letters) (mirror_of m)) where
   ready : {powers mirrors : List ℕ} → Powers (length letters) k powers → MirrorTable mirrors
       → ReadyCoder (coder_of kernel k (settings_of letters k m)) powers mirrors
   ready P T =

@@ -1,7 +1,7 @@
 -- The definitions of demand 3 from C computed on three calls, with ACGT, k 2 and complement, of which the second has a list of four places; and which ground comes
 -- first for such a list.
 use mathlib.Core.Path.{◌≡◌, refl}
-use mathlib.Core.Option.{some}
+use Rattle.std.specs.Prelude.{Some}
 use mathlib.Core.List.{List, [], ◌∷◌}
 use lib.ListN.{replicate}
 use Rattle.laws.specs.Text.{bytes}
@@ -54,9 +54,9 @@ unfolding book_told call_ground ready_ground settings_ground good_letters differ
 three_told = refl
 
 -- "the table before others", and the list before the file's bytes: a stray byte is told where the list has room.
-stray_byte : (into_ground (bytes "ACGT") 2 1 (replicate 9 0) (add (file_of Fasta (bytes ">a\nAC-"))) 4 ≡ some (7, 10))
-    × (into_ground (bytes "ACGT") 2 1 (replicate 10 0) (add (file_of Fasta (bytes ">a\nAC-"))) 4 ≡ some (7, 5))
-    × (into_ground (bytes "ACGT") 2 1 (replicate 10 0) (add (file_of Fasta (bytes ">a\nAC-"))) 5 ≡ some (10, 5))
+stray_byte : (into_ground (bytes "ACGT") 2 1 (replicate 9 0) (add (file_of Fasta (bytes ">a\nAC-"))) 4 ≡ Some (7, 10))
+    × (into_ground (bytes "ACGT") 2 1 (replicate 10 0) (add (file_of Fasta (bytes ">a\nAC-"))) 4 ≡ Some (7, 5))
+    × (into_ground (bytes "ACGT") 2 1 (replicate 10 0) (add (file_of Fasta (bytes ">a\nAC-"))) 5 ≡ Some (10, 5))
 unfolding into_ground ready_ground settings_ground good_letters different_capitals is_capital is_in is_odd half_up classes bad_size too_long too_many fault_from
     items_from item next line_item is_letter lf_next
 stray_byte = (refl, refl, refl)

@@ -4,7 +4,7 @@
 -- tally_book, since what a call returns and leaves is said by its grounds and the file's windows and numbers.
 use mathlib.Core.Path.{◌≡◌, sym, ap₂, ◌∙◌}
 use mathlib.Core.Bool.{true}
-use mathlib.Core.Option.{Option}
+use Rattle.std.specs.Prelude.{Option}
 use mathlib.Core.List.{List, Forall₂}
 use Prim.Native.Nat.{ℕ}
 use lib.ListN.{length}

@@ -4,7 +4,8 @@
 -- (`given_back_from_c`).
 use mathlib.Core.Path.{◌≡◌, refl, sym, ap, ap₂, ◌∙◌}
 use mathlib.Core.Bool.{Bool, true, false, cond, ◌||◌}
-use mathlib.Core.Option.{Option, none, some, get_or}
+use Rattle.std.specs.Prelude.{Option, None, Some}
+use Rattle.std.specs.Option.{unwrap_or}
 use mathlib.Core.List.{List, [], ◌∷◌, ◌++◌, zip_with, Forall₂}
 use Prim.Native.Nat.{ℕ, ◌≤◌}
 use native.Mathlib.Omega.{arith}
@@ -34,8 +35,8 @@ use Rattle.kmer.proofs.FileCalls.{same_ground, short_ground, room_for_five, as_l
 -- What a call returns and leaves at its grounds is what it tells of the answer.
 tells : (g : Option Ground) (n : Numbers) (c : Asked)
     → ◌≡◌ {A = Told} (record { number = returned_with_place (outcome g 5); list = overwritten g (five_numbers n) c.lent }) (told_by (outcome g n) c)
-tells none n c = refl
-tells (some f) n c = refl
+tells None n c = refl
+tells (Some f) n c = refl
 
 module _ (letters : List ℕ) (k m : ℕ) where
   -- The answer of a call, by its grounds and the file's numbers.
@@ -132,7 +133,7 @@ book_tells letters k m places h book (Forall₂.cons {a = c} {b = answer} {l₁ 
 -- where it was refused. Those of the calls whose lists have at least five places are adds and withdrawals of the same files on the same table, and demand 3
 -- holds of these; each other call is refused.
 pub demand_three_from_c : (letters : List ℕ) (k m : ℕ) {t₀ t t' : List ℕ} {r : ℕ} {asked : List Asked} {told : List Told}
-    → clear_ground letters k m (length t₀) ≡ none
+    → clear_ground letters k m (length t₀) ≡ None
     → ClearsInto letters k m t₀ r t
     → FileCalls letters k m t asked told t'
     → DemandThreeFromC letters k m t₀ t t' asked told
@@ -151,7 +152,7 @@ demand_three_from_c letters k m no-ground R calls =
 
 -- The same from any table that agrees with a book, under settings that pass the check.
 pub kept_from_c : (letters : List ℕ) (k m : ℕ) (book : Book) {t t' : List ℕ} {asked : List Asked} {told : List Told}
-    → settings_ground letters k m ≡ none
+    → settings_ground letters k m ≡ None
     → Agrees letters k m t book
     → FileCalls letters k m t asked told t'
     → KeptFromC letters k m book t t' asked told
@@ -169,7 +170,7 @@ kept_from_c letters k m book good agrees calls =
 -- Two such lists from tables that agree with one book, as two cleared tables do with the cleared one: they leave the same counts exactly when, for every word of
 -- k letters, their files taken in, those taken out taken off, hold as many windows equal to it or its mirror.
 pub same_counts_from_c : (letters : List ℕ) (k m : ℕ) (book : Book) {t u t' u' : List ℕ} {asked asked' : List Asked} {told told' : List Told}
-    → settings_ground letters k m ≡ none
+    → settings_ground letters k m ≡ None
     → Agrees letters k m t book
     → Agrees letters k m u book
     → FileCalls letters k m t asked told t'
@@ -182,10 +183,10 @@ same_counts_from_c letters k m book good agrees agrees' calls calls' =
 
 -- "Two such lists with the same settings", each after a `kmer_clear` of its own that was not refused.
 pub demand_three_same_counts_from_c : (letters : List ℕ) (k m : ℕ) {t₀ t t' u₀ u u' : List ℕ} {r r' : ℕ} {asked asked' : List Asked} {told told' : List Told}
-    → clear_ground letters k m (length t₀) ≡ none
+    → clear_ground letters k m (length t₀) ≡ None
     → ClearsInto letters k m t₀ r t
     → FileCalls letters k m t asked told t'
-    → clear_ground letters k m (length u₀) ≡ none
+    → clear_ground letters k m (length u₀) ≡ None
     → ClearsInto letters k m u₀ r' u
     → FileCalls letters k m u asked' told' u'
     → SameCountsFromC letters k m t t' asked told u u' asked' told'
@@ -196,7 +197,7 @@ demand_three_same_counts_from_c letters k m {t₀} no-ground R calls no-ground' 
 -- After a `kmer_clear` that was not refused, a call whose list is too short is refused 6 where its file is too long, and else 7 with P 5: no other ground can
 -- come before the list's own.
 pub short_from_c : (letters : List ℕ) (k m : ℕ) {t₀ t : List ℕ} {r : ℕ} (c : Call)
-    → clear_ground letters k m (length t₀) ≡ none
+    → clear_ground letters k m (length t₀) ≡ None
     → ClearsInto letters k m t₀ r t
     → short_answer letters k m (length t) c ≡ refused (cond (too_long (call_file c).bytes) (6, 0) (7, 5))
 unfolding ready_ground too_many
@@ -209,16 +210,16 @@ short_from_c letters k m {t₀} c no-ground R =
     ) (by_length (too_long (call_file c).bytes))
   where
     by_length : (long : Bool)
-        → ◌≡◌ {A = Outcome Numbers} (refused (get_or (ground 6 (long || false) or_else none) (7, 5))) (refused (cond long (6, 0) (7, 5)))
+        → ◌≡◌ {A = Outcome Numbers} (refused (unwrap_or (ground 6 (long || false) or_else None) (7, 5))) (refused (cond long (6, 0) (7, 5)))
     by_length true = refl
     by_length false = refl
 
 -- ---- an add, and a withdrawal of the same file
 
 -- What returned 5 was not refused.
-five_passed : (g : Option Ground) → 5 ≡ returned_with_place (outcome g 5) → g ≡ none
-five_passed none e = refl
-five_passed (some f) e = absurd (omega (arith, e))
+five_passed : (g : Option Ground) → 5 ≡ returned_with_place (outcome g 5) → g ≡ None
+five_passed None e = refl
+five_passed (Some f) e = absurd (omega (arith, e))
 
 -- "Adding a file that is taken in and withdrawing it next gives the table back" (document 02, K4): where `kmer_add` returned 5, a `kmer_withdraw` of the same
 -- file from the table that it left returns 5, gives the same five numbers and leaves the table that was there before.
@@ -230,13 +231,13 @@ given_back_from_c letters k m {t} {t'} {t''} {lent} {lent'} {new} {new'} {file} 
     let n = file_numbers (rank_in letters) k file in
     let g = into_ground letters k m t (add file) (length lent) in
     let g' = into_ground letters k m t' (withdraw file) (length lent') in
-    let e : g ≡ none = five_passed g A.returns in
+    let e : g ≡ None = five_passed g A.returns in
     let room = room_for_five letters k m t (add file) lent e in
     let asked : Asked = record { call = add file; lent = lent } in
     let asked' : Asked = record { call = withdraw file; lent = lent' } in
     let added : Called letters k m t (add file) (given n) t' = rw e at (is_call letters k m t asked (record { number = 5; list = new }) t' A room) in
     let back = given_back_whole letters k m added (is_call letters k m t' asked' (record { number = r; list = new' }) t'' W room') in
-    let e' : g' ≡ none = (passed n g' (sym back.0)).none_applies_lem in
+    let e' : g' ≡ None = (passed n g' (sym back.0)).none_applies_lem in
     let numbers = five_numbers n ++ drop 5 lent in
     let numbers' = five_numbers n ++ drop 5 lent' in
     let list : new ≡ numbers = A.answer_left ∙ rw e in

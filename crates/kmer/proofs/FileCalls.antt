@@ -2,7 +2,8 @@
 -- answer, table and list from those of `table::call`, and that the table stays as long as it was.
 use mathlib.Core.Path.{◌≡◌, refl, sym, ap, ◌∙◌}
 use mathlib.Core.Bool.{true, ◌||◌}
-use mathlib.Core.Option.{Option, none, some, get_or}
+use Rattle.std.specs.Prelude.{Option, None, Some}
+use Rattle.std.specs.Option.{unwrap_or}
 use mathlib.Core.List.{List, ◌++◌}
 use Prim.Native.Nat.{ℕ, ◌^◌, ◌<◌, ◌≤◌}
 use native.Mathlib.Omega.{arith}
@@ -61,7 +62,7 @@ call_fits letters k m t c t' f answer A e =
 -- From the answer of `table::ready`: a refusal is by one of its grounds, with a P that fits.
 module _ (letters : List ℕ) (k m room : ℕ) (bytes : List ℕ) (r : Checked)
     (e : of_checked r ≡ outcome (ready_ground letters k m room bytes) (settings_of letters k m)) where
-  pub ready_refuses : (f : Refusal) → r ≡ Bad f → ready_ground letters k m room bytes ≡ some (ground_of f)
+  pub ready_refuses : (f : Refusal) → r ≡ Bad f → ready_ground letters k m room bytes ≡ Some (ground_of f)
   ready_refuses f g = refused_is (ground_of f) (settings_of letters k m) (ready_ground letters k m room bytes) (sym (ap of_checked g) ∙ e)
 
   pub ready_fits : (f : Refusal) → r ≡ Bad f → (ground_of f).1 < 2 ^ 32
@@ -75,22 +76,22 @@ module _ (letters : List ℕ) (k m : ℕ) (t : List ℕ) (c : Call) (old : List 
 
   -- Without it they are those before the list's own, and then that one, so that there is always one.
   pub short_ground : ltb (length old) 5 ≡ true
-      → into_ground letters k m t c (length old) ≡ some (get_or (ready_ground letters k m (length t) (call_file c).bytes) (7, 5))
+      → into_ground letters k m t c (length old) ≡ Some (unwrap_or (ready_ground letters k m (length t) (call_file c).bytes) (7, 5))
   unfolding into_ground
   short_ground e = rw e (go (ready_ground letters k m (length t) (call_file c).bytes))
     where
-      go : (g : Option Ground) → g or_else some (7, 5) ≡ some (get_or g (7, 5))
-      go none = refl
-      go (some f) = refl
+      go : (g : Option Ground) → g or_else Some (7, 5) ≡ Some (unwrap_or g (7, 5))
+      go None = refl
+      go (Some f) = refl
 
   -- Where no ground applies there is room for it.
-  pub room_for_five : into_ground letters k m t c (length old) ≡ none → 5 ≤ length old
+  pub room_for_five : into_ground letters k m t c (length old) ≡ None → 5 ≤ length old
   unfolding into_ground
   room_for_five e =
       let behind-ready = later_none (ready_ground letters k m (length t) (call_file c).bytes) _ e in
       room_enough (length old) 5 (nowhere_met 7 _ (first_none (ground_at 7 (too_short (length old) 5)) _ behind-ready))
 
-  kept : (f : Ground) → into_ground letters k m t c (length old) ≡ some f → (x : ℕ) → x ≡ returned_with_place (refused f)
+  kept : (f : Ground) → into_ground letters k m t c (length old) ≡ Some f → (x : ℕ) → x ≡ returned_with_place (refused f)
       → CallsInto letters k m t c old x t old
   kept f e x h = record { returns = rw e h; table_left = rw e; answer_left = rw e }
 
@@ -99,17 +100,17 @@ module _ (letters : List ℕ) (k m : ℕ) (t : List ℕ) (c : Call) (old : List 
   as_long A = ap length A.table_left ∙ go (into_ground letters k m t c (length old))
     where
       go : (g : Option Ground) → length (unless_refused g (table_after letters k m t c) t) ≡ length t
-      go none = length_changes (per_window c) (places letters k m (call_file c)) t
-      go (some f) = refl
+      go None = length_changes (per_window c) (places letters k m (call_file c)) t
+      go (Some f) = refl
 
   -- Before the file is read.
   module _ (file : File) (of : call_file c ≡ file) where
-    pub into_bad : (f : Refusal) → ready_ground letters k m (length t) file.bytes ≡ some (ground_of f) → (x : ℕ)
+    pub into_bad : (f : Refusal) → ready_ground letters k m (length t) file.bytes ≡ Some (ground_of f) → (x : ℕ)
         → x ≡ returned_with_place (refused (ground_of f)) → CallsInto letters k m t c old x t old
     unfolding into_ground
     into_bad f e x h = kept (ground_of f) (rw (of, e)) x h
 
-    pub into_short : ready_ground letters k m (length t) file.bytes ≡ none → length old < 5 → (x : ℕ) → x ≡ returned_with_place (refused (7, 5))
+    pub into_short : ready_ground letters k m (length t) file.bytes ≡ None → length old < 5 → (x : ℕ) → x ≡ returned_with_place (refused (7, 5))
         → CallsInto letters k m t c old x t old
     unfolding into_ground
     into_short ready h x e = kept (7, 5) (rw (of, ready, lt-ltb (length old) 5 h)) x e

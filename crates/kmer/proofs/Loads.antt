@@ -2,7 +2,7 @@
 -- `kmer_add` and `kmer_withdraw` calls after it start from the loaded counts (`kept_from_loaded_c`); P is told whole of every text shorter than 2^55 bytes
 -- (`load_told`); and the two round trips of the C calls (`loads_what_was_listed_c`, `lists_what_was_loaded_c`).
 use mathlib.Core.Path.{◌≡◌, refl, ap, ◌∙◌}
-use mathlib.Core.Option.{Option, none, some}
+use Rattle.std.specs.Prelude.{Option, None, Some}
 use mathlib.Core.List.{List}
 use Prim.Native.Nat.{ℕ, ◌-◌, ◌^◌, ◌≤◌, ◌<◌, min}
 use native.Mathlib.Omega.{arith}
@@ -31,7 +31,7 @@ load_from_c letters k m text R = (R.answer, R.returns, R.promised)
 
 -- "After a load, every list of adds and withdrawals starts from the loaded counts."
 pub kept_from_loaded_c : (letters : List ℕ) (k m : ℕ) (text : List ℕ) {t₀ t t' : List ℕ} {r : ℕ} {asked : List Asked} {told : List Told}
-    → load_ground letters k m (length t₀) text ≡ none
+    → load_ground letters k m (length t₀) text ≡ None
     → LoadsInto letters k m text t₀ r t
     → FileCalls letters k m t asked told t'
     → KeptFromC letters k m (loaded_book letters k m text) t t' asked told
@@ -42,8 +42,8 @@ kept_from_loaded_c letters k m text {t₀} no-ground R calls =
 
 -- A P that fits is told whole.
 told_whole : (n count : ℕ) (g : Option Ground) → Small n g → n < 2 ^ 55 → returned_up_to (outcome g count) ≡ returned_with_place (outcome g count)
-told_whole n count none small h = refl
-told_whole n count (some f) small h = let e : min f.1 (2 ^ 55 - 1) ≡ f.1 = omega (arith, small f refl) in rw e
+told_whole n count None small h = refl
+told_whole n count (Some f) small h = let e : min f.1 (2 ^ 55 - 1) ≡ f.1 = omega (arith, small f refl) in rw e
 
 -- So is that of a text shorter than 2^55 bytes.
 pub load_told : (letters : List ℕ) (k m : ℕ) (text : List ℕ) {t t' : List ℕ} {r : ℕ} → LoadsInto letters k m text t r t' → length text < 2 ^ 55
@@ -62,9 +62,9 @@ load_told letters k m text {t} R h =
 
 -- What `kmer_listing` wrote, of r bytes, `kmer_load` takes, and the counts are the same.
 pub loads_what_was_listed_c : (letters : List ℕ) (k m : ℕ) (t : List ℕ) {old new u₀ u : List ℕ} {r q : ℕ} → SmallCounts (counts letters k m t)
-    → listing_ground letters k m t (length old) ≡ none
+    → listing_ground letters k m t (length old) ≡ None
     → ListsInto letters k m t old r new
-    → clear_ground letters k m (length u₀) ≡ none
+    → clear_ground letters k m (length u₀) ≡ None
     → LoadsInto letters k m (take r new) u₀ q u
     → (q ≡ class_count letters k m) × (counts letters k m u ≡ counts letters k m t)
 loads_what_was_listed_c letters k m t {old} {new} {u₀} {u} {r} small no-ground L there R =
@@ -77,7 +77,7 @@ loads_what_was_listed_c letters k m t {old} {new} {u₀} {u} {r} small no-ground
 
 -- A text that `kmer_load` took `kmer_listing` writes, where there is room for it.
 pub lists_what_was_loaded_c : (letters : List ℕ) (k m : ℕ) (text : List ℕ) {t₀ t old new : List ℕ} {q r : ℕ}
-    → load_ground letters k m (length t₀) text ≡ none
+    → load_ground letters k m (length t₀) text ≡ None
     → LoadsInto letters k m text t₀ q t
     → length text ≤ length old
     → ListsInto letters k m t old r new

@@ -1,7 +1,7 @@
 -- How large the P of each call but `kmer_load` can be, so that it fits beside the number of its refusal. From the definitions of the calls' grounds.
 use mathlib.Core.Path.{◌≡◌}
 use mathlib.Core.Bool.{Bool}
-use mathlib.Core.Option.{Option, none, some}
+use Rattle.std.specs.Prelude.{Option, None, Some}
 use mathlib.Core.List.{List, [], ◌∷◌}
 use Prim.Native.Nat.{ℕ, suc, ◌+◌, ◌<◌, ◌≤◌}
 use native.Mathlib.Omega.{arith}
@@ -23,15 +23,15 @@ use Rattle.testload.specs.TestLoad.{generate_ground}
 
 -- ---- the P of a refused mirroring is at most 62
 
-foreign_small : (letters : List ℕ) (n : ℕ) (word : List ℕ) (p : ℕ) → foreign_from letters n word ≡ some p → p < n + length word
+foreign_small : (letters : List ℕ) (n : ℕ) (word : List ℕ) (p : ℕ) → foreign_from letters n word ≡ Some p → p < n + length word
 unfolding foreign_from
 foreign_small letters n [] p e = absurd (let z : ◌≡◌ {A = ℕ} 0 1 = cc in omega arith)
 foreign_small letters n (b ∷ bs) p e = go (rank_in letters b) (foreign_small letters (suc n) bs p) e
   where
-    go : (o : Option ℕ) → (foreign_from letters (suc n) bs ≡ some p → p < suc n + length bs) → here_or o n (foreign_from letters (suc n) bs) ≡ some p
+    go : (o : Option ℕ) → (foreign_from letters (suc n) bs ≡ Some p → p < suc n + length bs) → here_or o n (foreign_from letters (suc n) bs) ≡ Some p
         → p < n + length (b ∷ bs)
-    go none ih f = let z : n ≡ p = cc in omega arith
-    go (some rank) ih f = omega (arith, ih f)
+    go None ih f = let z : n ≡ p = cc in omega arith
+    go (Some rank) ih f = omega (arith, ih f)
 
 pub mirror-small : (letters : List ℕ) (k m : ℕ) (word : List ℕ) (room : ℕ) → Small 62 (mirror_ground letters k m word room)
 unfolding mirror_ground
@@ -52,7 +52,7 @@ mirror-small letters k m word room =
 
 -- After the settings' grounds come ground 6 by some test, and ground 7, where what is needed is at most 16,777,216 if the test fails.
 pub sizes_small : (letters : List ℕ) (k m : ℕ) (large : Bool) (room needed : ℕ)
-    → (settings_ground letters k m ≡ none → ground 6 large ≡ none → needed ≤ 16777216)
+    → (settings_ground letters k m ≡ None → ground 6 large ≡ None → needed ≤ 16777216)
     → Small 16777216 (settings_ground letters k m or_else ground 6 large or_else ground_at 7 (too_short room needed))
 sizes_small letters k m large room needed fits =
     sizes_has (PlaceUpTo 16777216) letters k m large room needed (omega arith) (omega arith) (omega arith) (omega arith)

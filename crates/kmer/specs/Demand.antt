@@ -1,6 +1,6 @@
 -- Demand 3 as a C program has it, through `kmer_clear`, `kmer_add` and `kmer_withdraw`. Here it is stated; proofs/DemandThree.antt has the theorems.
 use Rattle.std.specs.Prelude.{◌≡◌, Bool, true, cond, ℕ, ltb, length, drop}
-use Rattle.std.proofs.Math.Option.{get_or}
+use Rattle.std.specs.Option.{unwrap_or}
 use mathlib.Core.List.{List, [], ◌∷◌, ◌++◌, map, zip_with, Forall₂}
 use Rattle.settings.specs.Grounds.{Outcome, given, refused}
 use Rattle.fasta.specs.declared.Numbers.{Numbers}
@@ -42,7 +42,7 @@ is_short c = ltb (length c.lent) 5
 -- The answer to a call with such a list: it is refused by the first of the grounds before the list's own, which read the settings, the file's length and the
 -- table's; and where none of them applies by 7, "a lent buffer too short; P is the length needed, the table before others".
 abbrev pub short_answer : (letters : List ℕ) (k mirror places : ℕ) → Call → Outcome Numbers
-short_answer letters k m places c = refused (get_or (ready_ground letters k m places (call_file c).bytes) (7, 5))
+short_answer letters k m places c = refused (unwrap_or (ready_ground letters k m places (call_file c).bytes) (7, 5))
 
 -- An answer that is this one, if the call's list is too short.
 abbrev pub RefusedIfShort : (letters : List ℕ) (k mirror places : ℕ) → Asked → Outcome Numbers → Type 0

@@ -5,7 +5,7 @@ use Prim.Native.Nat.{ℕ, suc, ◌+◌, ◌<◌, ◌≤◌}
 use native.Mathlib.Nat.{add-zero, add-suc, suc-add, zero-add}
 use native.Mathlib.Numerals.{add-one}
 use native.Mathlib.Omega.{arith}
-use mathlib.Core.Option.{none}
+use Rattle.std.specs.Prelude.{None}
 use mathlib.Core.List.{List, [], ◌∷◌, ◌++◌, append_assoc, append-nil}
 use lib.ListN.{length, take, drop, get_or}
 use lib.Seq.{take-suc, length-take-le}
@@ -33,7 +33,7 @@ pub record HoldsWord (letters : List ℕ) (k m q : ℕ) (buffer : List ℕ) : Ty
   pub long : k ≤ length buffer
 
 -- Reading a code leaves its word at the start of a buffer that has room for any word.
-pub word_read : {letters : List ℕ} {k m q : ℕ} {answer : Outcome ℕ} {old new : List ℕ} → settings_ground letters k m ≡ none
+pub word_read : {letters : List ℕ} {k m q : ℕ} {answer : Outcome ℕ} {old new : List ℕ} → settings_ground letters k m ≡ None
     → q < class_count letters k m
     → 62 ≤ length old
     → Overwrites (read_ground letters k m q (length old)) k (word_bytes letters k m q) old answer new
@@ -78,4 +78,4 @@ module _ (word : ℕ → List ℕ) where
 -- Each count has itself as its share of the sum.
 pub counts-add-up : AddsUp (λ (n : ℕ). n) sum
 unfolding sum
-counts-add-up = record { none = refl; more = λ x xs. refl }
+counts-add-up = record { None = refl; more = λ x xs. refl }

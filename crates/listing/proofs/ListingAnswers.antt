@@ -2,7 +2,7 @@
 use mathlib.Core.Path.{◌≡◌, refl, ◌∙◌}
 use Prim.Native.Nat.{ℕ, zero, suc, ◌<◌, ◌≤◌}
 use native.Mathlib.Omega.{arith}
-use mathlib.Core.Option.{none, some}
+use Rattle.std.specs.Prelude.{None, Some}
 use mathlib.Core.List.{List, [], ◌∷◌}
 use lib.ListN.{length, take}
 use lib.Seq.{length-take-le}
@@ -34,7 +34,7 @@ module _ {text old : List ℕ} {needed : ℕ} (needed_is : needed ≡ length tex
 -- ---- the call
 
 -- The first q places of a table, one a class, are the counts of all classes.
-pub all_counts : (letters : List ℕ) (k m q : ℕ) (t : List ℕ) → settings_ground letters k m ≡ none → q ≡ class_count letters k m → q ≤ 16777216 → q ≤ length t
+pub all_counts : (letters : List ℕ) (k m q : ℕ) (t : List ℕ) → settings_ground letters k m ≡ None → q ≡ class_count letters k m → q ≤ 16777216 → q ≤ length t
     → AllCounts letters k m (take q t)
 all_counts letters k m q t good q_is few long =
     let n = length-take-le q t long in
@@ -50,7 +50,7 @@ table_counts letters k m table st e few long =
     all_counts letters k m st.classes table good.none_applies_lem good.classes_are few long
 
 module _ (letters : List ℕ) (k m : ℕ) (table old : List ℕ) where
-  refused_by : (f : Ground) → listing_ground letters k m table (length old) ≡ some f → Lists letters k m table old (refused f) old
+  refused_by : (f : Ground) → listing_ground letters k m table (length old) ≡ Some f → Lists letters k m table old (refused f) old
   refused_by f e = kept_by _ (length (listing letters k m table)) (listing letters k m table) old f e
 
   pub settings_refused : (f : Ground) → refused f ≡ outcome (settings_ground letters k m) (settings_of letters k m) → Lists letters k m table old (refused f) old
@@ -82,7 +82,7 @@ small_take (suc n) (x ∷ xs) h zero = h 0
 small_take (suc n) (x ∷ xs) h (suc i) = small_take n xs (λ j. h (suc j)) i
 
 -- Where the grounds before the text's do not apply, a listing has no more bytes than `longest` gives for 16,777,216 classes.
-pub listing-fits : (letters : List ℕ) (k m : ℕ) (table : List ℕ) → clear_ground letters k m (length table) ≡ none → SmallCounts table
+pub listing-fits : (letters : List ℕ) (k m : ℕ) (table : List ℕ) → clear_ground letters k m (length table) ≡ None → SmallCounts table
     → length (listing letters k m table) ≤ longest 16777216
 listing-fits letters k m table passed small =
     let n = class_count letters k m in

@@ -1,7 +1,7 @@
 -- What functions ask of each other. No claim and no call of document 01 rests on it; `put_listing`, which the program uses, and the bound of a listing's length
 -- do.
 use Rattle.std.specs.Prelude.{◌≡◌, ℕ, zero, suc, ◌+◌, ◌*◌, ◌≤◌, List, [], ◌∷◌, length}
-use Rattle.std.proofs.Math.Option.{none}
+use Rattle.std.specs.Prelude.{None}
 use Rattle.settings.specs.Grounds.{Outcome, ground_at, too_short, Overwrites}
 use Rattle.settings.specs.Settings.{settings_ground}
 use Rattle.tally_book.specs.Table.{class_count}
@@ -9,7 +9,7 @@ use Rattle.texts.specs.Decimals.{decimal}
 
 -- The counts of all classes under good settings, as many as a table may have.
 pub record AllCounts (letters : List ℕ) (k mirror : ℕ) (counts : List ℕ) : Type 0 where
-  pub good : settings_ground letters k mirror ≡ none
+  pub good : settings_ground letters k mirror ≡ None
   pub one_a_class : length counts ≡ class_count letters k mirror
   pub few : length counts ≤ 16777216
 

@@ -3,7 +3,7 @@
 #![tactic(auto)]
 
 ghost use Rattle.std.specs.Prelude.{◌≡◌, ◌<◌, ◌≤◌, length};
-ghost use Rattle.std.proofs.Math.Option.{none};
+ghost use Rattle.std.specs.Prelude.{None};
 ghost use Rattle.settings.specs.Grounds.{of_filling};
 ghost use Rattle.settings.specs.Settings.{settings_ground};
 ghost use Rattle.encoding.specs.Calls.{word_bytes};
@@ -36,7 +36,7 @@ fn put_class(
     q: u64,
     n: u32,
 ) -> usize
-    requires { (settings_ground letters.now k mirror ≡ none) × (q < class_count letters.now k mirror) }
+    requires { (settings_ground letters.now k mirror ≡ None) × (q < class_count letters.now k mirror) }
     ensures { Puts out.old out.new at result (class_line (word_bytes letters.now k mirror q) n) }
 {
     if n == 0 {

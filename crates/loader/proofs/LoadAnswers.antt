@@ -1,7 +1,7 @@
 -- What a load answers and leaves, from its steps: the text's first ground or the counts set from zeros (`text_refused`, `counts_set`), in the first places of a
 -- table (`loaded`); and the grounds before the text's at each test. From the laws of a clearing's grounds and the definitions of loading.
 use mathlib.Core.Path.{◌≡◌, sym, ap, ◌∙◌}
-use mathlib.Core.Option.{none, some}
+use Rattle.std.specs.Prelude.{None, Some}
 use mathlib.Core.List.{List, [], ◌++◌, append-nil}
 use Prim.Native.Nat.{ℕ, ◌<◌, ◌≤◌}
 use native.Mathlib.Omega.{arith}
@@ -22,10 +22,10 @@ use Rattle.loader.specs.Needs.{ForTable, SetsCounts, LoadsCounts}
 -- ---- in counts, one a class
 
 module _ (letters : List ℕ) (k m : ℕ) (text counts : List ℕ) where
-  pub text_refused : (f : Ground) → text_fault letters k m text ≡ some f → LoadsCounts letters k m text counts (refused f) counts
+  pub text_refused : (f : Ground) → text_fault letters k m text ≡ Some f → LoadsCounts letters k m text counts (refused f) counts
   text_refused f e = kept_by _ (class_count letters k m) (loaded_counts letters k m text) counts f e
 
-  module _ (size : length counts ≡ class_count letters k m) (clean : text_fault letters k m text ≡ none) {zeros : List ℕ}
+  module _ (size : length counts ≡ class_count letters k m) (clean : text_fault letters k m text ≡ None) {zeros : List ℕ}
       (cleared : zeros ≡ replicate (length counts) 0 ++ drop (length counts) counts) where
     all_zeros : zeros ≡ replicate (class_count letters k m) 0
     all_zeros =
@@ -58,7 +58,7 @@ for_table letters k m t st e few long =
     (record { good = good.none_applies_lem; few = omega (arith, good.classes_are) }, length-take-le st.classes t long ∙ good.classes_are)
 
 module _ (letters : List ℕ) (k m : ℕ) (text t : List ℕ) where
-  refused_by : (f : Ground) → load_ground letters k m (length t) text ≡ some f → Loads letters k m text t (refused f) t
+  refused_by : (f : Ground) → load_ground letters k m (length t) text ≡ Some f → Loads letters k m text t (refused f) t
   refused_by f e = kept_by _ (class_count letters k m) (loaded_counts letters k m text) t f e
 
   pub settings_refused : (f : Ground) → refused f ≡ outcome (settings_ground letters k m) (settings_of letters k m) → Loads letters k m text t (refused f) t

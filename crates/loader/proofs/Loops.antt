@@ -2,7 +2,7 @@
 -- what is left where no line is. From the laws of lines and the definitions of loading.
 use mathlib.Core.Path.{◌≡◌, sym, ap, ◌∙◌}
 use mathlib.Core.Bool.{true, false}
-use mathlib.Core.Option.{none, some}
+use Rattle.std.specs.Prelude.{None, Some}
 use mathlib.Core.List.{List, ◌∷◌}
 use Prim.Native.Nat.{ℕ, ◌+◌, ◌-◌, ◌≤◌, ◌<◌}
 use native.Mathlib.Omega.{arith}
@@ -32,13 +32,13 @@ module _ (letters : List ℕ) (k m : ℕ) (text : List ℕ) (at to : ℕ) (ends 
   line_place = omega (arith, ap length line_is_part)
 
   -- A fault of this line is the text's.
-  pub fault_here : (next : Next) (g : Ground) → at < length text → line_fault letters k m next at line_at ≡ some g
-      → load_fault letters k m next at (lines (drop at text)) ≡ some g
+  pub fault_here : (next : Next) (g : Ground) → at < length text → line_fault letters k m next at line_at ≡ Some g
+      → load_fault letters k m next at (lines (drop at text)) ≡ Some g
   unfolding load_fault
   fault_here next g h e = rw (lines_turn h, e)
 
   -- Where it has none, those of the lines behind it are.
-  pub fault_later : (next after : Next) → at < length text → line_fault letters k m next at line_at ≡ none → after ≡ next_after letters k m next line_at
+  pub fault_later : (next after : Next) → at < length text → line_fault letters k m next at line_at ≡ None → after ≡ next_after letters k m next line_at
       → load_fault letters k m next at (lines (drop at text)) ≡ load_fault letters k m after to (lines (drop to text))
   unfolding load_fault
   fault_later next after h e is = rw (lines_turn h, e, line_place, is)

@@ -1,7 +1,7 @@
 -- The counts of a listing set one by one, as `set_counts` sets them. From the laws of lines and the steps of the crate loading.
 use mathlib.Core.Path.{◌≡◌, sym, ap, ◌∙◌}
 use mathlib.Core.Bool.{true, false}
-use mathlib.Core.Option.{none}
+use Rattle.std.specs.Prelude.{None}
 use mathlib.Core.List.{List, [], ◌∷◌}
 use Prim.Native.Nat.{ℕ, suc, ◌+◌, ◌-◌, ◌≤◌, ◌<◌, min}
 use native.Mathlib.Omega.{arith}
@@ -24,7 +24,7 @@ pub record Setting (text letters : List ℕ) (k m : ℕ) (counts₀ counts : Lis
   pub left : loaded_from letters k m counts₀ (drop 1 (lines text)) ≡ loaded_from letters k m counts (lines (drop at text))
   pub low : ℕ
   pub so_far : ℕ
-  pub no_fault : load_fault letters k m (CountOrTotal low so_far) at (lines (drop at text)) ≡ none
+  pub no_fault : load_fault letters k m (CountOrTotal low so_far) at (lines (drop at text)) ≡ None
   pub one_a_class : length counts ≡ class_count letters k m
 
 pub setting_none : (text : List ℕ) {letters : List ℕ} {k m : ℕ} {counts : List ℕ} {at : ℕ} → SetsCounts text letters k m counts
@@ -43,7 +43,7 @@ setting_none (b ∷ text) {letters} {k} {m} {counts} {at} S e =
       one_a_class = S.one_a_class;
     }
 
-module _ {text letters : List ℕ} {k m : ℕ} {counts₀ counts : List ℕ} {at : ℕ} (good : settings_ground letters k m ≡ none)
+module _ {text letters : List ℕ} {k m : ℕ} {counts₀ counts : List ℕ} {at : ℕ} (good : settings_ground letters k m ≡ None)
     (I : Setting text letters k m counts₀ counts at) where
   -- The total ends the counts.
   pub setting_total : (to : ℕ) → to ≡ at + length (first_line (drop at text)) → at < length text → is_total_line (take (to - at) (drop at text)) ≡ true

@@ -1,6 +1,6 @@
 -- What functions ask of each other; no sentence of document 02 rests on it.
 use Rattle.std.specs.Prelude.{◌≡◌, true, false, List, ℕ, ◌*◌, ◌≤◌, length}
-use Rattle.std.proofs.Math.Option.{none, some}
+use Rattle.std.specs.Prelude.{None, Some}
 use Rattle.settings.specs.Grounds.{ground_of, Outcome, Overwrites}
 use Rattle.settings.specs.Settings.{settings_ground}
 use Rattle.tally_book.specs.Table.{class_count}
@@ -13,7 +13,7 @@ use Rattle.loader.specs.declared.Step.TheVariants.{On, Fault}
 
 -- Good settings with few enough classes for a table.
 pub record ForTable (letters : List ℕ) (k mirror : ℕ) : Type 0 where
-  pub good : settings_ground letters k mirror ≡ none
+  pub good : settings_ground letters k mirror ≡ None
   pub few : class_count letters k mirror ≤ 16777216
 
 -- The numbers of what belongs next are small, so that no sum of counts wraps.
@@ -29,13 +29,13 @@ pub record ClassLine (letters : List ℕ) (k : ℕ) (l : List ℕ) : Type 0 wher
 
 -- What a line at an offset is judged to be: passed, with what belongs after it; or at fault.
 abbrev pub StepIs : (letters : List ℕ) (k mirror : ℕ) → Next → (at : ℕ) → List ℕ → Step → Type 0
-StepIs letters k m next at l (On after) = (line_fault letters k m next at l ≡ none) × (after ≡ next_after letters k m next l) × Bounded after
-StepIs letters k m next at l (Fault f) = line_fault letters k m next at l ≡ some (ground_of f)
+StepIs letters k m next at l (On after) = (line_fault letters k m next at l ≡ None) × (after ≡ next_after letters k m next l) × Bounded after
+StepIs letters k m next at l (Fault f) = line_fault letters k m next at l ≡ Some (ground_of f)
 
 -- A text without a ground, and counts of all classes.
 pub record SetsCounts (text letters : List ℕ) (k mirror : ℕ) (counts : List ℕ) : Type 0 where
   pub table : ForTable letters k mirror
-  pub no_fault : text_fault letters k mirror text ≡ none
+  pub no_fault : text_fault letters k mirror text ≡ None
   pub one_a_class : length counts ≡ class_count letters k mirror
 
 -- A load into counts, one a class, to which only the text's grounds may still apply.

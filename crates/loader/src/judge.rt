@@ -1,6 +1,6 @@
 // One line of a listing: what it says, and whether it is what belongs at its place.
 ghost use Rattle.std.specs.Prelude.{◌≡◌, ◌+◌, ◌≤◌, min, length};
-ghost use Rattle.std.proofs.Math.Option.{none};
+ghost use Rattle.std.specs.Prelude.{None};
 ghost use Rattle.settings.specs.RankTables.{RankTable};
 ghost use Rattle.settings.specs.Settings.{settings_ground, mirror_of};
 ghost use Rattle.tally_book.specs.Table.{class_count};
@@ -30,7 +30,7 @@ fn mirror_named(mirror: u64) -> Mirror
 
 // The code of the word in a class's line, and whether the word is canonical. Letters are looked up in the table of ranks.
 pub fn word_in(letters: &[u8], ranks: &[u8; 256], k: usize, mirror: u64, line: &[u8]) -> WordCode
-    requires { (settings_ground letters.now k mirror ≡ none) × RankTable letters.now ranks.now × (7 + k ≤ length line.now) }
+    requires { (settings_ground letters.now k mirror ≡ None) × RankTable letters.now ranks.now × (7 + k ≤ length line.now) }
     ensures { (result.code.0 ≡ code_in letters.now k mirror line.now)
         × (result.canonical ≡ canonical_in letters.now k mirror line.now) }
 {

@@ -1,6 +1,6 @@
 -- Computed cases of the definitions: listings that are loaded, and each ground at its place.
 use mathlib.Core.Path.{◌≡◌, refl}
-use mathlib.Core.Option.{Option, none, some}
+use Rattle.std.specs.Prelude.{Option, None, Some}
 use mathlib.Core.List.{List, [], ◌∷◌, ◌++◌}
 use Prim.Native.Nat.{ℕ}
 use Prim.Native.String.{String}
@@ -43,13 +43,13 @@ abbrev behind : String → List ℕ
 behind text = bytes "(survey (letters ACGT) (k 2) (mirror complement) (classes 10))\n" ++ bytes text
 
 abbrev Loaded : String → Type 0
-Loaded text = ground_for 10 (behind text) ≡ none
+Loaded text = ground_for 10 (behind text) ≡ None
 
 abbrev Refused : String → Ground → Type 0
-Refused text g = ground_for 10 (behind text) ≡ some g
+Refused text g = ground_for 10 (behind text) ≡ Some g
 
 abbrev RefusedText : String → Ground → Type 0
-RefusedText text g = ground_for 10 (bytes text) ≡ some g
+RefusedText text g = ground_for 10 (bytes text) ≡ Some g
 
 -- Listings, and their counts. (The highest count with its total is not computed: `decimal` of a high number is too deep. Only the total is missed.)
 good : Loaded "(count CG 1)\n(count GC 1)\n(count AG 2)\n(count AC 2)\n(total 6)\n"
@@ -62,7 +62,7 @@ unfolding ground_for counts_of
 good = (refl, refl, refl, refl, refl, refl)
 
 -- 7 comes first, and P is the number of classes.
-short_table : ground_for 9 [] ≡ some (7, 10)
+short_table : ground_for 9 [] ≡ Some (7, 10)
 unfolding ground_for
 short_table = refl
 

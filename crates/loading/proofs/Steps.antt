@@ -2,7 +2,7 @@
 -- that we print (`count_read`, `total_read`). From the laws of shapes and of words.
 use mathlib.Core.Path.{◌≡◌, refl, ap, ◌∙◌}
 use mathlib.Core.Bool.{Bool, true, false, ◌&&◌, and-eq-true_iff}
-use mathlib.Core.Option.{none}
+use Rattle.std.specs.Prelude.{None}
 use mathlib.Core.List.{List, [], ◌∷◌}
 use Prim.Native.Nat.{ℕ, suc, ◌+◌, ◌≤◌, ◌<◌}
 use native.Mathlib.Omega.{arith}
@@ -30,14 +30,14 @@ use Rattle.loading.proofs.Words.{word_is, canonical_text, text_canonical}
 use Rattle.loading.proofs.Shapes.{word_in_lem, digits_in_lem, count_shape_lem, count_no_total, count_parts, count_one_line, total_shape}
 
 -- A ground that does not apply has a test that passes.
-pub passes : (n at : ℕ) (t : Bool) → ground_at n (unless_at t at) ≡ none → t ≡ true
+pub passes : (n at : ℕ) (t : Bool) → ground_at n (unless_at t at) ≡ None → t ≡ true
 unfolding unless_at
 passes n at true e = refl
 passes n at false e = absurd (let z : ◌≡◌ {A = ℕ} 0 1 = cc in omega arith)
 
 module _ (letters : List ℕ) (k m : ℕ) where
   -- The total, as it is printed, is passed as the last line, and sets nothing.
-  pub total_passed : (low s at : ℕ) → load_fault letters k m (CountOrTotal low s) at (total_line s ∷ []) ≡ none
+  pub total_passed : (low s at : ℕ) → load_fault letters k m (CountOrTotal low s) at (total_line s ∷ []) ≡ None
   unfolding load_fault line_fault next_after unless_at
   total_passed low s at = rw (total_shape s, same_word_lem (total_line s))
 
@@ -46,7 +46,7 @@ module _ (letters : List ℕ) (k m : ℕ) where
   total_sets_nothing s cs = rw (total_shape s)
 
   -- Where a total is passed, it is that of the sum, and no line follows.
-  pub total_read : (low s at : ℕ) (l : List ℕ) (ls : List (List ℕ)) → is_total_line l ≡ true → load_fault letters k m (CountOrTotal low s) at (l ∷ ls) ≡ none
+  pub total_read : (low s at : ℕ) (l : List ℕ) (ls : List (List ℕ)) → is_total_line l ≡ true → load_fault letters k m (CountOrTotal low s) at (l ∷ ls) ≡ None
       → (l ≡ total_line s) × (ls ≡ [])
   unfolding load_fault line_fault next_after
   total_read low s at l ls t e =
@@ -54,11 +54,11 @@ module _ (letters : List ℕ) (k m : ℕ) where
       let own = passes 22 at (same_text l (total_line s)) (first_none (ground_at 22 (unless_at (same_text l (total_line s)) at)) _ f) in
       (word_same l (total_line s) own, go ls (later_none (ground_at 22 (unless_at (same_text l (total_line s)) at)) _ f))
     where
-      go : (xs : List (List ℕ)) → load_fault letters k m Nothing (at + length l) xs ≡ none → xs ≡ []
+      go : (xs : List (List ℕ)) → load_fault letters k m Nothing (at + length l) xs ≡ None → xs ≡ []
       go [] h = refl
       go (x ∷ xs) h = absurd (let z : ◌≡◌ {A = ℕ} 0 1 = cc in omega arith)
 
-module _ (letters : List ℕ) (k m : ℕ) (good : settings_ground letters k m ≡ none) where
+module _ (letters : List ℕ) (k m : ℕ) (good : settings_ground letters k m ≡ None) where
   -- ---- a line as it is printed
 
   -- The line of the class with code q and the count n, where codes from `low` on may follow.
@@ -113,9 +113,9 @@ module _ (letters : List ℕ) (k m : ℕ) (good : settings_ground letters k m �
     pub below : code_in letters k m l < class_count letters k m
     pub some : 1 ≤ count_in k l
     pub few : count_in k l ≤ 4294967295
-    pub later : load_fault letters k m (CountOrTotal (suc (code_in letters k m l)) (s + count_in k l)) (at + length l) ls ≡ none
+    pub later : load_fault letters k m (CountOrTotal (suc (code_in letters k m l)) (s + count_in k l)) (at + length l) ls ≡ None
 
-  pub count_read : (low s at : ℕ) (l : List ℕ) (ls : List (List ℕ)) → is_total_line l ≡ false → load_fault letters k m (CountOrTotal low s) at (l ∷ ls) ≡ none
+  pub count_read : (low s at : ℕ) (l : List ℕ) (ls : List (List ℕ)) → is_total_line l ≡ false → load_fault letters k m (CountOrTotal low s) at (l ∷ ls) ≡ None
       → CountRead low s at l ls
   unfolding load_fault line_fault next_after good_count
   count_read low s at l ls t e =

@@ -4,7 +4,7 @@
 use mathlib.Core.Path.{◌≡◌, refl, sym, ap, ap₂, subst, ◌∙◌}
 use mathlib.Core.Bool.{Bool, true, false, cond}
 use mathlib.Core.Logic.{◌↔◌}
-use mathlib.Core.Option.{none}
+use Rattle.std.specs.Prelude.{None}
 use mathlib.Core.List.{List, [], ◌∷◌, ◌++◌, append_assoc, append-nil}
 use Prim.Native.Nat.{ℕ, zero, suc, ◌+◌, ◌-◌, ◌≤◌, ◌<◌}
 use native.Mathlib.Omega.{arith}
@@ -76,7 +76,7 @@ set_behind u j r q n h =
     ∙ sym (append_snoc (u ++ zeros j) n (zeros r))
 
 module _ (letters : List ℕ) (k m : ℕ) where
-  module _ (good : settings_ground letters k m ≡ none) where
+  module _ (good : settings_ground letters k m ≡ None) where
     -- ---- what is written is loaded
 
     -- The text of counts from code q on: the lines of classes, and the total of these counts and those before, which add up to s.
@@ -85,7 +85,7 @@ module _ (letters : List ℕ) (k m : ℕ) where
 
     -- It is passed, and the counts behind those in u are set to cs.
     record Taken (low q s at : ℕ) (u cs : List ℕ) : Type 0 where
-      no_fault : load_fault letters k m (CountOrTotal low s) at (lines (text_from q s cs)) ≡ none
+      no_fault : load_fault letters k m (CountOrTotal low s) at (lines (text_from q s cs)) ≡ None
       sets : loaded_from letters k m (u ++ zeros (length cs)) (lines (text_from q s cs)) ≡ u ++ cs
 
     taken : (low q s at : ℕ) (u cs : List ℕ) → low ≤ q → q + length cs ≡ class_count letters k m → length u ≡ q → SmallCounts cs → Taken low q s at u cs
@@ -135,13 +135,13 @@ module _ (letters : List ℕ) (k m : ℕ) where
       text : joined ls ≡ text_from low s rest
       small : SmallCounts rest
 
-    rest_of : (low s at : ℕ) (ls : List (List ℕ)) → low ≤ class_count letters k m → load_fault letters k m (CountOrTotal low s) at ls ≡ none → Rest low s ls
+    rest_of : (low s at : ℕ) (ls : List (List ℕ)) → low ≤ class_count letters k m → load_fault letters k m (CountOrTotal low s) at ls ≡ None → Rest low s ls
     unfolding load_fault loaded_from joined count_lines sum
     rest_of low s at [] h e = absurd (let z : ◌≡◌ {A = ℕ} 0 1 = cc in omega arith)
     rest_of low s at (l ∷ ls) h e = go (is_total_line l) refl (λ low' s' at'. rest_of low' s' at' ls)
       where
         go : (t : Bool) → is_total_line l ≡ t
-            → ((low' s' at' : ℕ) → low' ≤ class_count letters k m → load_fault letters k m (CountOrTotal low' s') at' ls ≡ none → Rest low' s' ls)
+            → ((low' s' at' : ℕ) → low' ≤ class_count letters k m → load_fault letters k m (CountOrTotal low' s') at' ls ≡ None → Rest low' s' ls)
             → Rest low s (l ∷ ls)
         go true t later =
             let (is, last) = total_read letters k m low s at l ls t e in
@@ -190,8 +190,8 @@ module _ (letters : List ℕ) (k m : ℕ) where
     survey_passed ls = rw (survey_shape letters k m good, same_word_lem (survey_line letters k m))
 
     -- A first line that is passed is the survey line as it is printed.
-    pub survey_read : (l : List ℕ) (ls : List (List ℕ)) → load_fault letters k m Survey 0 (l ∷ ls) ≡ none
-        → (l ≡ survey_line letters k m) × (load_fault letters k m (CountOrTotal 0 0) (0 + length l) ls ≡ none)
+    pub survey_read : (l : List ℕ) (ls : List (List ℕ)) → load_fault letters k m Survey 0 (l ∷ ls) ≡ None
+        → (l ≡ survey_line letters k m) × (load_fault letters k m (CountOrTotal 0 0) (0 + length l) ls ≡ None)
     unfolding load_fault line_fault next_after
     survey_read l ls e =
         let shaped = ground_at 20 (unless_at (is_survey_line l) 0) in
@@ -201,7 +201,7 @@ module _ (letters : List ℕ) (k m : ℕ) where
 
     -- The listing of counts is passed, and gives the counts.
     listing_loads : (cs : List ℕ) → length cs ≡ class_count letters k m → SmallCounts cs
-        → (load_fault letters k m Survey 0 (lines (listing_of letters k m cs)) ≡ none) × (loaded_counts letters k m (listing_of letters k m cs) ≡ cs)
+        → (load_fault letters k m Survey 0 (lines (listing_of letters k m cs)) ≡ None) × (loaded_counts letters k m (listing_of letters k m cs) ≡ cs)
     unfolding listing_of loaded_counts
     listing_loads cs long small =
         let T = taken 0 0 0 (0 + length (survey_line letters k m)) [] cs (omega arith) (omega arith) refl small in
@@ -210,12 +210,12 @@ module _ (letters : List ℕ) (k m : ℕ) where
         (rw one (survey_passed _ ∙ rw none_before at T.no_fault), rw (one, ← long) (rw none_before at T.sets))
 
     -- A text that is passed is the listing of its counts, which are small.
-    listing_read : (text : List ℕ) → load_fault letters k m Survey 0 (lines text) ≡ none
+    listing_read : (text : List ℕ) → load_fault letters k m Survey 0 (lines text) ≡ None
         → (listing_of letters k m (loaded_counts letters k m text) ≡ text) × SmallCounts (loaded_counts letters k m text)
     unfolding listing_of loaded_counts load_fault joined
     listing_read text e = go (lines text) (joined-lines text) e
       where
-        go : (ls : List (List ℕ)) → joined ls ≡ text → load_fault letters k m Survey 0 ls ≡ none
+        go : (ls : List (List ℕ)) → joined ls ≡ text → load_fault letters k m Survey 0 ls ≡ None
             → (let cs = loaded_from letters k m (zeros (class_count letters k m)) (drop 1 ls) in
             (survey_line letters k m ++ (count_lines (word_bytes letters k m) 0 cs ++ total_line (sum cs)) ≡ text) × SmallCounts cs)
         go [] j f = absurd (let z : ◌≡◌ {A = ℕ} 0 1 = cc in omega arith)
@@ -252,9 +252,9 @@ loaded_length letters k m text =
     length-loaded letters k m (zeros (class_count letters k m)) (drop 1 (lines text)) ∙ length-replicate {A = ℕ} (class_count letters k m) 0
 
 -- "Writing and then loading gives the same counts": the listing of a table is not refused where a table of that size is not, and its counts are the table's.
-pub written_is_loaded : (letters : List ℕ) (k m : ℕ) (t : List ℕ) (room : ℕ) → clear_ground letters k m (length t) ≡ none → clear_ground letters k m room ≡ none
+pub written_is_loaded : (letters : List ℕ) (k m : ℕ) (t : List ℕ) (room : ℕ) → clear_ground letters k m (length t) ≡ None → clear_ground letters k m room ≡ None
     → SmallCounts (counts letters k m t)
-    → (load_ground letters k m room (listing letters k m t) ≡ none) × (loaded_counts letters k m (listing letters k m t) ≡ counts letters k m t)
+    → (load_ground letters k m room (listing letters k m t) ≡ None) × (loaded_counts letters k m (listing letters k m t) ≡ counts letters k m t)
 unfolding load_ground
 written_is_loaded letters k m t room here there small =
     let long = length-take-le (class_count letters k m) t (places_enough letters k m (length t) here) in
@@ -262,17 +262,17 @@ written_is_loaded letters k m t room here there small =
     (rw there L.0, L.1)
 
 -- What is known of a load that no ground refuses: t₀ before it, t after it.
-module _ (letters : List ℕ) (k m : ℕ) (text : List ℕ) {t₀ t : List ℕ} {answer : Outcome ℕ} (no-ground : load_ground letters k m (length t₀) text ≡ none)
+module _ (letters : List ℕ) (k m : ℕ) (text : List ℕ) {t₀ t : List ℕ} {answer : Outcome ℕ} (no-ground : load_ground letters k m (length t₀) text ≡ None)
     (load : Loads letters k m text t₀ answer t) where
-  cleared : clear_ground letters k m (length t₀) ≡ none
+  cleared : clear_ground letters k m (length t₀) ≡ None
   unfolding load_ground
   cleared = first_none (clear_ground letters k m (length t₀)) _ no-ground
 
-  good_text : load_fault letters k m Survey 0 (lines text) ≡ none
+  good_text : load_fault letters k m Survey 0 (lines text) ≡ None
   unfolding load_ground
   good_text = later_none (clear_ground letters k m (length t₀)) _ no-ground
 
-  good_settings_here : settings_ground letters k m ≡ none
+  good_settings_here : settings_ground letters k m ≡ None
   good_settings_here = settings_good letters k m (length t₀) cleared
 
   set_to : t ≡ loaded_counts letters k m text ++ drop (class_count letters k m) t₀
@@ -319,8 +319,8 @@ module _ (letters : List ℕ) (k m : ℕ) (text : List ℕ) {t₀ t : List ℕ} 
   kept_from_loaded calls = kept letters k m good_settings_here (loaded_book letters k m text) loaded_agrees calls
 
 -- "Writing and then loading gives the same counts": the listing of t is loaded into u₀, which has room for the classes.
-pub loads_what_is_written : (letters : List ℕ) (k m : ℕ) (t : List ℕ) {u₀ u : List ℕ} {answer : Outcome ℕ} → clear_ground letters k m (length t) ≡ none
-    → clear_ground letters k m (length u₀) ≡ none
+pub loads_what_is_written : (letters : List ℕ) (k m : ℕ) (t : List ℕ) {u₀ u : List ℕ} {answer : Outcome ℕ} → clear_ground letters k m (length t) ≡ None
+    → clear_ground letters k m (length u₀) ≡ None
     → SmallCounts (counts letters k m t)
     → Loads letters k m (listing letters k m t) u₀ answer u
     → (answer ≡ given (class_count letters k m)) × (counts letters k m u ≡ counts letters k m t)
@@ -331,7 +331,7 @@ loads_what_is_written letters k m t {u₀} here there small load =
 -- The same where the text is what a listing wrote: t is listed into a buffer, and what was written there is loaded into u₀.
 pub loads_what_was_listed : (letters : List ℕ) (k m : ℕ) (t : List ℕ) {old new u₀ u : List ℕ} {n : ℕ} {answer : Outcome ℕ} → SmallCounts (counts letters k m t)
     → Lists letters k m t old (given n) new
-    → clear_ground letters k m (length u₀) ≡ none
+    → clear_ground letters k m (length u₀) ≡ None
     → Loads letters k m (take n new) u₀ answer u
     → (answer ≡ given (class_count letters k m)) × (counts letters k m u ≡ counts letters k m t)
 unfolding listing_ground
@@ -352,16 +352,16 @@ unfolding listing_ground
 lists_what_was_loaded letters k m text {t₀} {t} {old} {new} load room list =
     let no-ground = (passed (class_count letters k m) (load_ground letters k m (length t₀) text) load.answers).none_applies_lem in
     let same = writes_what_is_loaded letters k m text no-ground load in
-    let open-table : clear_ground letters k m (length t) ≡ none = rw (loaded_as_long letters k m text no-ground load) (cleared letters k m text no-ground load) in
-    let no-refusal : listing_ground letters k m t (length old) ≡ none = rw (open-table, same, le-ltb (length old) (length text) room) in
+    let open-table : clear_ground letters k m (length t) ≡ None = rw (loaded_as_long letters k m text no-ground load) (cleared letters k m text no-ground load) in
+    let no-refusal : listing_ground letters k m t (length old) ≡ None = rw (open-table, same, le-ltb (length old) (length text) room) in
     let written : new ≡ listing letters k m t ++ drop (length (listing letters k m t)) old = list.leaves ∙ rw no-refusal in (
       list.answers ∙ rw (no-refusal, same),
       front_is (listing letters k m t) _ written (ap length same) ∙ same,
     )
 
 -- The texts that are loaded are just the listings of tables: of counts of all classes, each a 32-bit number.
-pub loads_just_the_listings : (letters : List ℕ) (k m room : ℕ) (text : List ℕ) → clear_ground letters k m room ≡ none
-    → (load_ground letters k m room text ≡ none) ↔ ListingOfCounts letters k m text
+pub loads_just_the_listings : (letters : List ℕ) (k m room : ℕ) (text : List ℕ) → clear_ground letters k m room ≡ None
+    → (load_ground letters k m room text ≡ None) ↔ ListingOfCounts letters k m text
 unfolding load_ground
 loads_just_the_listings letters k m room text there =
     let good = settings_good letters k m room there in (

@@ -3,7 +3,7 @@
 -- what is known of settings that pass the check and the theorems of the encoding.
 use mathlib.Core.Path.{◌≡◌, refl, sym, ap, ap₂, ◌∙◌}
 use mathlib.Core.Bool.{Bool, true, false, cond, and-eq-true_iff}
-use mathlib.Core.Option.{none}
+use Rattle.std.specs.Prelude.{None}
 use mathlib.Core.List.{List, [], ◌∷◌}
 use Prim.Native.Nat.{ℕ, ◌<◌}
 use native.Mathlib.Omega.{arith}
@@ -65,7 +65,7 @@ module _ (letters : List ℕ) (capitals : different_capitals letters ≡ true) w
 
 -- ---- a canonical word and its code
 
-module _ (letters : List ℕ) (k m : ℕ) (good : settings_ground letters k m ≡ none) where
+module _ (letters : List ℕ) (k m : ℕ) (good : settings_ground letters k m ≡ None) where
   capitals : different_capitals letters ≡ true
   capitals = capitals_differ letters k m good
 

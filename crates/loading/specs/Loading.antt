@@ -1,7 +1,7 @@
 -- Document 02, K7, "Load a listing": "A listing is read into a table, under the settings of the call, and its counts replace the old ones, 0 for a class not
 -- listed."
 use Rattle.std.specs.Prelude.{ℕ, suc, ◌+◌, Bool, ◌&&◌, cond, List, [], ◌∷◌, length, drop, get_or, set, replicate, leb}
-use Rattle.std.proofs.Math.Option.{Option, none, some}
+use Rattle.std.specs.Prelude.{Option, None, Some}
 use Rattle.settings.specs.Grounds.{Ground, Outcome, ground_at, ◌or_else◌, Overwrites}
 use Rattle.settings.specs.Settings.{mirror_of}
 use Rattle.settings.specs.Limits.{highest_count}
@@ -65,13 +65,13 @@ line_fault letters k m (CountOrTotal low sum) at l =
     (ground_at 22 (unless_at (same_text l (total_line sum)) at))
     (ground_at 20 (unless_at (is_count_line letters k l) at)
     or_else ground_at 22 (unless_at (good_count letters k m low l) at))
-line_fault letters k m Nothing at l = some (20, at)
+line_fault letters k m Nothing at l = Some (20, at)
 
 -- 20 when a line "is missing": "for a missing line the text's length".
 abbrev pub missing : Next → (at : ℕ) → Option Ground
-missing Survey at = some (20, at)
-missing (CountOrTotal low sum) at = some (20, at)
-missing Nothing at = none
+missing Survey at = Some (20, at)
+missing (CountOrTotal low sum) at = Some (20, at)
+missing Nothing at = None
 
 -- "the first line at fault wins .. and P is the line's offset": of lines from an offset on.
 unfoldable pub load_fault : (letters : List ℕ) (k mirror : ℕ) → Next → (at : ℕ) → List (List ℕ) → Option Ground

@@ -3,7 +3,7 @@
 -- refusal passes and no other output does.
 use mathlib.Core.Path.{◌≡◌, refl, sym, ap, ◌∙◌, subst}
 use mathlib.Core.Bool.{Bool, true, false, ◌&&◌, false≢true}
-use mathlib.Core.Option.{Option, none, some}
+use Rattle.std.specs.Prelude.{Option, None, Some}
 use mathlib.Core.List.{List, [], ◌∷◌}
 use Prim.Native.Nat.{ℕ}
 use native.Mathlib.Decide.{ℕ_discrete}
@@ -53,8 +53,8 @@ module _ (a b : ℕ) where
     answered : (g : Option Ground) → RefusedOnlyBy (call_numbers 12 file.kind) g
         → shows a b (answer_text letters k m file (outcome g (file_numbers (rank_in letters) k file))) ≡ false
     unfolding shows listing_of survey_line
-    answered none h = refl
-    answered (some g) h = by_none (call_numbers 12 file.kind) (of-an-add file.kind) g (h g refl)
+    answered None h = refl
+    answered (Some g) h = by_none (call_numbers 12 file.kind) (of-an-add file.kind) g (h g refl)
 
     of_a_survey : shows a b (survey_text letters k m file) ≡ false
     unfolding survey_text

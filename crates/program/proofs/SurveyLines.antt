@@ -4,7 +4,7 @@
 -- (`refuses_neither`), so also what begins with the line that we print (`refuses_the_printed_line`); that these are printed only then is in RefusalNumbers.
 -- From what is proved of reading a survey line, and of the line that we print.
 use mathlib.Core.Path.{◌≡◌, ◌∙◌}
-use mathlib.Core.Option.{none}
+use Rattle.std.specs.Prelude.{None}
 use mathlib.Core.List.{List, ◌++◌, append_assoc}
 use Prim.Native.Nat.{ℕ, ◌≤◌}
 use borrow.Author.Tests.{le-ltb}
@@ -41,7 +41,7 @@ module _ {input letters file : List ℕ} {k m : ℕ} (S : SurveyInput input lett
   survey_line_text = rw (reads_all S)
 
   -- Where no ground applies, it begins with that line, in which the number of classes stands before the bracket that closes it, and LF.
-  pub listing_repeats_the_line : length input ≤ 65536 → table_ground letters k m cleared_table (add (program_file file)) ≡ none
+  pub listing_repeats_the_line : length input ≤ 65536 → table_ground letters k m cleared_table (add (program_file file)) ≡ None
       → (part : List ℕ) × ((rest : List ℕ) × ((S.line ≡ part ++ bytes ")")
       × (program_text input ≡ part ++ (bytes " (classes " ++ (decimal (class_count letters k m) ++ (bytes "))\n" ++ rest))))))
   unfolding program_text survey_text listing_of call_ground
@@ -62,7 +62,7 @@ pub refuses_neither : {input : List ℕ} → Neither input → length input ≤ 
 refuses_neither {input} n short = refusal_text input short (refuses_all input n)
 
 -- So is the line that we print, whatever follows it: a listing is no input.
-pub refuses_the_printed_line : (letters : List ℕ) (k m : ℕ) (rest : List ℕ) → settings_ground letters k m ≡ none
+pub refuses_the_printed_line : (letters : List ℕ) (k m : ℕ) (rest : List ℕ) → settings_ground letters k m ≡ None
     → length (survey_line letters k m ++ rest) ≤ 65536 → program_text (survey_line letters k m ++ rest) ≡ refused_line (13, 0)
 refuses_the_printed_line letters k m rest passed short =
     refusal_text (survey_line letters k m ++ rest) short (reads_no_printed_line letters k m rest passed)

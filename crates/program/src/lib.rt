@@ -3,7 +3,7 @@
 #![tactic(auto)]
 
 ghost use Rattle.std.specs.Prelude.{◌≡◌, ◌-◌, ◌≤◌, length, take, drop};
-ghost use Rattle.std.proofs.Math.Option.{none};
+ghost use Rattle.std.specs.Prelude.{None};
 ghost use Rattle.settings.specs.Grounds.{ground_of};
 ghost use Rattle.settings.specs.Settings.{settings_ground, settings_of};
 ghost use Rattle.files.specs.File.{file_of};
@@ -56,7 +56,7 @@ fn put_counted(
     file: &[u8],
     st: Settings,
 ) -> usize
-    requires good { settings_ground letters.now k mirror ≡ none }
+    requires good { settings_ground letters.now k mirror ≡ None }
     requires checked { st ≡ settings_of letters.now k mirror }
     ensures { Prints (survey_text letters.now k mirror (file_of kind file.now)) out.old result out.new }
 {

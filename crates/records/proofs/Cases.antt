@@ -1,6 +1,6 @@
 -- The definitions, computed on files of a few bytes: which records the reader gives and where it moves, by the sentences of document 01. By computation.
 use mathlib.Core.Path.{◌≡◌, refl}
-use mathlib.Core.Option.{none, some}
+use Rattle.std.specs.Prelude.{None, Some}
 use mathlib.Core.List.{[], ◌∷◌}
 use Rattle.laws.specs.Text.{bytes}
 use Rattle.records.specs.Records.{is_header, first_from, record_to, record_from, offset_after, headers_from, all_records, record_number}
@@ -11,30 +11,30 @@ unfolding is_header first_from record_to record_from headers_from
 records = refl
 
 -- Numbers of records are from 0.
-last_record : record_number (bytes "A\n>a\nAC\n>b\r\nG*\r\n>c\n") 2 ≡ some ((16, 2), (19, 0))
+last_record : record_number (bytes "A\n>a\nAC\n>b\r\nG*\r\n>c\n") 2 ≡ Some ((16, 2), (19, 0))
 unfolding is_header first_from record_to record_from headers_from
 last_record = refl
 
-past_last_record : record_number (bytes "A\n>a\nAC\n>b\r\nG*\r\n>c\n") 3 ≡ none
+past_last_record : record_number (bytes "A\n>a\nAC\n>b\r\nG*\r\n>c\n") 3 ≡ None
 unfolding is_header first_from record_to record_from headers_from
 past_last_record = refl
 
 -- "from any offset the next header is the first line starting with > at or after it": from the middle of a line, and not a > inside a line.
-from_middle : record_from (bytes ">a\nA\n>b\nC") 1 ≡ some ((5, 2), (8, 1))
+from_middle : record_from (bytes ">a\nA\n>b\nC") 1 ≡ Some ((5, 2), (8, 1))
 unfolding is_header first_from record_to record_from headers_from
 from_middle = refl
 
-not_inside : record_from (bytes ">a>b\nC") 2 ≡ none
+not_inside : record_from (bytes ">a>b\nC") 2 ≡ None
 unfolding is_header first_from record_to record_from headers_from
 not_inside = refl
 
 -- "A header that the file's end cuts off has a second part of length 0 at the file's length": a CR with no LF is part of it.
-cut_off : record_from (bytes ">a\n>b\r") 1 ≡ some ((3, 3), (6, 0))
+cut_off : record_from (bytes ">a\n>b\r") 1 ≡ Some ((3, 3), (6, 0))
 unfolding is_header first_from record_to record_from headers_from
 cut_off = refl
 
 -- "past the file's end there is none"
-past_end : record_from (bytes ">a\nA\n") 7 ≡ none
+past_end : record_from (bytes ">a\nA\n") 7 ≡ None
 unfolding is_header first_from record_to record_from headers_from
 past_end = refl
 

@@ -8,7 +8,7 @@ use native.Mathlib.Numerals.{add-one}
 use native.Mathlib.Decide.{dec_lt, ℕ_discrete}
 use native.Mathlib.Omega.{arith}
 use mathlib.Core.Bool.{Bool, true, false, cond, ◌||◌, and-false, and-eq-true_iff}
-use mathlib.Core.Option.{Option, none, some}
+use Rattle.std.specs.Prelude.{Option, None, Some}
 use mathlib.Core.List.{List, [], ◌∷◌, map}
 use lib.ListN.{length, get_or, get_elem?}
 use lib.Dec.{eqb}
@@ -24,21 +24,21 @@ record First (test : ℕ → Bool) (p n h : ℕ) : Type 0 where
   low : p ≤ h
   high : h ≤ p + n
   passes : h < p + n → test h ≡ true
-  none : (j : ℕ) → p ≤ j → j < h → test j ≡ false
+  None : (j : ℕ) → p ≤ j → j < h → test j ≡ false
 
 first : (test : ℕ → Bool) (p n : ℕ) → First test p n (first_from test p n)
 unfolding first_from
-first test p zero = record { low = omega arith; high = omega arith; passes = λ h. absurd (omega arith); none = λ j a b. absurd (omega arith) }
+first test p zero = record { low = omega arith; high = omega arith; passes = λ h. absurd (omega arith); None = λ j a b. absurd (omega arith) }
 first test p (suc n) = go (test p) refl (first test (suc p) n)
   where
     go : (t : Bool) → test p ≡ t → First test (suc p) n (first_from test (suc p) n) → First test p (suc n) (cond t p (first_from test (suc p) n))
-    go true e g = record { low = omega arith; high = omega arith; passes = λ h. e; none = λ j a b. absurd (omega arith) }
+    go true e g = record { low = omega arith; high = omega arith; passes = λ h. e; None = λ j a b. absurd (omega arith) }
     go false e g =
         record {
           low = omega (arith, g.low);
           high = omega (arith, g.high);
           passes = λ h. g.passes (omega arith);
-          none = λ j a b.
+          None = λ j a b.
               elim (ℕ_discrete j p) as (λ _. test j ≡ false) [
                 | yes q ↦ rw q e
                 | no q ↦ g.none j (omega arith) b
@@ -160,8 +160,8 @@ module _ (file : List ℕ) (h : ℕ) (low : h < length file) (is : is_header fil
 
 -- Either none, and there are no records from there; or the first of the records from there, after which the others are left.
 data Next (file : List ℕ) (at : ℕ) : Type 0 where
-  none_left : record_from file at ≡ none → records_from file at ≡ [] → Next file at
-  one_more : (p : Parts) → record_from file at ≡ some p → records_from file at ≡ p ∷ records_from file (end_of p) → at < end_of p
+  none_left : record_from file at ≡ None → records_from file at ≡ [] → Next file at
+  one_more : (p : Parts) → record_from file at ≡ Some p → records_from file at ≡ p ∷ records_from file (end_of p) → at < end_of p
       → end_of p ≤ length file → Next file at
 
 no_more : (file : List ℕ) (at : ℕ) → length file ≤ header_at file at → Next file at
@@ -198,11 +198,11 @@ next file at =
       | no g ↦ no_more file at (omega arith)
     ]
 
-not_both : {p : Parts} {o : Option Parts} → o ≡ none → o ≡ some p → ⊥
+not_both : {p : Parts} {o : Option Parts} → o ≡ None → o ≡ Some p → ⊥
 not_both e f = let z : ◌≡◌ {A = ℕ} 0 1 = cc in omega arith
 
 -- A record ends within the file.
-pub ends_within : (file : List ℕ) (at : ℕ) (p : Parts) → record_from file at ≡ some p → end_of p ≤ length file
+pub ends_within : (file : List ℕ) (at : ℕ) (p : Parts) → record_from file at ≡ Some p → end_of p ≤ length file
 ends_within file at p e = go (next file at)
   where
     go : Next file at → end_of p ≤ length file
@@ -290,9 +290,9 @@ module _ (file : List ℕ) (at : ℕ) where
         go (none_left e f) = absurd (other (m ∙ ap (offset_after at) e))
         go (one_more p e f k l) = let end : moved ≡ end_of p = m ∙ ap (offset_after at) e in rw (end, f, s)
 
-    pub no_number : moved ≡ at → (n : ℕ) → none ≡ get_elem? (records_from file at) n
+    pub no_number : moved ≡ at → (n : ℕ) → None ≡ get_elem? (records_from file at) n
     no_number kept n = go (next file at)
       where
-        go : Next file at → none ≡ get_elem? (records_from file at) n
+        go : Next file at → None ≡ get_elem? (records_from file at) n
         go (none_left e f) = rw f
         go (one_more p e f k l) = let end : moved ≡ end_of p = m ∙ ap (offset_after at) e in absurd (omega arith)

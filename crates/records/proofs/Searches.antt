@@ -4,7 +4,7 @@ use Prim.Native.Nat.{ℕ, zero, suc, ◌+◌, ◌-◌, ◌<◌, ◌≤◌}
 use native.Mathlib.Numerals.{add-one}
 use native.Mathlib.Omega.{arith}
 use mathlib.Core.Bool.{Bool, true, false}
-use mathlib.Core.Option.{none, some}
+use Rattle.std.specs.Prelude.{None, Some}
 use mathlib.Core.List.{List}
 use lib.ListN.{length, get_or}
 use lib.Dec.{ltb}
@@ -76,24 +76,24 @@ module _ (file : List ℕ) (i : ℕ) where
 
 module _ (file : List ℕ) (h e : ℕ) where
   pub with_cr : e < length file → (end : ℕ) → end ≡ header_at file (e + 1) → get_or file (e - 1) 0 ≡ 13
-      → some ((h, e - 1 - h), (e + 1, end - (e + 1))) ≡ some (record_to file h e)
+      → Some ((h, e - 1 - h), (e + 1, end - (e + 1))) ≡ Some (record_to file h e)
   unfolding record_to
   with_cr g end f c = rw (lt-ltb e (length file) g, eq-eqb (get_or file (e - 1) 0) 13 c, f)
 
   pub with_lf : e < length file → (end : ℕ) → end ≡ header_at file (e + 1) → (get_or file (e - 1) 0 ≡ 13 → ⊥)
-      → some ((h, e - h), (e + 1, end - (e + 1))) ≡ some (record_to file h e)
+      → Some ((h, e - h), (e + 1, end - (e + 1))) ≡ Some (record_to file h e)
   unfolding record_to
   with_lf g end f c = rw (lt-ltb e (length file) g, ne_eqb (get_or file (e - 1) 0) 13 c, f)
 
-  pub cut_off : e ≡ length file → some ((h, e - h), (e, 0)) ≡ some (record_to file h e)
+  pub cut_off : e ≡ length file → Some ((h, e - h), (e, 0)) ≡ Some (record_to file h e)
   unfolding record_to
   cut_off g = rw (le-ltb e (length file) (omega arith), g)
 
 module _ (file : List ℕ) (at h : ℕ) (f : h ≡ header_at file at) where
-  pub some_record : h < length file → (e : ℕ) → e ≡ line_end file h → some (record_to file h e) ≡ record_from file at
+  pub some_record : h < length file → (e : ℕ) → e ≡ line_end file h → Some (record_to file h e) ≡ record_from file at
   unfolding record_from
   some_record g e k = rw (← f, lt-ltb h (length file) g, k)
 
-  pub no_record : length file ≤ h → none ≡ record_from file at
+  pub no_record : length file ≤ h → None ≡ record_from file at
   unfolding record_from
   no_record g = rw (← f, le-ltb h (length file) g)

@@ -1,7 +1,7 @@
 -- Document 01, "A record reader keeps the lent file with the offset reached": the record from an offset, all records of a file, what a reader
 -- promises, and reading with one until none is given.
 use Rattle.std.specs.Prelude.{◌≡◌, ℕ, zero, suc, ◌+◌, ◌-◌, Bool, cond, ◌&&◌, ◌||◌, List, [], ◌∷◌, map, length, get_or, eqb, ltb}
-use Rattle.std.proofs.Math.Option.{Option, none, some}
+use Rattle.std.specs.Prelude.{Option, None, Some}
 use Rattle.std.proofs.Math.ListN.{get_elem?}
 use Rattle.std.specs.Borrow.{Bor}
 use Rattle.records.specs.declared.Found.{Found}
@@ -20,8 +20,8 @@ end_of p = p.1.0 + p.1.1
 
 -- The code's answer in these terms: a record, or none.
 abbrev pub of_found : Found → Option Parts
-of_found (Record h hl b bl) = some ((h, hl), (b, bl))
-of_found Nothing = none
+of_found (Record h hl b bl) = Some ((h, hl), (b, bl))
+of_found Nothing = None
 
 -- ---- the record from an offset
 
@@ -65,12 +65,12 @@ record_of file h = record_to file h (line_end file h)
 
 -- What the reader gives from an offset: the record of the next header; "past the file's end there is none".
 unfoldable pub record_from : List ℕ → ℕ → Option Parts
-record_from file at = cond (ltb (header_at file at) (length file)) (some (record_of file (header_at file at))) none
+record_from file at = cond (ltb (header_at file at) (length file)) (Some (record_of file (header_at file at))) None
 
 -- "A record moves the offset to the record's end; none keeps it."
 abbrev pub offset_after : ℕ → Option Parts → ℕ
-offset_after at (some p) = end_of p
-offset_after at none = at
+offset_after at (Some p) = end_of p
+offset_after at None = at
 
 -- ---- all records
 
@@ -106,5 +106,5 @@ Moves r moved = (moved.file ≡ r.file) × (moved.at ≡ offset_after r.at (reco
 
 -- Reading with a reader until none is given: what `next` gives, in order, each time of the reader that `advanced` made of the one before.
 pub data Reads : Reader → List Parts → Type 0 where
-  ended : {r : Reader} → Gives r none → Reads r []
-  given : {r moved : Reader} {p : Parts} {rest : List Parts} → Gives r (some p) → Moves r moved → Reads moved rest → Reads r (p ∷ rest)
+  ended : {r : Reader} → Gives r None → Reads r []
+  given : {r moved : Reader} {p : Parts} {rest : List Parts} → Gives r (Some p) → Moves r moved → Reads moved rest → Reads r (p ∷ rest)

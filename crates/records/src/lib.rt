@@ -4,7 +4,7 @@
 #![tactic(auto)]
 
 ghost use Rattle.std.specs.Prelude.{◌≡◌, ◌<◌, ◌≤◌, length};
-ghost use Rattle.std.proofs.Math.Option.{some};
+ghost use Rattle.std.specs.Prelude.{Some};
 ghost use Rattle.records.specs.Records.{
   of_found,
   is_header,
@@ -68,7 +68,7 @@ fn header_at(file: &[u8], at: usize) -> usize
 // The record whose header starts at h and whose header line's LF is at e, the file's length where the file's end cuts it off.
 fn record_to(file: &[u8], h: usize, e: usize) -> Found
     requires { (h < e) × (e ≤ length file.now) }
-    ensures { of_found result ≡ some (record_to file.now h e) }
+    ensures { of_found result ≡ Some (record_to file.now h e) }
 {
     if e == file.len() {
         return Found::Record {

@@ -1,7 +1,7 @@
 -- What the calls that return P rest on: the number of a refusal is small, and a P of grounds that are small fits beside it. From the
 -- definitions of the refusals' numbers.
 use mathlib.Core.Path.{◌≡◌, refl, subst⁻¹}
-use mathlib.Core.Option.{Option, none, some}
+use Rattle.std.specs.Prelude.{Option, None, Some}
 use mathlib.Core.List.{List}
 use Prim.Native.Nat.{ℕ, ◌^◌, ◌<◌, ◌≤◌}
 use native.Mathlib.Omega.{arith}
@@ -50,5 +50,5 @@ module _ {g : Option Ground} {count : ℕ} {places old new : List ℕ} {a : Outc
   place_fits n small h = subst⁻¹ PlaceFits W.answers (go g small)
     where
       go : (o : Option Ground) → Small n o → PlaceFits (outcome o count)
-      go none s = tt
-      go (some f) s = omega (arith, s f refl)
+      go None s = tt
+      go (Some f) s = omega (arith, s f refl)

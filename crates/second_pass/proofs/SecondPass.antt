@@ -4,7 +4,7 @@ use mathlib.Core.Path.{◌≡◌, refl, sym, ap, ◌∙◌, subst, subst⁻¹}
 use Prim.Native.Nat.{ℕ, ◌≤◌}
 use native.Mathlib.Omega.{arith}
 use mathlib.Core.Bool.{Bool, true, false}
-use mathlib.Core.Option.{Option, none, some}
+use Rattle.std.specs.Prelude.{Option, None, Some}
 use mathlib.Core.List.{List, ◌++◌, map}
 use lib.ListN.{length, take, drop, length-map, take-append-drop}
 use lib.Seq.{take_all}
@@ -75,7 +75,7 @@ module _ (letters : List ℕ) (k : ℕ) (file : File) (n : Numbers) (F : CleanFi
       n_windows
       ∙ sym (length-map (file_windows (rank_by_table ranks) k file) f ∙ ap length (windows_by_table letters ranks T k (start_of file.kind) file.bytes))
 
-  pub few_windows : (m : ℕ) → settings_ground letters k m ≡ none → ◌≤◌ n.windows 16777216
+  pub few_windows : (m : ℕ) → settings_ground letters k m ≡ None → ◌≤◌ n.windows 16777216
   unfolding windows_of_file
   few_windows m good =
       let some_k = (good_settings letters k m good).some_k in
@@ -88,7 +88,7 @@ pub file_of_lem : (way : Way) (file : File) → call_file (call_of way file) ≡
 file_of_lem In file = refl
 file_of_lem Out file = refl
 
-module _ (letters : List ℕ) (k m : ℕ) (t : List ℕ) (file : File) (good : settings_ground letters k m ≡ none) (n : Numbers)
+module _ (letters : List ℕ) (k m : ℕ) (t : List ℕ) (file : File) (good : settings_ground letters k m ≡ None) (n : Numbers)
     (F : CleanFile letters k file n) where
   -- The last ground is read alike from the counts and from the table.
   last_same : (way : Way) → last_of way (places letters k m file) (take (class_count letters k m) t) ≡ last_ground letters k m t (call_of way file)
@@ -105,8 +105,8 @@ module _ (letters : List ℕ) (k m : ℕ) (t : List ℕ) (file : File) (good : s
 
   leaves_by : (g : Option Ground) (new old counts' : List ℕ) → old ≡ take (class_count letters k m) t → counts' ≡ unless_refused g new old
       → counts' ++ drop (class_count letters k m) t ≡ unless_refused g (new ++ drop (class_count letters k m) t) t
-  leaves_by none new old counts' o e = ap (λ (x : List ℕ). x ++ drop (class_count letters k m) t) e
-  leaves_by (some g) new old counts' o e =
+  leaves_by None new old counts' o e = ap (λ (x : List ℕ). x ++ drop (class_count letters k m) t) e
+  leaves_by (Some g) new old counts' o e =
       ap (λ (x : List ℕ). x ++ drop (class_count letters k m) t) (e ∙ o) ∙ take-append-drop (class_count letters k m) t
 
   by_classes : (way : Way) (ps : List ℕ) (answer : Outcome Numbers) (counts' : List ℕ) → ps ≡ places letters k m file

@@ -1,6 +1,6 @@
 -- What the functions of the second pass ask of each other and promise each other. No claim and no call of document 01 rests on it.
 use Rattle.std.specs.Prelude.{◌≡◌, ℕ, ◌≤◌, List, length}
-use Rattle.std.proofs.Math.Option.{Option, none}
+use Rattle.std.specs.Prelude.{Option, None}
 use Rattle.settings.specs.Grounds.{Ground, Outcome, ground, outcome, unless_refused}
 use Rattle.settings.specs.Settings.{rank_in}
 use Rattle.fasta.specs.declared.Numbers.{Numbers}
@@ -33,6 +33,6 @@ pub record CalledUnlessRefused (letters : List ℕ) (k mirror : ℕ) (t : List �
 
 -- The scan found no fault, and these numbers.
 pub record CleanFile (letters : List ℕ) (k : ℕ) (file : File) (n : Numbers) : Type 0 where
-  pub no_fault : file_fault file ≡ none
+  pub no_fault : file_fault file ≡ None
   pub numbers : n ≡ file_numbers (rank_in letters) k file
   pub short : length file.bytes ≤ 16777216

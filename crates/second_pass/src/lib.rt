@@ -3,7 +3,7 @@
 #![tactic(auto)]
 
 ghost use Rattle.std.specs.Prelude.{◌≡◌, ◌≤◌, length};
-ghost use Rattle.std.proofs.Math.Option.{none};
+ghost use Rattle.std.specs.Prelude.{None};
 ghost use Rattle.settings.specs.Settings.{classes, settings_ground, settings_of};
 ghost use Rattle.settings.specs.RankTables.{RankTable, RanksBelow};
 ghost use Rattle.files.specs.File.{file_of};
@@ -131,7 +131,7 @@ pub fn call_scanned(
     ranks: &[u8; 256],
     n: Numbers,
 ) -> Answer
-    requires no_ground { settings_ground letters.now k mirror ≡ none }
+    requires no_ground { settings_ground letters.now k mirror ≡ None }
     requires settings_are { st ≡ settings_of letters.now k mirror }
     requires rank_table { RankTable letters.now ranks.now }
     requires clean_file { CleanFile letters.now k (file_of kind file.now) n }

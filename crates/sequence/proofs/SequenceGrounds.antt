@@ -1,7 +1,7 @@
 -- The grounds of the calls along a sequence one after the other, as the calls meet them, and the codes of the settings by their coder.
 use mathlib.Core.Path.{◌≡◌, sym, ap, ◌∙◌, subst}
 use mathlib.Core.List.{List, map}
-use mathlib.Core.Option.{none}
+use Rattle.std.specs.Prelude.{None}
 use Prim.Native.Nat.{ℕ, ◌+◌, ◌-◌, ◌<◌, ◌≤◌}
 use borrow.Author.Tests.{lt-ltb, le-ltb}
 use lib.ListN.{length}
@@ -30,7 +30,7 @@ module _ (letters : List ℕ) (k m : ℕ) (sequence old : List ℕ) where
   unfolding sequence_ground
   settings_refused f e = kept_on (ground_of f) (settings_of letters k m) (settings_ground letters k m) _ _ _ old e
 
-  module _ (good : settings_ground letters k m ≡ none) where
+  module _ (good : settings_ground letters k m ≡ None) where
     some_k : 1 ≤ k
     some_k = (good_settings letters k m good).some_k
 

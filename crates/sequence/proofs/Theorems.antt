@@ -4,7 +4,7 @@ use mathlib.Core.Path.{◌≡◌, refl, sym, ap, ◌∙◌}
 use mathlib.Core.Bool.{Bool, true, false, cond}
 use mathlib.Core.List.{List, ◌++◌, map, map-append}
 use mathlib.Core.Logic.{◌↔◌}
-use mathlib.Core.Option.{none}
+use Rattle.std.specs.Prelude.{None}
 use Prim.Native.Nat.{ℕ, suc, ◌+◌, ◌-◌, ◌<◌, ◌≤◌}
 use native.Mathlib.Omega.{arith}
 use lib.ListN.{length, get_or, take, drop}
@@ -37,7 +37,7 @@ module _ (letters : List ℕ) (k m : ℕ) (sequence : List ℕ) (some_k : 1 ≤ 
   at_place j inside = window_at k some_k (code_or_none letters k m) j sequence inside
 
 -- Under good settings 2^64 - 1 is no code: it stands exactly for the words of k bytes of which one is no letter of the settings.
-pub no_code_lem : (letters : List ℕ) (k m : ℕ) → settings_ground letters k m ≡ none → (word : List ℕ) → length word ≡ k
+pub no_code_lem : (letters : List ℕ) (k m : ℕ) → settings_ground letters k m ≡ None → (word : List ℕ) → length word ≡ k
     → (code_or_none letters k m word ≡ no_code) ↔ (all_letters letters word ≡ false)
 unfolding code_or_none
 no_code_lem letters k m good word l = go (all_letters letters word)

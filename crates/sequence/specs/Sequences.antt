@@ -1,6 +1,6 @@
 -- Document 01, "Codes along a sequence", with the grounds for refusing the call: what both paths, the general and the two-bit one, promise.
 use Rattle.std.specs.Prelude.{ℕ, Bool, true, false, cond, ◌&&◌, List, [], ◌∷◌, map, length}
-use Rattle.std.proofs.Math.Option.{Option, none, some}
+use Rattle.std.specs.Prelude.{Option, None, Some}
 use Rattle.settings.specs.Grounds.{Ground, Outcome, ground, ground_at, too_short, ◌or_else◌, Overwrites}
 use Rattle.settings.specs.Settings.{rank_in, mirror_of, settings_ground}
 use Rattle.settings.specs.Limits.{too_long}
@@ -13,8 +13,8 @@ abbrev pub no_code : ℕ
 no_code = 18446744073709551615
 
 abbrev pub is_rank : Option ℕ → Bool
-is_rank none = false
-is_rank (some rank) = true
+is_rank None = false
+is_rank (Some rank) = true
 
 -- Whether every byte is a letter of the settings, that is, has a rank.
 unfoldable pub all_letters : List ℕ → List ℕ → Bool

@@ -7,7 +7,7 @@ mod batches;
 mod bytes;
 
 ghost use Rattle.std.specs.Prelude.{◌≡◌, length};
-ghost use Rattle.std.proofs.Math.Option.{none};
+ghost use Rattle.std.specs.Prelude.{None};
 ghost use Rattle.laws.specs.Text.{bytes};
 ghost use Rattle.settings.specs.Grounds.{of_filling};
 ghost use Rattle.settings.specs.Settings.{mirror_of, settings_ground, settings_of};
@@ -27,7 +27,7 @@ fn fill_checked(
     sequence: &[u8],
     list: &mut [u64],
 ) -> Filling
-    requires no_ground { settings_ground letters.now k mirror ≡ none }
+    requires no_ground { settings_ground letters.now k mirror ≡ None }
     requires settings_are { st ≡ settings_of letters.now k mirror }
     requires takes { Takes kernel (length letters.now) (mirror_of mirror) }
     ensures { FillsCodes letters.now k mirror sequence.now list.old (of_filling result) list.new }

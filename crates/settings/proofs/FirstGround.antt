@@ -2,7 +2,7 @@
 -- answer; or a number that is one of a list.
 use mathlib.Core.Path.{◌≡◌, refl, subst}
 use mathlib.Core.Bool.{Bool, true, false, not, cond, or-true}
-use mathlib.Core.Option.{Option, none, some}
+use Rattle.std.specs.Prelude.{Option, None, Some}
 use mathlib.Core.List.{List, [], ◌∷◌, ◌++◌}
 use Prim.Native.Nat.{ℕ, ◌≤◌}
 use native.Mathlib.Omega.{arith}
@@ -13,27 +13,27 @@ use Rattle.settings.specs.Settings.{is_in, good_letters, bad_size, settings_grou
 
 -- The ground that applies, where one does, has the property Q.
 abbrev pub Has : (Ground → Type 0) → Option Ground → Type 0
-Has Q g = (f : Ground) → g ≡ some f → Q f
+Has Q g = (f : Ground) → g ≡ Some f → Q f
 
 module _ (Q : Ground → Type 0) where
-  pub none_has : Has Q none
+  pub none_has : Has Q None
   none_has f e = absurd (let z : ◌≡◌ {A = ℕ} 0 1 = cc in omega arith)
 
-  pub some_has : (g : Ground) → Q g → Has Q (some g)
+  pub some_has : (g : Ground) → Q g → Has Q (Some g)
   some_has g h f e = let z : g ≡ f = cc in subst Q z h
 
   pub test_has : (i : ℕ) (t : Bool) → Q (i, 0) → Has Q (ground i t)
   test_has i true h = some_has (i, 0) h
   test_has i false h = none_has
 
-  pub place_has : (i : ℕ) (o : Option ℕ) → ((p : ℕ) → o ≡ some p → Q (i, p)) → Has Q (ground_at i o)
-  place_has i none h = none_has
-  place_has i (some p) h = some_has (i, p) (h p refl)
+  pub place_has : (i : ℕ) (o : Option ℕ) → ((p : ℕ) → o ≡ Some p → Q (i, p)) → Has Q (ground_at i o)
+  place_has i None h = none_has
+  place_has i (Some p) h = some_has (i, p) (h p refl)
 
   -- The later grounds count only where the first does not apply.
-  pub then_has : (g later : Option Ground) → Has Q g → (g ≡ none → Has Q later) → Has Q (g or_else later)
-  then_has none later a b = b refl
-  then_has (some h) later a b = a
+  pub then_has : (g later : Option Ground) → Has Q g → (g ≡ None → Has Q later) → Has Q (g or_else later)
+  then_has None later a b = b refl
+  then_has (Some h) later a b = a
 
   -- The settings' grounds are 1, 2 and 4, with the P 0.
   pub settings_has : (letters : List ℕ) (k m : ℕ) → Q (1, 0) → Q (2, 0) → Q (4, 0) → Has Q (settings_ground letters k m)
@@ -46,7 +46,7 @@ module _ (Q : Ground → Type 0) where
 
   -- After these many calls have 6 by some test, then 7 for some length.
   pub sizes_has : (letters : List ℕ) (k m : ℕ) (large : Bool) (room needed : ℕ) → Q (1, 0) → Q (2, 0) → Q (4, 0) → Q (6, 0)
-      → (settings_ground letters k m ≡ none → ground 6 large ≡ none → (p : ℕ) → too_short room needed ≡ some p → Q (7, p))
+      → (settings_ground letters k m ≡ None → ground 6 large ≡ None → (p : ℕ) → too_short room needed ≡ Some p → Q (7, p))
       → Has Q (settings_ground letters k m or_else ground 6 large or_else ground_at 7 (too_short room needed))
   sizes_has letters k m large room needed one two four six seven =
       let g7 = ground_at 7 (too_short room needed) in
@@ -80,19 +80,19 @@ Small n g = Has (PlaceUpTo n) g
 pub test_small : (n i : ℕ) (t : Bool) → Small n (ground i t)
 test_small n i t = test_has (PlaceUpTo n) i t (omega arith)
 
-pub place_small : (n i : ℕ) (o : Option ℕ) → ((p : ℕ) → o ≡ some p → p ≤ n) → Small n (ground_at i o)
+pub place_small : (n i : ℕ) (o : Option ℕ) → ((p : ℕ) → o ≡ Some p → p ≤ n) → Small n (ground_at i o)
 place_small n i o h = place_has (PlaceUpTo n) i o h
 
-pub then_small : (n : ℕ) (g later : Option Ground) → Small n g → (g ≡ none → Small n later) → Small n (g or_else later)
+pub then_small : (n : ℕ) (g later : Option Ground) → Small n g → (g ≡ None → Small n later) → Small n (g or_else later)
 then_small n g later a b = then_has (PlaceUpTo n) g later a b
 
 pub settings_small : (letters : List ℕ) (k m n : ℕ) → Small n (settings_ground letters k m)
 settings_small letters k m n = settings_has (PlaceUpTo n) letters k m (omega arith) (omega arith) (omega arith)
 
 -- The P of ground 7 is the length needed.
-pub room_small : (room k : ℕ) → (p : ℕ) → too_short room k ≡ some p → p ≤ k
+pub room_small : (room k : ℕ) → (p : ℕ) → too_short room k ≡ Some p → p ≤ k
 room_small room k p e = go (ltb room k) e
   where
-    go : (t : Bool) → cond t (some k) none ≡ some p → p ≤ k
+    go : (t : Bool) → cond t (Some k) None ≡ Some p → p ≤ k
     go true f = let z : k ≡ p = cc in omega arith
     go false f = absurd (let z : ◌≡◌ {A = ℕ} 0 1 = cc in omega arith)

@@ -2,7 +2,7 @@
 -- pass the check have them.
 use mathlib.Core.Path.{◌≡◌, refl, sym, ap, subst, ◌∙◌}
 use mathlib.Core.Bool.{Bool, true, false, not, ◌&&◌, ◌||◌, cond, and-eq-true_iff, false≢true}
-use mathlib.Core.Option.{none, some}
+use Rattle.std.specs.Prelude.{None, Some}
 use mathlib.Core.List.{List, [], ◌∷◌}
 use Prim.Native.Nat.{ℕ, zero, suc, ◌+◌, ◌≤◌, ◌<◌}
 use native.Mathlib.Omega.{arith}
@@ -35,16 +35,16 @@ unfolding capital_of
 capital_own b h = rw (lt-leb 97 b (omega arith))
 
 -- The letter at the place where a byte is found is the byte.
-pub found : (n b : ℕ) (ls : List ℕ) → is_in b ls ≡ true → (p : ℕ) × (place_from n b ls ≡ some (n + p)) × (get_or ls p 0 ≡ b)
+pub found : (n b : ℕ) (ls : List ℕ) → is_in b ls ≡ true → (p : ℕ) × (place_from n b ls ≡ Some (n + p)) × (get_or ls p 0 ≡ b)
 unfolding is_in place_from
 found n b [] i = absurd (false≢true i)
 found n b (l ∷ ls) i = go (eqb l b) refl i (found (suc n) b ls)
   where
     go : (t : Bool) → eqb l b ≡ t → (t || is_in b ls) ≡ true
-        → (is_in b ls ≡ true → (p : ℕ) × (place_from (suc n) b ls ≡ some (suc n + p)) × (get_or ls p 0 ≡ b))
-        → (p : ℕ) × (cond t (some n) (place_from (suc n) b ls) ≡ some (n + p)) × (get_or (l ∷ ls) p 0 ≡ b)
-    go true f g ih = (0, ap (λ (x : ℕ). some x) (omega arith), eqb-true l b f)
-    go false f g ih = let (p, e, h) = ih g in (suc p, e ∙ ap (λ (x : ℕ). some x) (omega arith), h)
+        → (is_in b ls ≡ true → (p : ℕ) × (place_from (suc n) b ls ≡ Some (suc n + p)) × (get_or ls p 0 ≡ b))
+        → (p : ℕ) × (cond t (Some n) (place_from (suc n) b ls) ≡ Some (n + p)) × (get_or (l ∷ ls) p 0 ≡ b)
+    go true f g ih = (0, ap (λ (x : ℕ). Some x) (omega arith), eqb-true l b f)
+    go false f g ih = let (p, e, h) = ih g in (suc p, e ∙ ap (λ (x : ℕ). Some x) (omega arith), h)
 
 -- The letter at a place is among the letters.
 pub in_at : (ls : List ℕ) (i : ℕ) → i < length ls → is_in (get_or ls i 0) ls ≡ true
@@ -58,16 +58,16 @@ in_at (l ∷ ls) (suc i) h = go (eqb l (get_or ls i 0)) (in_at ls i (omega arith
     go false e = e
 
 -- Each of different letters is found at its own place.
-own_place : (n : ℕ) (ls : List ℕ) (i : ℕ) → different_capitals ls ≡ true → i < length ls → place_from n (get_or ls i 0) ls ≡ some (n + i)
+own_place : (n : ℕ) (ls : List ℕ) (i : ℕ) → different_capitals ls ≡ true → i < length ls → place_from n (get_or ls i 0) ls ≡ Some (n + i)
 unfolding place_from different_capitals
 own_place n [] i e h = absurd (omega arith)
-own_place n (l ∷ ls) zero e h = rw (eq-eqb l l refl) (ap (λ (x : ℕ). some x) (omega arith))
+own_place n (l ∷ ls) zero e h = rw (eq-eqb l l refl) (ap (λ (x : ℕ). Some x) (omega arith))
 own_place n (l ∷ ls) (suc i) e h =
     let rest = (and-eq-true_iff (not (is_in l ls)) (different_capitals ls)).0
     ((and-eq-true_iff (is_capital l) (not (is_in l ls) && different_capitals ls)).0 e).1 in
     let other : (l ≡ get_or ls i 0) → ⊥ = λ s.
     false≢true (sym (not-true (is_in l ls) rest.0) ∙ ap (λ (x : ℕ). is_in x ls) s ∙ in_at ls i (omega arith)) in
-    rw (ne_eqb l (get_or ls i 0) other) (own_place (suc n) ls i rest.1 (omega arith) ∙ ap (λ (x : ℕ). some x) (omega arith))
+    rw (ne_eqb l (get_or ls i 0) other) (own_place (suc n) ls i rest.1 (omega arith) ∙ ap (λ (x : ℕ). Some x) (omega arith))
 
 module _ (letters : List ℕ) (capitals : different_capitals letters ≡ true) where
   -- A letter of the settings is read as itself, U too where it is one.
@@ -83,9 +83,9 @@ module _ (letters : List ℕ) (capitals : different_capitals letters ≡ true) w
       go own false e = sym (read_other letters b (λ z. eqb-false b 85 e (sym own ∙ z))) ∙ own
 
   -- The letter of a rank has that rank.
-  pub rank_at_lem : (i : ℕ) → i < length letters → rank_in letters (get_or letters i 0) ≡ some i
-  rank_at_lem i h = rw (read_capital (get_or letters i 0) (in_at letters i h)) (own_place 0 letters i capitals h ∙ ap (λ (x : ℕ). some x) (omega arith))
+  pub rank_at_lem : (i : ℕ) → i < length letters → rank_in letters (get_or letters i 0) ≡ Some i
+  rank_at_lem i h = rw (read_capital (get_or letters i 0) (in_at letters i h)) (own_place 0 letters i capitals h ∙ ap (λ (x : ℕ). Some x) (omega arith))
 
 -- The letters of settings that pass the check are different capitals.
-pub capitals_differ : (letters : List ℕ) (k m : ℕ) → settings_ground letters k m ≡ none → different_capitals letters ≡ true
+pub capitals_differ : (letters : List ℕ) (k m : ℕ) → settings_ground letters k m ≡ None → different_capitals letters ≡ true
 capitals_differ letters k m good = let g = good_settings letters k m good in sym (some_letters letters g.two g.few) ∙ g.capitals

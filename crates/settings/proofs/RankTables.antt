@@ -1,6 +1,6 @@
 -- A rank as a byte, and the table of all bytes' ranks: filled from the front by the loop of `fill_rank_table`, and the ranks that it has.
 use mathlib.Core.Path.{◌≡◌, sym, ◌∙◌}
-use mathlib.Core.Option.{none, some}
+use Rattle.std.specs.Prelude.{None, Some}
 use mathlib.Core.List.{List}
 use Prim.Native.Nat.{ℕ, ◌<◌, ◌+◌, ◌≤◌}
 use native.Mathlib.Omega.{arith}
@@ -14,11 +14,11 @@ use Rattle.settings.proofs.Ranks.{rank_below_count}
 -- ---- a rank as a byte
 
 module _ (x : ℕ) where
-  pub as_none : x ≡ 255 → as_rank x ≡ none
+  pub as_none : x ≡ 255 → as_rank x ≡ None
   unfolding as_rank
   as_none e = rw (eq-eqb x 255 e)
 
-  pub as_itself : (x ≡ 255 → ⊥) → as_rank x ≡ some x
+  pub as_itself : (x ≡ 255 → ⊥) → as_rank x ≡ Some x
   unfolding as_rank
   as_itself e = rw (ne_eqb x 255 e)
 

@@ -2,7 +2,7 @@
 -- is below the number of letters.
 use mathlib.Core.Path.{◌≡◌, sym}
 use mathlib.Core.Bool.{Bool, cond, true, false, and-true, and-false}
-use mathlib.Core.Option.{some, none}
+use Rattle.std.specs.Prelude.{Some, None}
 use mathlib.Core.List.{List, [], ◌∷◌}
 use Prim.Native.Nat.{ℕ, ◌<◌, ◌+◌, ◌≤◌, suc}
 use native.Mathlib.Numerals.{add-one}
@@ -40,7 +40,7 @@ module _ (letters : List ℕ) where
 -- ---- its place among the letters
 
 module _ (l : List ℕ) (i u : ℕ) where
-  pub place_here : i < length l → get_or l i 0 ≡ u → place_from i u (drop i l) ≡ some i
+  pub place_here : i < length l → get_or l i 0 ≡ u → place_from i u (drop i l) ≡ Some i
   unfolding place_from
   place_here h e = rw (drop-cons l i 0 h, eq-eqb (get_or l i 0) u e)
 
@@ -48,20 +48,20 @@ module _ (l : List ℕ) (i u : ℕ) where
   unfolding place_from
   place_next h e = rw (add-one i, drop-cons l i 0 h, ne_eqb (get_or l i 0) u e)
 
-  pub place_none : length l ≤ i → place_from i u (drop i l) ≡ none
+  pub place_none : length l ≤ i → place_from i u (drop i l) ≡ None
   unfolding place_from
   place_none h = rw (drop_of_length-le l h)
 
-place_below : (n b : ℕ) (ls : List ℕ) (x : ℕ) → place_from n b ls ≡ some x → x < n + length ls
+place_below : (n b : ℕ) (ls : List ℕ) (x : ℕ) → place_from n b ls ≡ Some x → x < n + length ls
 unfolding place_from
 place_below n b [] x e = let z : ◌≡◌ {A = ℕ} 0 1 = cc in absurd (omega arith)
 place_below n b (l ∷ ls) x e = go (eqb l b) e (place_below (suc n) b ls x)
   where
-    go : (t : Bool) → cond t (some n) (place_from (suc n) b ls) ≡ some x → (place_from (suc n) b ls ≡ some x → x < suc n + length ls)
+    go : (t : Bool) → cond t (Some n) (place_from (suc n) b ls) ≡ Some x → (place_from (suc n) b ls ≡ Some x → x < suc n + length ls)
         → x < n + suc (length ls)
     go true f ih = let same : n ≡ x = cc in omega arith
     go false f ih = omega (arith, ih f)
 
 -- A rank is below the number of letters.
-pub rank_below_count : (letters : List ℕ) (b x : ℕ) → some x ≡ rank_in letters b → x < length letters
+pub rank_below_count : (letters : List ℕ) (b x : ℕ) → Some x ≡ rank_in letters b → x < length letters
 rank_below_count letters b x e = omega (arith, place_below 0 _ letters x (sym e))

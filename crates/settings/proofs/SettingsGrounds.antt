@@ -1,7 +1,7 @@
 -- The grounds 1, 2 and 4 one after the other, as `check` meets them; and what is known of settings to which none of them applies.
 use mathlib.Core.Path.{◌≡◌, sym, ap}
 use mathlib.Core.Bool.{false, true, not}
-use mathlib.Core.Option.{none}
+use Rattle.std.specs.Prelude.{None}
 use mathlib.Core.List.{List}
 use Prim.Native.Nat.{ℕ, ◌<◌, ◌≤◌, ◌^◌}
 use native.Mathlib.Omega.{arith}
@@ -50,7 +50,7 @@ pub record GoodSettings (l : List ℕ) (k m : ℕ) : Type 0 where
   pub small : length l ^ k ≤ 2 ^ 62
 
 -- Settings to which no ground applies are good.
-pub good_settings : (l : List ℕ) (k m : ℕ) → settings_ground l k m ≡ none → GoodSettings l k m
+pub good_settings : (l : List ℕ) (k m : ℕ) → settings_ground l k m ≡ None → GoodSettings l k m
 unfolding settings_ground bad_size
 good_settings l k m e =
     let g2 = later_none (ground 1 (not (good_letters l))) _ e in
@@ -70,14 +70,14 @@ good_settings l k m e =
     }
 
 -- Settings that pass the check are within the limits.
-pub limits : (l : List ℕ) (k m : ℕ) → settings_ground l k m ≡ none → Limits (length l) k
+pub limits : (l : List ℕ) (k m : ℕ) → settings_ground l k m ≡ None → Limits (length l) k
 limits l k m e =
     let g = good_settings l k m e in
     record { two = g.two; few = g.few; small = g.small }
 
 -- What a call knows of settings that the check gave.
 pub record Known (l : List ℕ) (k m : ℕ) (st : Settings) : Type 0 where
-  pub none_applies_lem : settings_ground l k m ≡ none
+  pub none_applies_lem : settings_ground l k m ≡ None
   pub mirror_is : st.mirror ≡ mirror_of m
   pub classes_are : st.classes ≡ classes (length l) (mirror_of m) k
   pub within : Limits (length l) k

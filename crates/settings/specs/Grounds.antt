@@ -1,7 +1,7 @@
 -- Document 01, "Grounds for refusing", and document 02, K1 (15 to 17), K4 (18), K5 (19) and K7 (20 to 22): how a call reports a refusal, and the order in
 -- which grounds are tried.
 use Rattle.std.specs.Prelude.{ℕ, ◌≡◌, Bool, true, false, cond, List, ◌++◌, length, drop, ltb}
-use Rattle.std.proofs.Math.Option.{Option, none, some}
+use Rattle.std.specs.Prelude.{Option, None, Some}
 use Rattle.settings.specs.declared.Filling.{Filling}
 use Rattle.settings.specs.declared.Filling.TheVariants.{Filled, Unfilled}
 use Rattle.settings.specs.declared.Refusal.{Refusal}
@@ -44,33 +44,33 @@ pub data Outcome (A : Type 0) : Type 0 where
 
 -- Ground n with P = 0, if it applies.
 abbrev pub ground : ℕ → Bool → Option Ground
-ground n true = some (n, 0)
-ground n false = none
+ground n true = Some (n, 0)
+ground n false = None
 
 -- Ground n with its P, if it applies: the first place where it is met, or for 7 the length needed.
 abbrev pub ground_at : ℕ → Option ℕ → Option Ground
-ground_at n none = none
-ground_at n (some p) = some (n, p)
+ground_at n None = None
+ground_at n (Some p) = Some (n, p)
 
 -- "Checks go in number order", save that 15 to 17 "stand where 10 and 11 stood": the first ground, and only if it does not apply the later ones.
 infixr 20 ◌or_else◌
 abbrev pub ◌or_else◌ : Option Ground → Option Ground → Option Ground
-none or_else later = later
-some g or_else later = some g
+None or_else later = later
+Some g or_else later = Some g
 
 -- The value of a call to which no ground applies; otherwise the first ground that does.
 abbrev pub outcome : {A : Type 0} → Option Ground → A → Outcome A
-outcome none a = given a
-outcome (some g) a = refused g
+outcome None a = given a
+outcome (Some g) a = refused g
 
 -- Ground 7, "a lent buffer too short; P is the length needed": that length, where the buffer has less room.
 abbrev pub too_short : (room needed : ℕ) → Option ℕ
-too_short room needed = cond (ltb room needed) (some needed) none
+too_short room needed = cond (ltb room needed) (Some needed) None
 
 -- What a call leaves: something new where no ground applies, and else what was there: "all change no buffer".
 abbrev pub unless_refused : {A : Type 0} → Option Ground → (new old : A) → A
-unless_refused none new old = new
-unless_refused (some g) new old = old
+unless_refused None new old = new
+unless_refused (Some g) new old = old
 
 -- A lent buffer after a call that overwrites it from its start: the new places and then the old ones; all as before where the call is refused.
 abbrev pub overwritten : Option Ground → (places old : List ℕ) → List ℕ

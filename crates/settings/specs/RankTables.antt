@@ -1,11 +1,11 @@
 -- What functions that look letters up ask of a table of all bytes' ranks. It is made once a call; no sentence of document 01 rests on it.
 use Rattle.std.specs.Prelude.{◌≡◌, cond, List, ℕ, ◌<◌, eqb, get_or}
-use Rattle.std.proofs.Math.Option.{Option, none, some}
+use Rattle.std.specs.Prelude.{Option, None, Some}
 use Rattle.settings.specs.Settings.{rank_in}
 
 -- A byte that holds a rank, or 255 for none: the settings have at most 16 letters.
 unfoldable pub as_rank : ℕ → Option ℕ
-as_rank x = cond (eqb x 255) none (some x)
+as_rank x = cond (eqb x 255) None (Some x)
 
 -- The rank of b by a table.
 abbrev pub rank_by_table : List ℕ → ℕ → Option ℕ
@@ -17,4 +17,4 @@ pub record RankTable (letters table : List ℕ) : Type 0 where
 
 -- A table whose ranks are all below s.
 pub record RanksBelow (s : ℕ) (table : List ℕ) : Type 0 where
-  pub below : (b x : ℕ) → b < 256 → rank_by_table table b ≡ some x → x < s
+  pub below : (b x : ℕ) → b < 256 → rank_by_table table b ≡ Some x → x < s

@@ -1,6 +1,6 @@
 -- Document 01, "Letters, k and mirror", with the grounds for refusing settings, as document 02, K10 changes them, and a byte's rank, as K2 does.
 use Rattle.std.specs.Prelude.{ℕ, zero, suc, ◌+◌, ◌-◌, ◌/◌, ◌%◌, ◌^◌, ◌≡◌, Bool, true, false, not, cond, ◌&&◌, ◌||◌, List, [], ◌∷◌, length, eqb, leb, ltb}
-use Rattle.std.proofs.Math.Option.{Option, none, some}
+use Rattle.std.specs.Prelude.{Option, None, Some}
 use Rattle.settings.specs.declared.Mirror.{Mirror}
 use Rattle.settings.specs.declared.Mirror.TheVariants.{Reversal, Complement}
 use Rattle.settings.specs.declared.Settings.{Settings}
@@ -35,8 +35,8 @@ capital_of b = cond (leb 97 b && leb b 122) (b - 32) b
 
 -- The place of b in a list whose first place has the number n.
 unfoldable pub place_from : ℕ → ℕ → List ℕ → Option ℕ
-place_from n b [] = none
-place_from n b (l ∷ ls) = cond (eqb l b) (some n) (place_from (suc n) b ls)
+place_from n b [] = None
+place_from n b (l ∷ ls) = cond (eqb l b) (Some n) (place_from (suc n) b ls)
 
 -- "Where the settings have T and no U" (document 02, K2): T is 84, U 85.
 unfoldable pub reads_u_as_t : List ℕ → Bool
@@ -83,7 +83,7 @@ settings_ground letters k mirror =
 
 -- The refusals on these grounds have no other numbers than those in a list.
 abbrev pub RefusedOnlyBy : (numbers : List ℕ) → Option Ground → Type 0
-RefusedOnlyBy numbers g = (f : Ground) → g ≡ some f → is_in f.0 numbers ≡ true
+RefusedOnlyBy numbers g = (f : Ground) → g ≡ Some f → is_in f.0 numbers ≡ true
 
 -- What later calls need of good settings with s letters: s, k, the mirror, s^k and the number of classes.
 abbrev pub settings_for : ℕ → ℕ → Mirror → Settings
@@ -99,5 +99,5 @@ of_checked (Good st) = given st
 of_checked (Bad f) = refused (ground_of f)
 
 abbrev pub of_rank : Rank → Option ℕ
-of_rank NoLetter = none
-of_rank (At n) = some n
+of_rank NoLetter = None
+of_rank (At n) = Some n

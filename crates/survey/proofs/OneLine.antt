@@ -2,7 +2,7 @@
 -- forms as we print them (`the_settings_line`). k is spelt in one way only, its decimal digits, and 0 and 1 are the numbers of one mirror each.
 use mathlib.Core.Path.{◌≡◌, refl, sym, ap, ◌∙◌}
 use mathlib.Core.Logic.{◌≢◌}
-use mathlib.Core.Option.{none}
+use Rattle.std.specs.Prelude.{None}
 use mathlib.Core.List.{List, [], ◌∷◌, ◌++◌, append_assoc, append-nil}
 use Prim.Native.Nat.{ℕ, ◌+◌, ◌-◌, ◌*◌, ◌/◌, ◌%◌, ◌≤◌}
 use native.Mathlib.Omega.{arith}
@@ -66,7 +66,7 @@ same_values letters {k} {k'} {mirror} e f =
     ap (λ (x : List ℕ). line_of (settings_forms letters x mirror)) e ∙ ap (λ (x : List ℕ). line_of (settings_forms letters k' x)) f
 
 -- Whatever its end and the file behind it are.
-pub the_settings_line : {input letters file : List ℕ} {k mirror : ℕ} → settings_ground letters k mirror ≡ none → (S : SurveyInput input letters k mirror file)
+pub the_settings_line : {input letters file : List ℕ} {k mirror : ℕ} → settings_ground letters k mirror ≡ None → (S : SurveyInput input letters k mirror file)
     → S.line ≡ line_of (printed_forms letters k mirror)
 the_settings_line {letters = letters} {k = k} {mirror = mirror} passed S =
     let known = (good_settings letters k mirror passed).low in

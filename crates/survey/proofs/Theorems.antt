@@ -3,7 +3,7 @@
 -- (document 02, K6): its settings' part, closed, is read back, and itself it is none of these. From the two directions (LineRead, LineThere), what the line
 -- that we print is (Written), and that settings which are not refused have one survey line (OneLine).
 use mathlib.Core.Path.{◌≡◌, refl, sym, ap, ◌∙◌, subst}
-use mathlib.Core.Option.{none}
+use Rattle.std.specs.Prelude.{None}
 use mathlib.Core.List.{List, ◌++◌, append-nil, append_assoc}
 use Prim.Native.Nat.{ℕ, ◌≤◌}
 use native.Mathlib.Omega.{arith}
@@ -115,7 +115,7 @@ reads_back letters k mirror good small known ends = reads_all (line_written lett
 
 -- So it is for what we print: only settings that pass the check are printed, and the settings' part of the line that is printed for them (`printed_line`),
 -- closed, is read as the same letters, the same k and the same mirror.
-pub reads_back_the_settings_part : (letters : List ℕ) (k mirror : ℕ) {end file : List ℕ} → settings_ground letters k mirror ≡ none → LineEnd end file
+pub reads_back_the_settings_part : (letters : List ℕ) (k mirror : ℕ) {end file : List ℕ} → settings_ground letters k mirror ≡ None → LineEnd end file
     → read_input (line_of (printed_forms letters k mirror) ++ (end ++ file)) ≡ given (input_parts letters k mirror file)
 reads_back_the_settings_part letters k mirror passed =
     let good = good_settings letters k mirror passed in
@@ -137,7 +137,7 @@ reads_no_further_form_in_another_order part rest o e =
     rw (further_form_in_another_order part rest s.letters_good s.k_good s.mirror_good s.order e)
 
 -- The line that we print is such a line, whatever follows it.
-pub reads_no_printed_line : (letters : List ℕ) (k mirror : ℕ) (rest : List ℕ) → settings_ground letters k mirror ≡ none
+pub reads_no_printed_line : (letters : List ℕ) (k mirror : ℕ) (rest : List ℕ) → settings_ground letters k mirror ≡ None
     → read_input (survey_line letters k mirror ++ rest) ≡ refused (13, 0)
 unfolding read_input
 reads_no_printed_line letters k mirror rest passed =
@@ -147,7 +147,7 @@ reads_no_printed_line letters k mirror rest passed =
 
 -- "Where the settings are not refused, equal settings then mean equal lines, save for the line's end" (document 02, K5): both are the line of the
 -- settings' forms as we print them.
-pub equal_settings_equal_lines : {input input' letters file file' : List ℕ} {k mirror : ℕ} → settings_ground letters k mirror ≡ none
+pub equal_settings_equal_lines : {input input' letters file file' : List ℕ} {k mirror : ℕ} → settings_ground letters k mirror ≡ None
     → (S : SurveyInput input letters k mirror file) (S' : SurveyInput input' letters k mirror file') → S.line ≡ S'.line
 equal_settings_equal_lines passed S S' = the_settings_line passed S ∙ sym (the_settings_line passed S')
 
@@ -177,8 +177,8 @@ equal_lines_equal_settings S S' e =
     (one.0, one.1, one.2)
 
 -- So do equal lines of those that we print: the settings of two listings are compared by their first lines.
-pub equal_printed_lines_equal_settings : {letters letters' : List ℕ} {k k' mirror mirror' : ℕ} → settings_ground letters k mirror ≡ none
-    → settings_ground letters' k' mirror' ≡ none → survey_line letters k mirror ≡ survey_line letters' k' mirror'
+pub equal_printed_lines_equal_settings : {letters letters' : List ℕ} {k k' mirror mirror' : ℕ} → settings_ground letters k mirror ≡ None
+    → settings_ground letters' k' mirror' ≡ None → survey_line letters k mirror ≡ survey_line letters' k' mirror'
     → (letters ≡ letters') × (k ≡ k') × (mirror ≡ mirror')
 equal_printed_lines_equal_settings {letters} {letters'} {k} {k'} {mirror} {mirror'} passed passed' e =
     let v = values_good letters k mirror passed in

@@ -3,7 +3,7 @@
 -- the texts and what is known of such settings.
 use mathlib.Core.Path.{◌≡◌, refl, sym, ◌∙◌}
 use mathlib.Core.Bool.{Bool, true, false, not, ◌&&◌, and-eq-true_iff}
-use mathlib.Core.Option.{none}
+use Rattle.std.specs.Prelude.{None}
 use mathlib.Core.List.{List, [], ◌∷◌, ◌++◌, append_assoc, append-nil}
 use Prim.Native.Nat.{ℕ, zero, suc, ◌+◌, ◌/◌, ◌%◌, ◌≤◌}
 use native.Mathlib.Omega.{arith}
@@ -33,7 +33,7 @@ capital_letters (b ∷ letters) e =
     let others = ((and-eq-true_iff (not (is_in b letters)) (different_capitals letters)).0 first.1).1 in
     (letter_above b (omega arith), capital_letters letters others)
 
-pub good_letters_lem : (letters : List ℕ) (k mirror : ℕ) → settings_ground letters k mirror ≡ none → LettersText letters
+pub good_letters_lem : (letters : List ℕ) (k mirror : ℕ) → settings_ground letters k mirror ≡ None → LettersText letters
 good_letters_lem letters k mirror passed =
     let good = good_settings letters k mirror passed in
     let capitals = sym (some_letters letters good.two good.few) ∙ good.capitals in
@@ -88,7 +88,7 @@ pub record Printed (letters : List ℕ) (k mirror : ℕ) : Type 0 where
   pub k_good : KText (decimal k) k
   pub mirror_good : MirrorText (mirror_name mirror) mirror
 
-pub values_good : (letters : List ℕ) (k mirror : ℕ) → settings_ground letters k mirror ≡ none → Printed letters k mirror
+pub values_good : (letters : List ℕ) (k mirror : ℕ) → settings_ground letters k mirror ≡ None → Printed letters k mirror
 values_good letters k mirror passed =
     let good = good_settings letters k mirror passed in
     record {

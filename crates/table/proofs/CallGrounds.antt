@@ -4,7 +4,7 @@ use mathlib.Mathlib.Data.Bool.Basic.{or-eq-false-eq-eq-false-and-eq-false}
 use Prim.Native.Nat.{ℕ, ◌<◌, ◌≤◌}
 use native.Mathlib.Omega.{arith}
 use mathlib.Core.Bool.{false, ◌||◌}
-use mathlib.Core.Option.{none}
+use Rattle.std.specs.Prelude.{None}
 use mathlib.Core.List.{List, ◌++◌}
 use lib.ListN.{length, drop, replicate, length-replicate}
 use borrow.Author.Tests.{lt-ltb, le-ltb, ltb-false}
@@ -56,7 +56,7 @@ module _ (letters : List ℕ) (k m : ℕ) (t : List ℕ) where
 -- ---- before the file of a call is read
 
 -- Where ground 6 does not apply, the file is short enough and the classes are few enough.
-module _ (letters : List ℕ) (k m : ℕ) (bytes : List ℕ) (e : ground 6 (too_long bytes || too_many (class_count letters k m)) ≡ none) where
+module _ (letters : List ℕ) (k m : ℕ) (bytes : List ℕ) (e : ground 6 (too_long bytes || too_many (class_count letters k m)) ≡ None) where
   neither : (too_long bytes ≡ false) × (too_many (class_count letters k m) ≡ false)
   neither =
       (or-eq-false-eq-eq-false-and-eq-false (too_long bytes) (too_many (class_count letters k m))).0
@@ -115,8 +115,8 @@ module _ (letters : List ℕ) (k m room : ℕ) (bytes : List ℕ) where
   ready_passed r e st g = passed (settings_of letters k m) (ready_ground letters k m room bytes) (sym (ap of_checked g) ∙ e)
 
   -- What a call knows where none of them applies.
-  module _ (ready : ready_ground letters k m room bytes ≡ none) where
-    sizes : ground 6 (too_long bytes || too_many (class_count letters k m)) or_else ground_at 7 (too_short room (class_count letters k m)) ≡ none
+  module _ (ready : ready_ground letters k m room bytes ≡ None) where
+    sizes : ground 6 (too_long bytes || too_many (class_count letters k m)) or_else ground_at 7 (too_short room (class_count letters k m)) ≡ None
     unfolding ready_ground
     sizes = later_none (settings_ground letters k m) _ ready
 
@@ -136,7 +136,7 @@ module _ (letters : List ℕ) (k m : ℕ) (t : List ℕ) (c : Call) (file : File
         leaves = refused_leaves f (settings_of letters k m) ready _ (table_after letters k m t c) t refuses;
       }
 
-  module _ (ready : ready_ground letters k m (length t) file.bytes ≡ none) where
+  module _ (ready : ready_ground letters k m (length t) file.bytes ≡ None) where
     -- What is left of the grounds: a fault of the file, and then the last ground.
     grounds_left : table_ground letters k m t c ≡ file_fault file or_else last_ground letters k m t c
     unfolding call_ground
@@ -151,7 +151,7 @@ module _ (letters : List ℕ) (k m : ℕ) (t : List ℕ) (c : Call) (file : File
           leaves = rw grounds_left (refused_leaves f found (file_fault file) _ (table_after letters k m t c) t e);
         }
 
-    pub called : (answer : Outcome Numbers) (t' : List ℕ) → file_fault file ≡ none → CalledUnlessRefused letters k m t c answer t'
+    pub called : (answer : Outcome Numbers) (t' : List ℕ) → file_fault file ≡ None → CalledUnlessRefused letters k m t c answer t'
         → Called letters k m t c answer t'
     called answer t' no_fault A =
         let e : table_ground letters k m t c ≡ last_ground letters k m t c = grounds_left ∙ rw no_fault in

@@ -4,7 +4,7 @@
 #![tactic(auto)]
 
 ghost use Rattle.std.specs.Prelude.{◌≡◌, length};
-ghost use Rattle.std.proofs.Math.Option.{none};
+ghost use Rattle.std.specs.Prelude.{None};
 ghost use Rattle.settings.specs.Grounds.{outcome, of_filling};
 ghost use Rattle.settings.specs.Settings.{settings_of, of_checked};
 ghost use Rattle.files.specs.File.{file_of};
@@ -76,7 +76,7 @@ fn call_checked(
     file: &[u8],
     st: Settings,
 ) -> Answer
-    requires no_ground { ready_ground letters.now k mirror (length table.old) file.now ≡ none }
+    requires no_ground { ready_ground letters.now k mirror (length table.old) file.now ≡ None }
     requires settings_are { st ≡ settings_of letters.now k mirror }
     ensures { Called letters.now k mirror table.old (call_of way (file_of kind file.now)) (of_answer result) table.new }
 {

@@ -2,7 +2,7 @@
 -- the table; an empty file; a file that is refused and changes nothing; the example's reads as FASTQ, alone and in a list that mixes both kinds of file;
 -- withdrawals.
 use mathlib.Core.Path.{◌≡◌, refl}
-use mathlib.Core.Option.{none, some}
+use Rattle.std.specs.Prelude.{None, Some}
 use mathlib.Core.List.{[], ◌∷◌}
 use lib.ListN.{replicate}
 use Rattle.laws.specs.Text.{bytes}
@@ -95,8 +95,8 @@ unfolding call_ground ready_ground settings_ground good_letters different_capita
 empty_reads = refl
 
 -- "these stand where 10 and 11 stood": after 7, the table being one place short, and before 12.
-fault_before_full : (call_ground (bytes "ACGT") 2 1 10 (file_of Fastq (bytes "*")) (some (12, 0)) ≡ some (15, 0))
-    × (call_ground (bytes "ACGT") 2 1 9 (file_of Fastq (bytes "*")) (some (12, 0)) ≡ some (7, 10))
+fault_before_full : (call_ground (bytes "ACGT") 2 1 10 (file_of Fastq (bytes "*")) (Some (12, 0)) ≡ Some (15, 0))
+    × (call_ground (bytes "ACGT") 2 1 9 (file_of Fastq (bytes "*")) (Some (12, 0)) ≡ Some (7, 10))
 unfolding call_ground ready_ground settings_ground good_letters different_capitals is_capital is_in is_odd half_up classes bad_size too_long too_many lf_next on_first lines
     text_of first_byte_is is_letter is_there unless_at first_failing is_quality record_fault fastq_fault
 fault_before_full = (refl, refl)
@@ -133,15 +133,15 @@ withdrawn_twice = refl
 abbrev two_of_a_class : File
 two_of_a_class = file_of Fasta (bytes ">c\nAGCT\n")
 
-one_too_few : (table_ground (bytes "ACGT") 2 1 (0 ∷ 1 ∷ 1 ∷ 0 ∷ 1 ∷ 2 ∷ 0 ∷ 0 ∷ 0 ∷ 0 ∷ []) (withdraw two_of_a_class) ≡ some (18, 0))
-    × (table_ground (bytes "ACGT") 2 1 (0 ∷ 1 ∷ 1 ∷ 0 ∷ 2 ∷ 2 ∷ 0 ∷ 0 ∷ 0 ∷ 0 ∷ []) (withdraw two_of_a_class) ≡ none)
+one_too_few : (table_ground (bytes "ACGT") 2 1 (0 ∷ 1 ∷ 1 ∷ 0 ∷ 1 ∷ 2 ∷ 0 ∷ 0 ∷ 0 ∷ 0 ∷ []) (withdraw two_of_a_class) ≡ Some (18, 0))
+    × (table_ground (bytes "ACGT") 2 1 (0 ∷ 1 ∷ 1 ∷ 0 ∷ 2 ∷ 2 ∷ 0 ∷ 0 ∷ 0 ∷ 0 ∷ []) (withdraw two_of_a_class) ≡ None)
 unfolding call_ground ready_ground settings_ground good_letters different_capitals is_capital is_in is_odd half_up classes bad_size too_long too_many fault_from items_from
     item next line_item is_letter lf_next windows_of_file windows_of windows runs marks on_first place_from capital_of reads_u_as_t read_as code code_of_canonical canonical plain
     mirror mirror_rank digits pair_rank differing_pair shift odd_shift some_below occurrences
 one_too_few = (refl, refl)
 
 -- "checked after 11": a fault of the file comes before 18.
-fault_before_lacking : table_ground (bytes "ACGT") 2 1 (replicate 10 0) (withdraw (file_of Fasta (bytes ">a\nACGT-"))) ≡ some (10, 7)
+fault_before_lacking : table_ground (bytes "ACGT") 2 1 (replicate 10 0) (withdraw (file_of Fasta (bytes ">a\nACGT-"))) ≡ Some (10, 7)
 unfolding call_ground ready_ground settings_ground good_letters different_capitals is_capital is_in is_odd half_up classes bad_size too_long too_many fault_from items_from
     item next line_item is_letter lf_next
 fault_before_lacking = refl

@@ -1,7 +1,7 @@
 -- The codes of words within the limits, and places and classes under settings that pass the check. From the theorems of the encoding.
 use mathlib.Core.Path.{◌≡◌, refl, sym, ap, ◌∙◌}
 use Prim.Native.Nat.{ℕ, ◌<◌}
-use mathlib.Core.Option.{none}
+use Rattle.std.specs.Prelude.{None}
 use mathlib.Core.List.{List, [], ◌∷◌, map}
 use lib.ListN.{length}
 use lib.Dec.{eqb}
@@ -29,7 +29,7 @@ use Rattle.tally_book.proofs.FileWords.{windows_are_words}
 pub codes_below : {s k : ℕ} (m : Mirror) → Limits s k → (ws : List (List ℕ)) → Each (IsWord s k) ws → Each (Below (classes s m k)) (map (code s m k) ws)
 codes_below {s} {k} m within ws words = each_map (IsWord s k) (Below (classes s m k)) (code s m k) ws (code_below_classes s m k within) words
 
-module _ (letters : List ℕ) (k m : ℕ) (good : settings_ground letters k m ≡ none) where
+module _ (letters : List ℕ) (k m : ℕ) (good : settings_ground letters k m ≡ None) where
   within : Limits (length letters) k
   within = limits letters k m good
 

@@ -4,7 +4,7 @@
 use mathlib.Core.Path.{◌≡◌, refl, sym, ap, ◌∙◌}
 use Prim.Native.Nat.{ℕ, zero, suc, ◌<◌, ◌≤◌}
 use native.Mathlib.Omega.{arith}
-use mathlib.Core.Option.{none, some}
+use Rattle.std.specs.Prelude.{None, Some}
 use mathlib.Core.List.{List, ◌++◌}
 use lib.ListN.{length, drop, replicate, length-replicate, get_or-replicate, length-append, length-drop, get_or-append}
 use lib.Seq.{drop_at}
@@ -23,7 +23,7 @@ use Rattle.tally_book.proofs.Classes.{place_below}
 -- ---- the ground at each test
 
 module _ (letters : List ℕ) (k m room : ℕ) where
-  pub clear_settings : (f : Ground) → refused f ≡ outcome (settings_ground letters k m) (settings_of letters k m) → clear_ground letters k m room ≡ some f
+  pub clear_settings : (f : Ground) → refused f ≡ outcome (settings_ground letters k m) (settings_of letters k m) → clear_ground letters k m room ≡ Some f
   unfolding clear_ground
   clear_settings f e = rw (refused_is f (settings_of letters k m) (settings_ground letters k m) e)
 
@@ -31,17 +31,17 @@ module _ (letters : List ℕ) (k m room : ℕ) where
     good : Known letters k m st
     good = known letters k m st e
 
-    pub clear_many : 16777216 < st.classes → clear_ground letters k m room ≡ some (6, 0)
+    pub clear_many : 16777216 < st.classes → clear_ground letters k m room ≡ Some (6, 0)
     unfolding clear_ground too_many
     clear_many h = rw (good.none_applies_lem, ← good.classes_are, lt-ltb 16777216 st.classes h)
 
     module _ (few : st.classes ≤ 16777216) where
-      pub clear_short : room < st.classes → clear_ground letters k m room ≡ some (7, st.classes)
+      pub clear_short : room < st.classes → clear_ground letters k m room ≡ Some (7, st.classes)
       unfolding clear_ground too_many
       clear_short h =
           simp (good.none_applies_lem, sym good.classes_are, le-ltb 16777216 st.classes few, lt-ltb room st.classes h)
 
-      pub clear_passed : st.classes ≤ room → clear_ground letters k m room ≡ none
+      pub clear_passed : st.classes ≤ room → clear_ground letters k m room ≡ None
       unfolding clear_ground too_many
       clear_passed long =
           let n = good.classes_are in
@@ -53,13 +53,13 @@ module _ (letters : List ℕ) (k m room : ℕ) where
 
 -- ---- where no ground refuses a clearing
 
-module _ (letters : List ℕ) (k m room : ℕ) (no-ground : clear_ground letters k m room ≡ none) where
+module _ (letters : List ℕ) (k m room : ℕ) (no-ground : clear_ground letters k m room ≡ None) where
   -- The settings pass the check.
-  pub settings_good : settings_ground letters k m ≡ none
+  pub settings_good : settings_ground letters k m ≡ None
   unfolding clear_ground
   settings_good = first_none (settings_ground letters k m) _ no-ground
 
-  sizes : ground 6 (too_many (class_count letters k m)) or_else ground_at 7 (too_short room (class_count letters k m)) ≡ none
+  sizes : ground 6 (too_many (class_count letters k m)) or_else ground_at 7 (too_short room (class_count letters k m)) ≡ None
   unfolding clear_ground
   sizes = later_none (settings_ground letters k m) _ no-ground
 
@@ -80,7 +80,7 @@ unfolding sum
 sum_zeros zero = refl
 sum_zeros (suc n) = omega (arith, sum_zeros n)
 
-module _ (letters : List ℕ) (k m : ℕ) {t₀ t : List ℕ} {answer : Outcome ℕ} (no-ground : clear_ground letters k m (length t₀) ≡ none)
+module _ (letters : List ℕ) (k m : ℕ) {t₀ t : List ℕ} {answer : Outcome ℕ} (no-ground : clear_ground letters k m (length t₀) ≡ None)
     (clearing : Clears letters k m t₀ answer t) where
   n_zeros : length {A = ℕ} (replicate (class_count letters k m) 0) ≡ class_count letters k m
   n_zeros = length-replicate {A = ℕ} (class_count letters k m) 0

@@ -4,7 +4,7 @@
 use mathlib.Core.Path.{◌≡◌, refl, sym, ap, ◌∙◌}
 use Prim.Native.Nat.{ℕ, ◌+◌}
 use native.Mathlib.Omega.{arith}
-use mathlib.Core.Option.{none}
+use Rattle.std.specs.Prelude.{None}
 use mathlib.Core.List.{List}
 use lib.ListN.{length, get_or, length-append}
 use lib.Seq.{length-take-le, get_or-take, ext_get_or}
@@ -23,7 +23,7 @@ use Rattle.tally_book.proofs.Steps.{step}
 use Rattle.tally_book.proofs.TakenIn.{hits-append, all_windows_are_words, in_more, out_more, added_up_lem}
 use Rattle.tally_book.proofs.Clearing.{settings_good, cleared_agrees, cleared_sum, cleared_later, cleared_length}
 
-module _ (letters : List ℕ) (k m : ℕ) (good : settings_ground letters k m ≡ none) where
+module _ (letters : List ℕ) (k m : ℕ) (good : settings_ground letters k m ≡ None) where
   -- A list of calls from any table, beside a book that agrees with it: each answer is the book's, each count is its class's tally, later places never
   -- change, and each count, and the sum of the counts, moves by the windows of the files taken in and taken out.
   pub kept : (book : Book) {t t' : List ℕ} {calls : List Call} {answers : List (Outcome Numbers)} → Agrees letters k m t book
@@ -115,7 +115,7 @@ module _ (letters : List ℕ) (k m : ℕ) (good : settings_ground letters k m �
 -- every count its class's tally and its windows added less its windows withdrawn, later places are as before the clearing, places and classes match one to
 -- one, and the sum of the counts is letters - foreign - edge over the files taken in less the same over those taken out, where no subtraction is cut off.
 pub demand_three : (letters : List ℕ) (k m : ℕ) {t₀ t t' : List ℕ} {cleared : Outcome ℕ} {calls : List Call} {answers : List (Outcome Numbers)}
-    → clear_ground letters k m (length t₀) ≡ none
+    → clear_ground letters k m (length t₀) ≡ None
     → Clears letters k m t₀ cleared t
     → TableCalls letters k m t calls answers t'
     → DemandThree letters k m t₀ t calls answers t'
@@ -147,10 +147,10 @@ demand_three letters k m {calls = calls} {answers = answers} no-ground clearing 
 -- their files taken in, those taken out taken off, hold as many windows equal to it or its mirror.
 pub demand_three_same_counts : (letters : List ℕ) (k m : ℕ) {t₀ t t' u₀ u u' : List ℕ} {cleared cleared' : Outcome ℕ} {calls calls' : List Call}
     {answers answers' : List (Outcome Numbers)}
-    → clear_ground letters k m (length t₀) ≡ none
+    → clear_ground letters k m (length t₀) ≡ None
     → Clears letters k m t₀ cleared t
     → TableCalls letters k m t calls answers t'
-    → clear_ground letters k m (length u₀) ≡ none
+    → clear_ground letters k m (length u₀) ≡ None
     → Clears letters k m u₀ cleared' u
     → TableCalls letters k m u calls' answers' u'
     → SameCountsExactlyWhen letters k m calls answers t' calls' answers' u'

@@ -2,7 +2,7 @@
 use mathlib.Core.Path.{◌≡◌, refl, sym}
 use Prim.Native.Nat.{ℕ, suc, ◌<◌}
 use mathlib.Core.Bool.{Bool, true, false, cond}
-use mathlib.Core.Option.{Option, none, some}
+use Rattle.std.specs.Prelude.{Option, None, Some}
 use mathlib.Core.List.{List, [], ◌∷◌}
 use lib.ListN.{length, take}
 use lib.Seq.{length-take-le}
@@ -23,8 +23,8 @@ use Rattle.laws.proofs.Each.{each_append}
 
 -- A mark of a rank below s, or of a break.
 Ranked : ℕ → Option ℕ → Type 0
-Ranked s none = Unit {0}
-Ranked s (some x) = x < s
+Ranked s None = Unit {0}
+Ranked s (Some x) = x < s
 
 module _ (s k : ℕ) where
   ranked_on_first : (x : ℕ) (rs : List (List ℕ)) → x < s → Each (Ranks s) rs → Each (Ranks s) (on_first x rs)
@@ -35,8 +35,8 @@ module _ (s k : ℕ) where
   ranked_runs : (ms : List (Option ℕ)) → Each (Ranked s) ms → Each (Ranks s) (runs ms)
   unfolding runs Ranked
   ranked_runs [] a = (tt, tt)
-  ranked_runs (none ∷ ms) a = (tt, ranked_runs ms a.1)
-  ranked_runs (some x ∷ ms) a = ranked_on_first x (runs ms) a.0 (ranked_runs ms a.1)
+  ranked_runs (None ∷ ms) a = (tt, ranked_runs ms a.1)
+  ranked_runs (Some x ∷ ms) a = ranked_on_first x (runs ms) a.0 (ranked_runs ms a.1)
 
   -- The windows of ranks below s are words of k letters.
   pub word_windows : (r : List ℕ) → Ranks s r → Each (IsWord s k) (windows k r)
@@ -57,8 +57,8 @@ module _ (s k : ℕ) where
 module _ (letters : List ℕ) (k : ℕ) where
   ranked : (b : ℕ) (o : Option ℕ) → rank_in letters b ≡ o → Ranked (length letters) o
   unfolding Ranked
-  ranked b none e = tt
-  ranked b (some x) e = rank_below_count letters b x (sym e)
+  ranked b None e = tt
+  ranked b (Some x) e = rank_below_count letters b x (sym e)
 
   ranked_marks : (is : List Item) → Each (Ranked (length letters)) (marks (rank_in letters) is)
   unfolding marks Ranked

@@ -3,7 +3,7 @@ use mathlib.Core.Path.{◌≡◌, sym, ap, ◌∙◌}
 use Prim.Native.Nat.{ℕ, ◌≤◌}
 use native.Mathlib.Omega.{arith}
 use mathlib.Core.Bool.{false}
-use mathlib.Core.Option.{Option, none}
+use Rattle.std.specs.Prelude.{Option, None}
 use mathlib.Core.List.{List}
 use lib.ListN.{length, take}
 use lib.Seq.{length-take-le, get_or-take}
@@ -19,7 +19,7 @@ use Rattle.tally_book.proofs.Ready.{ready_room}
 
 module _ (letters : List ℕ) (k m : ℕ) where
   -- Where no ground but the last can apply, the last one is the call's.
-  only_last : (room : ℕ) (file : File) (last last' : Option Ground) → call_ground letters k m room file last ≡ none
+  only_last : (room : ℕ) (file : File) (last last' : Option Ground) → call_ground letters k m room file last ≡ None
       → call_ground letters k m room file last' ≡ last'
   unfolding call_ground
   only_last room file last last' e =
@@ -35,12 +35,12 @@ module _ (letters : List ℕ) (k m : ℕ) where
       let as_many : length (take n after) ≡ n = length-take-le n after (omega (arith, length_changes one_more qs t)) in
       none_lacking (take n after) qs (λ q l. omega (arith, get_or-take n after q 0 (omega arith), get_d_more qs t q (omega arith)))
 
-  room_of : (room : ℕ) (file : File) (last : Option Ground) → call_ground letters k m room file last ≡ none → class_count letters k m ≤ room
+  room_of : (room : ℕ) (file : File) (last : Option Ground) → call_ground letters k m room file last ≡ None → class_count letters k m ≤ room
   unfolding call_ground
   room_of room file last e = ready_room letters k m room file.bytes (first_none (ready_ground letters k m room file.bytes) _ e)
 
-  withdrawal_ground : (t : List ℕ) (file : File) → table_ground letters k m t (add file) ≡ none
-      → table_ground letters k m (table_after letters k m t (add file)) (withdraw file) ≡ none
+  withdrawal_ground : (t : List ℕ) (file : File) → table_ground letters k m t (add file) ≡ None
+      → table_ground letters k m (table_after letters k m t (add file)) (withdraw file) ≡ None
   withdrawal_ground t file e =
       ap (λ (room : ℕ). call_ground letters k m room file (ground 18 (table_lacks letters k m (table_after letters k m t (add file)) file)))
       (length_changes one_more (places letters k m file) t)
@@ -55,7 +55,7 @@ module _ (letters : List ℕ) (k m : ℕ) where
       let e = P.none_applies_lem in
       let grown : t' ≡ table_after letters k m t (add file) =
       A.leaves ∙ ap (λ (g : Option Ground). unless_refused g (table_after letters k m t (add file)) t) e in
-      let f : table_ground letters k m t' (withdraw file) ≡ none =
+      let f : table_ground letters k m t' (withdraw file) ≡ None =
       ap (λ (x : List ℕ). table_ground letters k m x (withdraw file)) grown ∙ withdrawal_ground t file e in (
         W.answers ∙ ap (λ (g : Option Ground). outcome g (file_numbers (rank_in letters) k file)) f ∙ ap given (sym P.value),
         W.leaves

@@ -2,7 +2,7 @@
 use mathlib.Core.Path.{◌≡◌}
 use Prim.Native.Nat.{ℕ, ◌≤◌}
 use mathlib.Core.Bool.{◌||◌}
-use mathlib.Core.Option.{none}
+use Rattle.std.specs.Prelude.{None}
 use mathlib.Core.List.{List}
 use Rattle.settings.specs.Grounds.{ground}
 use Rattle.settings.specs.Settings.{settings_ground}
@@ -10,9 +10,9 @@ use Rattle.settings.proofs.Outcomes.{first_none, later_none, nowhere_met, room_e
 use Rattle.settings.specs.Limits.{too_long}
 use Rattle.tally_book.specs.Table.{class_count, too_many, ready_ground}
 
-module _ (letters : List ℕ) (k m room : ℕ) (bytes : List ℕ) (ready : ready_ground letters k m room bytes ≡ none) where
+module _ (letters : List ℕ) (k m room : ℕ) (bytes : List ℕ) (ready : ready_ground letters k m room bytes ≡ None) where
   -- The settings pass the check.
-  pub ready_settings : settings_ground letters k m ≡ none
+  pub ready_settings : settings_ground letters k m ≡ None
   unfolding ready_ground
   ready_settings = first_none (settings_ground letters k m) _ ready
 

@@ -4,7 +4,7 @@ use mathlib.Core.Path.{◌≡◌, sym, ap, ◌∙◌}
 use Prim.Native.Nat.{ℕ, ◌-◌, ◌≤◌, ◌<◌}
 use native.Mathlib.Omega.{arith}
 use mathlib.Core.Bool.{Bool, true}
-use mathlib.Core.Option.{Option, none}
+use Rattle.std.specs.Prelude.{Option, None}
 use mathlib.Core.List.{List}
 use lib.ListN.{length, take, get_or}
 use lib.Dec.{ltb}
@@ -30,7 +30,7 @@ room_same : (letters : List ℕ) (k m room : ℕ) (file : File) (last : Option G
 unfolding call_ground ready_ground
 room_same letters k m room file last h = rw (le-ltb room (class_count letters k m) h, le-ltb (class_count letters k m) (class_count letters k m) (omega arith))
 
-module _ (letters : List ℕ) (k m : ℕ) (good : settings_ground letters k m ≡ none) where
+module _ (letters : List ℕ) (k m : ℕ) (good : settings_ground letters k m ≡ None) where
   -- Some class's place passes a test exactly where some canonical word passes another, if both say the same of each class.
   found_alike : (by_place : ℕ → Bool) (by_word_lem : List ℕ → Bool)
       → ((w : List ℕ) → CanonicalWord (length letters) (mirror_of m) k w → by_place (place_of letters k m w) ≡ by_word_lem w)
@@ -90,11 +90,11 @@ module _ (letters : List ℕ) (k m : ℕ) (good : settings_ground letters k m �
       ∙ room_same letters k m (length t) (call_file c) (book_last letters k m book c) A.one_place_a_class
 
   -- Where no ground applies to a withdrawal, each count is high enough.
-  pub enough : (t : List ℕ) (book : Book) (file : File) → book_ground letters k m book (withdraw file) ≡ none → Agrees letters k m t book
+  pub enough : (t : List ℕ) (book : Book) (file : File) → book_ground letters k m book (withdraw file) ≡ None → Agrees letters k m t book
       → (q : ℕ) → q < length t → occurrences q (places letters k m file) ≤ get_or t q 0
   unfolding call_ground
   enough t book file e A =
-      let last : ground 18 (book_lacks letters k m book file) ≡ none =
+      let last : ground 18 (book_lacks letters k m book file) ≡ None =
       later_none (file_fault file) _ (later_none (ready_ground letters k m (class_count letters k m) file.bytes) _ e) in
       let not = sym (lacks_at_places t file A.one_place_a_class) ∙ lacks_same t book file A ∙ test_fails 18 (book_lacks letters k m book file) last in
       enough_by_front (class_count letters k m) t (places letters k m file) (places_below letters k m good file)

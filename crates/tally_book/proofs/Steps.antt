@@ -3,7 +3,7 @@
 use mathlib.Core.Path.{◌≡◌, refl, ◌∙◌}
 use Prim.Native.Nat.{ℕ, ◌+◌, ◌<◌}
 use native.Mathlib.Omega.{arith}
-use mathlib.Core.Option.{Option, none, some}
+use Rattle.std.specs.Prelude.{Option, None, Some}
 use mathlib.Core.List.{List}
 use lib.ListN.{length, drop, get_or, length-map}
 use Rattle.settings.specs.Grounds.{Ground, Outcome, given, refused, outcome, unless_refused}
@@ -45,7 +45,7 @@ pub record Stepped (letters : List ℕ) (k m : ℕ) (book : Book) (t : List ℕ)
   pub sum_moved : sum (counts letters k m t') + out_of c answer (length (windows_of_file letters k (call_file c)))
       ≡ sum (counts letters k m t) + into c answer (length (windows_of_file letters k (call_file c)))
 
-module _ (letters : List ℕ) (k m : ℕ) (good : settings_ground letters k m ≡ none) where
+module _ (letters : List ℕ) (k m : ℕ) (good : settings_ground letters k m ≡ None) where
   -- Each class has its place in the table.
   inside : (t : List ℕ) (book : Book) (w : List ℕ) → Agrees letters k m t book → CanonicalWord (length letters) (mirror_of m) k w
       → place_of letters k m w < length t
@@ -62,7 +62,7 @@ module _ (letters : List ℕ) (k m : ℕ) (good : settings_ground letters k m �
       ∙ rw (A.each_count_is_its_class's_tally w g, named_are_hits letters k m good file w g)
 
   -- It has moved by the file's windows of its class.
-  each_moved_by : (t : List ℕ) (book : Book) (c : Call) (n : Numbers) (w : List ℕ) → book_ground letters k m book c ≡ none → Agrees letters k m t book
+  each_moved_by : (t : List ℕ) (book : Book) (c : Call) (n : Numbers) (w : List ℕ) → book_ground letters k m book c ≡ None → Agrees letters k m t book
       → CanonicalWord (length letters) (mirror_of m) k w
       → let file-hits = hits (length letters) (mirror_of m) w (windows_of_file letters k (call_file c)) in
       get_or (table_after letters k m t c) (place_of letters k m w) 0 + out_of c (given n) file-hits ≡ get_or t (place_of letters k m w) 0 + into c (given n) file-hits
@@ -74,7 +74,7 @@ module _ (letters : List ℕ) (k m : ℕ) (good : settings_ground letters k m �
       omega (arith, get_d_less (places letters k m file) t q lt, named_are_hits letters k m good file w g, enough letters k m good t book file e A q lt)
 
   -- And the sum of the counts by all its windows.
-  sum_moved_by : (t : List ℕ) (book : Book) (c : Call) (n : Numbers) → book_ground letters k m book c ≡ none → Agrees letters k m t book
+  sum_moved_by : (t : List ℕ) (book : Book) (c : Call) (n : Numbers) → book_ground letters k m book c ≡ None → Agrees letters k m t book
       → sum (counts letters k m (table_after letters k m t c)) + out_of c (given n) (length (windows_of_file letters k (call_file c)))
       ≡ sum (counts letters k m t) + into c (given n) (length (windows_of_file letters k (call_file c)))
   sum_moved_by t book (add file) n e A =
@@ -86,7 +86,7 @@ module _ (letters : List ℕ) (k m : ℕ) (good : settings_ground letters k m �
       omega (arith, sum_less (class_count letters k m) (places letters k m file) t below A.one_place_a_class (enough letters k m good t book file e A))
 
   -- The table and the book after a call to which no ground applies.
-  step_on : (t : List ℕ) (book : Book) (c : Call) → book_ground letters k m book c ≡ none → Agrees letters k m t book
+  step_on : (t : List ℕ) (book : Book) (c : Call) → book_ground letters k m book c ≡ None → Agrees letters k m t book
       → Stepped letters k m book t c (given (file_numbers (rank_in letters) k (call_file c))) (table_after letters k m t c)
   step_on t book c e A =
       let qs = places letters k m (call_file c) in
@@ -107,7 +107,7 @@ module _ (letters : List ℕ) (k m : ℕ) (good : settings_ground letters k m �
   -- The table and the book after a call to which the ground g applies, or none.
   step_by : (t : List ℕ) (book : Book) (c : Call) (g : Option Ground) → book_ground letters k m book c ≡ g → Agrees letters k m t book
       → Stepped letters k m book t c (outcome g (file_numbers (rank_in letters) k (call_file c))) (unless_refused g (table_after letters k m t c) t)
-  step_by t book c (some g) e A =
+  step_by t book c (Some g) e A =
       record {
         same_answer = rw e;
         agrees = record { one_place_a_class = A.one_place_a_class; each_count_is_its_class's_tally = λ w c. rw e (A.each_count_is_its_class's_tally w c) };
@@ -116,7 +116,7 @@ module _ (letters : List ℕ) (k m : ℕ) (good : settings_ground letters k m �
         each_moved = λ w _. let z = not_into c g (hits (length letters) (mirror_of m) w (windows_of_file letters k (call_file c))) in omega (arith, z.0, z.1);
         sum_moved = let z = not_into c g (length (windows_of_file letters k (call_file c))) in omega (arith, z.0, z.1);
       }
-  step_by t book c none e A = step_on t book c e A
+  step_by t book c None e A = step_on t book c e A
 
   -- One call on a table that agrees with a book: what `Stepped` says.
   pub step : (t : List ℕ) (c : Call) (t' : List ℕ) (answer : Outcome Numbers) (book : Book) → Called letters k m t c answer t' → Agrees letters k m t book

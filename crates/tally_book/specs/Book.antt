@@ -2,7 +2,7 @@
 -- table's places; the rules for the grounds are those of Table.
 -- Throughout, s is the number of letters and m the mirror.
 use Rattle.std.specs.Prelude.{◌≡◌, Bool, true, false, cond, ◌&&◌, ◌||◌, List, [], ◌∷◌, ◌++◌, map, ℕ, zero, suc, ◌+◌, ◌-◌, length, eqb, ltb}
-use Rattle.std.proofs.Math.Option.{Option}
+use Rattle.std.specs.Prelude.{Option}
 use Rattle.settings.specs.Grounds.{Ground, Outcome, ground, outcome, unless_refused}
 use Rattle.settings.specs.Settings.{rank_in, mirror_of}
 use Rattle.encoding.specs.Words.{Mirror, IsWord, mirror, canonical}

@@ -1,7 +1,7 @@
 -- Computed checks of the definitions: texts that were worked out apart from them, the ends of lines, records of 0 letters, and the grounds 1 and 7 (6
 -- would need a text of 16,777,217 bytes).
 use mathlib.Core.Path.{◌≡◌, refl}
-use mathlib.Core.Option.{none, some}
+use Rattle.std.specs.Prelude.{None, Some}
 use mathlib.Core.List.{List, []}
 use Prim.Native.Nat.{ℕ}
 use Rattle.laws.specs.Text.{bytes}
@@ -46,14 +46,14 @@ unfolding generated
 no_records = refl
 
 -- A ground of the settings comes first, else 7 with the length.
-bad_letters : generate_ground (bytes "AA") 1 0 (bytes ">1\n") 0 ≡ some (1, 0)
+bad_letters : generate_ground (bytes "AA") 1 0 (bytes ">1\n") 0 ≡ Some (1, 0)
 unfolding generate_ground settings_ground good_letters different_capitals is_capital is_in bad_size too_long
 bad_letters = refl
 
-short_buffer : generate_ground (bytes "AB") 1 0 (bytes ">1\n") 2 ≡ some (7, 3)
+short_buffer : generate_ground (bytes "AB") 1 0 (bytes ">1\n") 2 ≡ Some (7, 3)
 unfolding generate_ground settings_ground good_letters different_capitals is_capital is_in bad_size too_long
 short_buffer = refl
 
-room_enough : generate_ground (bytes "AB") 1 0 (bytes ">1\n") 3 ≡ none
+room_enough : generate_ground (bytes "AB") 1 0 (bytes ">1\n") 3 ≡ None
 unfolding generate_ground settings_ground good_letters different_capitals is_capital is_in bad_size too_long
 room_enough = refl

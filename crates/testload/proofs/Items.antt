@@ -2,7 +2,7 @@
 -- definitions of the text and of a byte's item.
 use mathlib.Core.Path.{◌≡◌, refl, sym, ap, ◌∙◌}
 use mathlib.Core.Bool.{Bool, true, false, cond}
-use mathlib.Core.Option.{Option, none, some}
+use Rattle.std.specs.Prelude.{Option, None, Some}
 use mathlib.Core.List.{List, [], ◌∷◌, ◌++◌, map, append_assoc}
 use Prim.Native.Nat.{ℕ, zero, suc, ◌+◌, ◌*◌, ◌<◌, ◌≤◌}
 use native.Mathlib.Omega.{arith}
@@ -30,14 +30,14 @@ use Rattle.testload.proofs.Drawn.{drawn-ranks, length-drawn}
 -- The settings letters of a test load, and a break before each record.
 unfoldable pub load_marks : (s each records x : ℕ) → List (Option ℕ)
 load_marks s each zero x = []
-load_marks s each (suc records) x = (none ∷ map (λ (r : ℕ). some r) (drawn s each x)) ++ load_marks s each records (state_after each x)
+load_marks s each (suc records) x = (None ∷ map (λ (r : ℕ). Some r) (drawn s each x)) ++ load_marks s each records (state_after each x)
 
 module _ (letters : List ℕ) where
   -- An item that no ground refuses and that is no foreign letter.
   pub data Sound : Item → Type 0 where
     opens : Sound Opens
     skip : Sound Skip
-    letter : {b r : ℕ} → rank_in letters b ≡ some r → Sound (Letter b)
+    letter : {b r : ℕ} → rank_in letters b ≡ Some r → Sound (Letter b)
 
   -- A text, read from a mode on, is as far as its rest, read from another, of so many records and letters with these marks.
   pub record Part (m : Mode) (text : List ℕ) (m' : Mode) (rest : List ℕ) (records ls : ℕ) (ms : List (Option ℕ)) : Type 0 where
@@ -62,7 +62,7 @@ module _ (letters : List ℕ) where
   -- ---- one byte
 
   module _ (m : Mode) (b : ℕ) (rest : List ℕ) {m' : Mode} (to : next m b ≡ m') where
-    opening : item m b (lf_next rest) ≡ Opens → Part m (b ∷ rest) m' rest 1 0 (none ∷ [])
+    opening : item m b (lf_next rest) ≡ Opens → Part m (b ∷ rest) m' rest 1 0 (None ∷ [])
     unfolding items_from records_in letters_in marks
     opening e = record { sound = rw (e, to) (λ x. (opens, x)); records_are = rw (e, to) (omega arith); letters_are = rw (e, to) (omega arith); marks_are = rw (e, to) }
 
@@ -70,7 +70,7 @@ module _ (letters : List ℕ) where
     unfolding items_from records_in letters_in marks
     skipped e = record { sound = rw (e, to) (λ x. (skip, x)); records_are = rw (e, to) (omega arith); letters_are = rw (e, to) (omega arith); marks_are = rw (e, to) }
 
-    ranked : (r : ℕ) → item m b (lf_next rest) ≡ Letter b → rank_in letters b ≡ some r → Part m (b ∷ rest) m' rest 0 1 (some r ∷ [])
+    ranked : (r : ℕ) → item m b (lf_next rest) ≡ Letter b → rank_in letters b ≡ Some r → Part m (b ∷ rest) m' rest 0 1 (Some r ∷ [])
     unfolding items_from records_in letters_in marks
     ranked r e f = record { sound = rw (e, to) (λ x. (letter f, x)); records_are = rw (e, to) (omega arith); letters_are = rw (e, to) (omega arith); marks_are = rw (e, to, f) }
 
@@ -95,7 +95,7 @@ module _ (letters : List ℕ) where
   line_end_lem j rest = skipped Sequence 10 rest refl refl
 
   module _ (capitals : different_capitals letters ≡ true) where
-    letter_part : (j r : ℕ) (rest : List ℕ) → r < length letters → Part (mode_at j) (get_or letters r 0 ∷ rest) Sequence rest 0 1 (some r ∷ [])
+    letter_part : (j r : ℕ) (rest : List ℕ) → r < length letters → Part (mode_at j) (get_or letters r 0 ∷ rest) Sequence rest 0 1 (Some r ∷ [])
     unfolding item next
     letter_part j r rest h = go j
       where
@@ -111,10 +111,10 @@ module _ (letters : List ℕ) where
         no_header : b ≡ 62 → ⊥
         no_header e = omega (arith, within)
 
-        rank_is : rank_in letters b ≡ some r
+        rank_is : rank_in letters b ≡ Some r
         rank_is = rank_at_lem letters capitals r h
 
-        go : (i : ℕ) → Part (mode_at i) (b ∷ rest) Sequence rest 0 1 (some r ∷ [])
+        go : (i : ℕ) → Part (mode_at i) (b ∷ rest) Sequence rest 0 1 (Some r ∷ [])
         go zero =
             ranked Start b rest (rw (ne_eqb b 10 no_lf, ne_eqb b 62 no_header)) r
             (rw (ne_eqb b 62 no_header) (sym (capital b (lf_next rest) within.0 within.1))) rank_is
@@ -122,7 +122,7 @@ module _ (letters : List ℕ) where
             ranked Sequence b rest (rw (ne_eqb b 10 no_lf)) r (sym (capital b (lf_next rest) within.0 within.1)) rank_is
 
     lines_part : (w : List ℕ) → Ranks (length letters) w → (j : ℕ) (rest : List ℕ)
-        → Part (mode_at j) (in_lines j (in_capitals letters w) ++ rest) Start rest 0 (length w) (map (λ (r : ℕ). some r) w)
+        → Part (mode_at j) (in_lines j (in_capitals letters w) ++ rest) Start rest 0 (length w) (map (λ (r : ℕ). Some r) w)
     unfolding in_lines in_capitals
     lines_part [] below zero rest = nothing Start rest
     lines_part [] below (suc j) rest = rw (ne_eqb (suc j) 0 (λ e. omega arith)) (line_end_lem j rest)
@@ -131,10 +131,10 @@ module _ (letters : List ℕ) where
         caps : List ℕ
         caps = map (λ (i : ℕ). get_or letters i 0) w
 
-        go : (t : Bool) → Part Start (in_lines 0 caps ++ rest) Start rest 0 (length w) (map (λ (r : ℕ). some r) w)
-            → Part Sequence (in_lines (suc j) caps ++ rest) Start rest 0 (length w) (map (λ (r : ℕ). some r) w)
+        go : (t : Bool) → Part Start (in_lines 0 caps ++ rest) Start rest 0 (length w) (map (λ (r : ℕ). Some r) w)
+            → Part Sequence (in_lines (suc j) caps ++ rest) Start rest 0 (length w) (map (λ (r : ℕ). Some r) w)
             → Part (mode_at j) (get_or letters r 0 ∷ (cond t (10 ∷ in_lines 0 caps) (in_lines (suc j) caps) ++ rest)) Start rest 0 (suc (length w))
-            (some r ∷ map (λ (r : ℕ). some r) w)
+            (Some r ∷ map (λ (r : ℕ). Some r) w)
         go true next-line same_line = then (letter_part j r _ below.0) (then (line_end_lem j _) next-line refl refl) (omega arith) (omega arith)
         go false next-line same_line = then (letter_part j r _ below.0) same_line (omega arith) (omega arith)
 
@@ -142,7 +142,7 @@ module _ (letters : List ℕ) where
 
     module _ (some_letters : 0 < length letters) where
       record_part : (each i x : ℕ) (rest : List ℕ)
-          → Part Start (record_text letters each i x ++ rest) Start rest 1 each (none ∷ map (λ (r : ℕ). some r) (drawn (length letters) each x))
+          → Part Start (record_text letters each i x ++ rest) Start rest 1 each (None ∷ map (λ (r : ℕ). Some r) (drawn (length letters) each x))
       unfolding record_text drawn_letters item next
       record_part each i x rest =
           let w = drawn (length letters) each x in

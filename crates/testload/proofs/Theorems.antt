@@ -4,7 +4,7 @@
 -- and the room for it (`larger_gives_6`, `short_buffer_gives_7`, `room_gives_none`).
 use mathlib.Core.Path.{◌≡◌, refl, sym, ap, ◌∙◌}
 use mathlib.Core.Bool.{true, false}
-use mathlib.Core.Option.{Option, none, some}
+use Rattle.std.specs.Prelude.{Option, None, Some}
 use mathlib.Core.List.{List, [], ◌∷◌, ◌++◌, map, append-nil}
 use Prim.Native.Nat.{ℕ, zero, suc, ◌+◌, ◌-◌, ◌*◌, ◌<◌, ◌≤◌, min}
 use native.Mathlib.Omega.{arith}
@@ -36,12 +36,12 @@ use Rattle.testload.proofs.Items.{load_marks, Sound, opens, skip, letter, Part, 
 -- ---- items that are sound
 
 module _ (letters : List ℕ) where
-  sound_fault : (at : ℕ) (is : List Item) → Each (Sound letters) is → fault_from true at is ≡ none
+  sound_fault : (at : ℕ) (is : List Item) → Each (Sound letters) is → fault_from true at is ≡ None
   unfolding fault_from
   sound_fault at [] e = refl
   sound_fault at (i ∷ is) e = go i e.0 (sound_fault (suc at) is e.1)
     where
-      go : (i : Item) → Sound letters i → fault_from true (suc at) is ≡ none → fault_from true at (i ∷ is) ≡ none
+      go : (i : Item) → Sound letters i → fault_from true (suc at) is ≡ None → fault_from true at (i ∷ is) ≡ None
       go Opens opens ih = ih
       go Skip skip ih = ih
       go (Letter b) (letter f) ih = ih
@@ -59,19 +59,19 @@ module _ (letters : List ℕ) where
       go Stray x ih = elim x [ ]
 
   -- The first byte of a file with a record opens it.
-  opened : (rest : List ℕ) → Each (Sound letters) (items_from Start (62 ∷ rest)) → fault_from false 0 (items_from Start (62 ∷ rest)) ≡ none
+  opened : (rest : List ℕ) → Each (Sound letters) (items_from Start (62 ∷ rest)) → fault_from false 0 (items_from Start (62 ∷ rest)) ≡ None
   unfolding items_from item next fault_from
   opened rest e = sound_fault 1 (items_from Header rest) e.1
 
   clean_from : (start each records : ℕ) → Each (Sound letters) (items (load_file letters start records each))
-      → file_fault (load_file letters start records each) ≡ none
+      → file_fault (load_file letters start records each) ≡ None
   unfolding records_from record_text items_from fault_from
   clean_from start each zero e = refl
   clean_from start each (suc records) e = opened _ e
 
 -- ---- its runs
 
-runs-some : (w : List ℕ) (ms : List (Option ℕ)) (rs : List (List ℕ)) → runs ms ≡ [] ∷ rs → runs (map (λ (r : ℕ). some r) w ++ ms) ≡ w ∷ rs
+runs-some : (w : List ℕ) (ms : List (Option ℕ)) (rs : List (List ℕ)) → runs ms ≡ [] ∷ rs → runs (map (λ (r : ℕ). Some r) w ++ ms) ≡ w ∷ rs
 unfolding runs on_first
 runs-some [] ms rs e = e
 runs-some (x ∷ w) ms rs e = rw (runs-some w ms rs e)
@@ -103,7 +103,7 @@ windows-drawn s k each (suc records) x h =
 
 -- ---- the file
 
-module _ (letters : List ℕ) (k m : ℕ) (good : settings_ground letters k m ≡ none) (start records each : ℕ) where
+module _ (letters : List ℕ) (k m : ℕ) (good : settings_ground letters k m ≡ None) (start records each : ℕ) where
   part : Part letters Start (test_load letters start records each) Start [] records (records * each) (load_marks (length letters) each records start)
   part =
       load_part letters (capitals_differ letters k m good) (omega (arith, (good_settings letters k m good).two)) each records 1 start
@@ -112,7 +112,7 @@ module _ (letters : List ℕ) (k m : ℕ) (good : settings_ground letters k m �
   unfolding items_from
   sound = part.sound tt
 
-  pub test_load_clean : file_fault (load_file letters start records each) ≡ none
+  pub test_load_clean : file_fault (load_file letters start records each) ≡ None
   test_load_clean = clean_from letters start each records sound
 
   marks_are : marks (rank_in letters) (items (load_file letters start records each)) ≡ load_marks (length letters) each records start
@@ -152,7 +152,7 @@ module _ (letters : List ℕ) (k m : ℕ) (good : settings_ground letters k m �
 
   -- Where the file is within 16,777,216 bytes and the table has a place for each of so many classes at the most (`ready_ground`), an add answers these numbers
   -- unless 12 applies.
-  pub test_load_added : (t : List ℕ) → ready_ground letters k m (length t) (test_load letters start records each) ≡ none
+  pub test_load_added : (t : List ℕ) → ready_ground letters k m (length t) (test_load letters start records each) ≡ None
       → outcome (table_ground letters k m t (add (load_file letters start records each))) (file_numbers (rank_in letters) k (load_file letters start records each))
       ≡ outcome (ground 12 (table_full letters k m t (load_file letters start records each))) (load_numbers k records each)
   unfolding call_ground
@@ -160,18 +160,18 @@ module _ (letters : List ℕ) (k m : ℕ) (good : settings_ground letters k m �
 
 -- ---- its length and the room for it
 
-module _ (letters : List ℕ) (k m : ℕ) (good : settings_ground letters k m ≡ none) (text : List ℕ) (room : ℕ) where
+module _ (letters : List ℕ) (k m : ℕ) (good : settings_ground letters k m ≡ None) (text : List ℕ) (room : ℕ) where
   -- "a larger one gives 6", whatever the buffer.
-  pub larger_gives_6 : 16777216 < length text → generate_ground letters k m text room ≡ some (6, 0)
+  pub larger_gives_6 : 16777216 < length text → generate_ground letters k m text room ≡ Some (6, 0)
   unfolding generate_ground too_long
   larger_gives_6 long = rw (good, lt-ltb 16777216 (length text) long)
 
   module _ (small : length text ≤ 16777216) where
     -- "and a short buffer 7", with the length needed.
-    pub short_buffer_gives_7 : room < length text → generate_ground letters k m text room ≡ some (7, length text)
+    pub short_buffer_gives_7 : room < length text → generate_ground letters k m text room ≡ Some (7, length text)
     unfolding generate_ground too_long
     short_buffer_gives_7 short = rw (good, le-ltb 16777216 (length text) small, lt-ltb room (length text) short)
 
-    pub room_gives_none : length text ≤ room → generate_ground letters k m text room ≡ none
+    pub room_gives_none : length text ≤ room → generate_ground letters k m text room ≡ None
     unfolding generate_ground too_long
     room_gives_none enough = rw (good, le-ltb 16777216 (length text) small, le-ltb room (length text) enough)

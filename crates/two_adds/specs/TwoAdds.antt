@@ -1,6 +1,6 @@
 -- What a clearing with two adds after it promises.
 use Rattle.std.specs.Prelude.{◌≡◌, List, [], ◌∷◌, ℕ, length}
-use Rattle.std.proofs.Math.Option.{none}
+use Rattle.std.specs.Prelude.{None}
 use Rattle.settings.specs.Grounds.{Outcome, of_filling}
 use Rattle.fasta.specs.declared.Numbers.{Numbers}
 use Rattle.fasta.specs.Scan.{of_answer}
@@ -18,4 +18,4 @@ pub record AddsTwo (letters : List ℕ) (k mirror : ℕ) (t₀ : List ℕ) (one 
   pub table_cleared : List ℕ
   pub clearing : Clears letters k mirror t₀ (of_filling r.cleared) table_cleared
   pub adds : TableCalls letters k mirror table_cleared (add one ∷ add other ∷ []) (two_answers r) t
-  pub demand_three : clear_ground letters k mirror (length t₀) ≡ none → DemandThree letters k mirror t₀ table_cleared (add one ∷ add other ∷ []) (two_answers r) t
+  pub demand_three : clear_ground letters k mirror (length t₀) ≡ None → DemandThree letters k mirror t₀ table_cleared (add one ∷ add other ∷ []) (two_answers r) t

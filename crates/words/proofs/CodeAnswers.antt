@@ -1,6 +1,6 @@
 -- What `code_of` answers at each of its tests: the ground that applies, or the code.
 use mathlib.Core.Path.{◌≡◌, ◌∙◌}
-use mathlib.Core.Option.{none, some}
+use Rattle.std.specs.Prelude.{None, Some}
 use mathlib.Core.List.{List}
 use Prim.Native.Nat.{ℕ}
 use lib.ListN.{length}
@@ -20,23 +20,23 @@ module _ (letters : List ℕ) (k m : ℕ) (word : List ℕ) where
   bad_settings f e = refused_on f (settings_of letters k m) _ (settings_ground letters k m) _ e
 
   module _ (st : Settings) (e : given st ≡ outcome (settings_ground letters k m) (settings_of letters k m)) where
-    none_yet : settings_ground letters k m ≡ none
+    none_yet : settings_ground letters k m ≡ None
     none_yet = (known letters k m st e).none_applies_lem
 
     pub bad_length : (length word ≡ k → ⊥) → refused (5, 0) ≡ coding letters k m word
     unfolding coding
     bad_length h = refused_by (5, 0) _ (code_ground letters k m word) (code_length letters k m none_yet word h)
 
-    pub bad_byte : length word ≡ k → (i : ℕ) → foreign_from letters 0 word ≡ some i → refused (9, i) ≡ coding letters k m word
+    pub bad_byte : length word ≡ k → (i : ℕ) → foreign_from letters 0 word ≡ Some i → refused (9, i) ≡ coding letters k m word
     unfolding coding
-    bad_byte h i f = refused_by (9, i) _ (code_ground letters k m word) (code_foreign letters k m none_yet word h (some i) f)
+    bad_byte h i f = refused_by (9, i) _ (code_ground letters k m word) (code_foreign letters k m none_yet word h (Some i) f)
 
     pub word_within : length word ≡ k → Limits (length letters) (length word)
     word_within h = rw h (known letters k m st e).within
 
-    pub coded_word : length word ≡ k → foreign_from letters 0 word ≡ none → (q : ℕ) → q ≡ code (length letters) st.mirror (length word) (ranks_of letters word)
+    pub coded_word : length word ≡ k → foreign_from letters 0 word ≡ None → (q : ℕ) → q ≡ code (length letters) st.mirror (length word) (ranks_of letters word)
         → given q ≡ coding letters k m word
     unfolding coding
     coded_word h f q g =
-        given_by q _ (code_ground letters k m word) (code_foreign letters k m none_yet word h none f)
+        given_by q _ (code_ground letters k m word) (code_foreign letters k m none_yet word h None f)
         (g ∙ rw ((known letters k m st e).mirror_is, h))

@@ -1,6 +1,6 @@
 -- From bytes to ranks and back, a place at a time: the loops of `fill_ranks`, `foreign_at` and `write_letters`.
 use mathlib.Core.Path.{◌≡◌, refl, sym}
-use mathlib.Core.Option.{none, some, Option}
+use Rattle.std.specs.Prelude.{None, Some, Option}
 use mathlib.Core.List.{List, ◌∷◌, []}
 use Prim.Native.Nat.{ℕ, ◌<◌, ◌+◌, ◌≤◌}
 use native.Mathlib.Numerals.{add-one}
@@ -26,24 +26,24 @@ in_capitals-at letters w i h = get_d_map_in (λ (j : ℕ). get_or letters j 0) w
 -- ---- the first byte that is no letter
 
 module _ (letters word : List ℕ) (i : ℕ) (h : i < length word) where
-  pub foreign_here : rank_in letters (get_or word i 0) ≡ none → foreign_from letters i (drop i word) ≡ some i
+  pub foreign_here : rank_in letters (get_or word i 0) ≡ None → foreign_from letters i (drop i word) ≡ Some i
   unfolding foreign_from
   foreign_here e = rw (drop-cons word i 0 h, e)
 
-  pub foreign_next : (x : ℕ) → rank_in letters (get_or word i 0) ≡ some x → foreign_from letters i (drop i word) ≡ foreign_from letters (i + 1) (drop (i + 1) word)
+  pub foreign_next : (x : ℕ) → rank_in letters (get_or word i 0) ≡ Some x → foreign_from letters i (drop i word) ≡ foreign_from letters (i + 1) (drop (i + 1) word)
   unfolding foreign_from
   foreign_next x e = rw (add-one i, drop-cons word i 0 h, e)
 
-pub foreign_none : (letters word : List ℕ) (i : ℕ) → length word ≤ i → foreign_from letters i (drop i word) ≡ none
+pub foreign_none : (letters word : List ℕ) (i : ℕ) → length word ≤ i → foreign_from letters i (drop i word) ≡ None
 unfolding foreign_from
 foreign_none letters word i h = rw (drop_of_length-le word h)
 
 -- ---- ranks are below s
 
 -- What stands for a byte is below s where its rank, if it has one, is.
-pub or_zero_below : {s : ℕ} (o : Option ℕ) → 0 < s → ((x : ℕ) → o ≡ some x → x < s) → rank_or_zero o < s
-or_zero_below none h f = h
-or_zero_below (some x) h f = f x refl
+pub or_zero_below : {s : ℕ} (o : Option ℕ) → 0 < s → ((x : ℕ) → o ≡ Some x → x < s) → rank_or_zero o < s
+or_zero_below None h f = h
+or_zero_below (Some x) h f = f x refl
 
 rank_lt : (letters : List ℕ) (b : ℕ) → 0 < length letters → rank_at letters b < length letters
 rank_lt letters b h = or_zero_below (rank_in letters b) h (λ x e. rank_below_count letters b x (sym e))

@@ -1,6 +1,6 @@
 -- What `mirror_of` answers and leaves at each of its tests.
 use mathlib.Core.Path.{◌≡◌, ap, ◌∙◌, sym}
-use mathlib.Core.Option.{some, none}
+use Rattle.std.specs.Prelude.{Some, None}
 use mathlib.Core.List.{List, ◌++◌}
 use Prim.Native.Nat.{ℕ, ◌<◌, ◌≤◌}
 use lib.ListN.{length, drop}
@@ -20,7 +20,7 @@ module _ (letters : List ℕ) (k m : ℕ) (word old : List ℕ) where
   abbrev pub Mirrors : Outcome ℕ → List ℕ → Type 0
   Mirrors answer new = Overwrites (mirror_ground letters k m word (length old)) k (mirror_bytes letters m word) old answer new
 
-  kept : (f : Ground) → mirror_ground letters k m word (length old) ≡ some f → Mirrors (refused f) old
+  kept : (f : Ground) → mirror_ground letters k m word (length old) ≡ Some f → Mirrors (refused f) old
   kept f e = kept_by (mirror_ground letters k m word (length old)) k (mirror_bytes letters m word) old f e
 
   pub mirror_bad_settings : (f : Ground) → refused f ≡ outcome (settings_ground letters k m) (settings_of letters k m) → Mirrors (refused f) old
@@ -37,14 +37,14 @@ module _ (letters : List ℕ) (k m : ℕ) (word old : List ℕ) where
     pub mirror_into_short : length word ≡ k → length old < k → Mirrors (refused (7, k)) old
     mirror_into_short h g = kept (7, k) (mirror_short letters k m good.none_applies_lem word (length old) h g)
 
-    pub mirror_bad_byte : length word ≡ k → k ≤ length old → (i : ℕ) → foreign_from letters 0 word ≡ some i → Mirrors (refused (9, i)) old
-    mirror_bad_byte h g i f = kept (9, i) (mirror_foreign letters k m good.none_applies_lem word (length old) h g (some i) f)
+    pub mirror_bad_byte : length word ≡ k → k ≤ length old → (i : ℕ) → foreign_from letters 0 word ≡ Some i → Mirrors (refused (9, i)) old
+    mirror_bad_byte h g i f = kept (9, i) (mirror_foreign letters k m good.none_applies_lem word (length old) h g (Some i) f)
 
-    pub mirror_written_out : length word ≡ k → k ≤ length old → foreign_from letters 0 word ≡ none → (new : List ℕ)
+    pub mirror_written_out : length word ≡ k → k ≤ length old → foreign_from letters 0 word ≡ None → (new : List ℕ)
         → new ≡ in_capitals letters (mirror (length letters) st.mirror (ranks_of letters word)) ++ drop (length word) old → Mirrors (given k) new
     mirror_written_out h g f new x =
         set_by (mirror_ground letters k m word (length old)) k (mirror_bytes letters m word) old new
-        (mirror_foreign letters k m good.none_applies_lem word (length old) h g none f)
+        (mirror_foreign letters k m good.none_applies_lem word (length old) h g None f)
         (x ∙ ap (λ (w : List ℕ). w ++ drop (length word) old) bytes_are ∙ ap (λ (n : ℕ). mirror_bytes letters m word ++ drop n old) (sym bytes_length))
       where
         bytes_are : in_capitals letters (mirror (length letters) st.mirror (ranks_of letters word)) ≡ mirror_bytes letters m word

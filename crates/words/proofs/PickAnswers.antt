@@ -1,7 +1,7 @@
 -- What `pick` hands back at each of its tests.
 use mathlib.Core.Path.{◌≡◌, refl, ap, ◌∙◌}
 use mathlib.Core.Bool.{true, false}
-use mathlib.Core.Option.{none, Option, some}
+use Rattle.std.specs.Prelude.{None, Option, Some}
 use mathlib.Core.List.{List, []}
 use Prim.Native.Nat.{ℕ, ◌≤◌, ◌<◌}
 use native.Mathlib.Omega.{arith}
@@ -29,13 +29,13 @@ pub refused_coding : (letters : List ℕ) (k m : ℕ) (word : List ℕ) (f : Gro
 unfolding coding
 refused_coding letters k m word f e = rw (refused_is f _ (code_ground letters k m word) e)
 
-none_is : (g : Option Ground) → true ≡ none_applies g → g ≡ none
-none_is none e = refl
-none_is (some f) e = absurd (let z : ◌≡◌ {A = ℕ} 0 1 = cc in omega arith)
+none_is : (g : Option Ground) → true ≡ none_applies g → g ≡ None
+none_is None e = refl
+none_is (Some f) e = absurd (let z : ◌≡◌ {A = ℕ} 0 1 = cc in omega arith)
 
-some_is : (g : Option Ground) → false ≡ none_applies g → (f : Ground) × (g ≡ some f)
-some_is none e = absurd (let z : ◌≡◌ {A = ℕ} 0 1 = cc in omega arith)
-some_is (some f) e = (f, refl)
+some_is : (g : Option Ground) → false ≡ none_applies g → (f : Ground) × (g ≡ Some f)
+some_is None e = absurd (let z : ◌≡◌ {A = ℕ} 0 1 = cc in omega arith)
+some_is (Some f) e = (f, refl)
 
 -- A word that can be coded has a plain rank that fits.
 pub within_of : (letters : List ℕ) (k m : ℕ) (w : List ℕ) → true ≡ none_applies (code_ground letters k m w) → Limits (length letters) (length w)
@@ -49,7 +49,7 @@ within_of letters k m w e =
 -- ---- the part that is handed back
 
 module _ (letters : List ℕ) (k m : ℕ) (a b r : Bor (List ℕ)) where
-  refuse : (f : Ground) → pick_ground letters k m a.now b.now ≡ some f → r.ref_ptr ≡ a.ref_ptr → r.now ≡ [] → Picked letters k m a b r
+  refuse : (f : Ground) → pick_ground letters k m a.now b.now ≡ Some f → r.ref_ptr ≡ a.ref_ptr → r.now ≡ [] → Picked letters k m a b r
   refuse f e p n = rw e (record { origin = p; holds = n })
 
   pub first_bad : false ≡ none_applies (code_ground letters k m a.now) → r.ref_ptr ≡ a.ref_ptr → r.now ≡ [] → Picked letters k m a b r
@@ -66,7 +66,7 @@ module _ (letters : List ℕ) (k m : ℕ) (a b r : Bor (List ℕ)) where
       refuse f (ap (λ (o : Option Ground). o or_else code_ground letters k m b.now) (none_is (code_ground letters k m a.now) d) ∙ g) p n
 
   both : true ≡ none_applies (code_ground letters k m a.now) → true ≡ none_applies (code_ground letters k m b.now)
-      → pick_ground letters k m a.now b.now ≡ none
+      → pick_ground letters k m a.now b.now ≡ None
   unfolding pick_ground
   both d e =
       ap (λ (o : Option Ground). o or_else code_ground letters k m b.now) (none_is (code_ground letters k m a.now) d)

@@ -1,7 +1,7 @@
 -- Ranks that are looked up in a table of all bytes' ranks, for `fill_ranks_by` and, along sequences, for `read_ranks`: what stands for a byte, how many there are
 -- and what each is, bytes of parts of a text, and that such ranks are those of the letters (`ranks_by_table`). From the definitions of both.
 use mathlib.Core.Path.{◌≡◌, ap, refl, ap₂}
-use mathlib.Core.Option.{Option}
+use Rattle.std.specs.Prelude.{Option}
 use mathlib.Core.List.{List, [], ◌∷◌}
 use Prim.Native.Nat.{ℕ, ◌+◌, ◌<◌, suc}
 use native.Mathlib.Omega.{arith}

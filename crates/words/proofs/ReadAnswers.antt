@@ -1,6 +1,6 @@
 -- What `word_of` answers and leaves at each of its tests; a code's word has k bytes (`word_bytes_length`).
 use mathlib.Core.Path.{◌≡◌, ap, ◌∙◌, sym}
-use mathlib.Core.Option.{none}
+use Rattle.std.specs.Prelude.{None}
 use mathlib.Core.List.{List, ◌++◌}
 use Prim.Native.Nat.{ℕ, ◌<◌, ◌≤◌}
 use native.Mathlib.Omega.{arith}
@@ -16,7 +16,7 @@ use Rattle.words.proofs.CallGrounds.{read_short, read_no_code, reading_none}
 use Rattle.words.proofs.LetterLoops.{read_bytes, length-capitals}
 use Rattle.codes.proofs.ReadSteps.{word_length}
 
-pub word_bytes_length : (letters : List ℕ) (k m q : ℕ) → settings_ground letters k m ≡ none → q < classes (length letters) (mirror_of m) k
+pub word_bytes_length : (letters : List ℕ) (k m q : ℕ) → settings_ground letters k m ≡ None → q < classes (length letters) (mirror_of m) k
     → length (word_bytes letters k m q) ≡ k
 unfolding word_bytes
 word_bytes_length letters k m q good below = length-capitals letters _ ∙ word_length letters k (mirror_of m) q (limits letters k m good) below

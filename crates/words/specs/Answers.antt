@@ -1,7 +1,7 @@
 -- How the answers of the word calls are read, the contracts of reading a code and mirroring, and what the pick hands back: document 01,
 -- "Word of a code, and the canonical pick".
 use Rattle.std.specs.Prelude.{ℕ, ◌≡◌, Bool, true, false, List, [], length}
-use Rattle.std.proofs.Math.Option.{Option, none, some}
+use Rattle.std.specs.Prelude.{Option, None, Some}
 use Rattle.std.specs.Borrow.{Bor}
 use Rattle.settings.specs.Grounds.{Ground, Outcome, given, refused, ground_of, Overwrites}
 use Rattle.words.specs.declared.Coding.{Coding}
@@ -25,8 +25,8 @@ WritesMirror letters k m word old answer new = Overwrites (mirror_ground letters
 
 -- The place of a byte that is no letter, or none.
 abbrev pub of_place : Place → Option ℕ
-of_place (At n) = some n
-of_place Nowhere = none
+of_place (At n) = Some n
+of_place Nowhere = None
 
 -- A part of a lent slice: it starts where the slice starts, and holds these bytes.
 pub record PartOf (slice : Bor (List ℕ)) (bytes : List ℕ) (r : Bor (List ℕ)) : Type 0 where
@@ -35,9 +35,9 @@ pub record PartOf (slice : Bor (List ℕ)) (bytes : List ℕ) (r : Bor (List ℕ
 
 -- What the pick hands back: "A refused pick hands back an empty part of the first"; else "the one with the lower plain rank; the first if they are equal".
 abbrev pub HandsBack : Option Ground → (first_lower : Bool) (first second r : Bor (List ℕ)) → Type 0
-HandsBack (some g) first_lower first second r = PartOf first [] r
-HandsBack none true first second r = PartOf first first.now r
-HandsBack none false first second r = PartOf second second.now r
+HandsBack (Some g) first_lower first second r = PartOf first [] r
+HandsBack None true first second r = PartOf first first.now r
+HandsBack None false first second r = PartOf second second.now r
 
 -- The contract of the pick.
 abbrev pub Picked : (letters : List ℕ) (k mirror : ℕ) (first second r : Bor (List ℕ)) → Type 0

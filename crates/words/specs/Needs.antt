@@ -1,7 +1,7 @@
 -- What functions below the calls ask of each other and laws speak of; no sentence of document 01 rests on it: ranks by a function of bytes, and whether a
 -- ground applies.
 use Rattle.std.specs.Prelude.{Bool, true, false, List, map, ℕ}
-use Rattle.std.proofs.Math.Option.{Option, none, some}
+use Rattle.std.specs.Prelude.{Option, None, Some}
 use Rattle.settings.specs.Grounds.{Ground}
 use Rattle.encoding.specs.Calls.{rank_or_zero}
 
@@ -12,5 +12,5 @@ ranks_by rank bytes = map (λ (b : ℕ). rank_or_zero (rank b)) bytes
 -- ---- grounds
 
 abbrev pub none_applies : Option Ground → Bool
-none_applies none = true
-none_applies (some g) = false
+none_applies None = true
+none_applies (Some g) = false

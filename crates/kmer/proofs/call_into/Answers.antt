@@ -1,6 +1,6 @@
 -- `kmer::call_into` meets its contract: a refusal leaves the table and the list as they were; else the list has the file's five numbers.
 use mathlib.Core.Path.{◌≡◌, ap}
-use mathlib.Core.Option.{none}
+use Rattle.std.specs.Prelude.{None}
 use lib.ListN.{length}
 use borrow.Author.Rules.{rules}
 use Rattle.fasta.specs.Scan.{of_answer}
@@ -19,7 +19,7 @@ enum_told-1 c = search rules
 
 pub returns-then-answer-lt5 : goal.returns-then-answer-lt5
 returns-then-answer-lt5 c =
-    let Ready : Type 0 = let a = c.args in ready_ground a.letters.now a.k a.mirror (length a.table.now) a.file.now ≡ none in
+    let Ready : Type 0 = let a = c.args in ready_ground a.letters.now a.k a.mirror (length a.table.now) a.file.now ≡ None in
     let no-ground : Ready = (ready_passed _ _ _ _ _ _ c.ready.ensures _ c.in-Good.is).none_applies_lem in
     into_short _ _ _ _ _ _ _ (file_of_lem c.args.way _) no-ground c.if-answer-lt5.true _ c.refused_at-then-answer-lt5.ensures
 
