@@ -54,11 +54,8 @@ pub fn fill_mirror(w: &[u64], s: u64, m: Mirror, out: &mut [u64])
     requires { Ranks s w.now × (length w.now ≤ length out.old) }
     ensures { out.new ≡ mirror s m w.now ++ drop (length w.now) out.old }
 {
-    let n = w.len();
-    let mut i: usize = 0;
-    while i < n {
-        out[i] = mirror_rank(s, m, w[n - 1 - i]);
-        i += 1;
+    for (i, rank) in w.iter().rev().enumerate() {
+        out[i] = mirror_rank(s, m, *rank);
     }
 }
 
@@ -68,10 +65,8 @@ pub fn plain_rank(w: &[u64], s: u64) -> PlainRank
     ensures { result.0 ≡ plain s w.now }
 {
     let mut p: u64 = 0;
-    let mut i: usize = 0;
-    while i < w.len() {
-        p = p * s + w[i];
-        i += 1;
+    for rank in w {
+        p = p * s + *rank;
     }
     PlainRank(p)
 }

@@ -1,10 +1,6 @@
 -- `ranks::mirror_rank` meets its contract. A case for each mirror.
-use borrow.Author.Rules.{rules}
 use Rattle.encoding.specs.Words.{mirror_rank}
 use Rattle.ranks.proofs.mirror_rank.Goals as goal
-
-pub enum_told-1 : goal.enum_told-1
-enum_told-1 c = search rules
 
 pub returns-in-Reversal : goal.returns-in-Reversal
 unfolding mirror_rank

@@ -1,6 +1,0 @@
--- `ranks::rank_at` meets its contract. A byte fits 64 bits.
-use native.Mathlib.Omega.{arith}
-use Rattle.ranks.proofs.rank_at.Goals as goal
-
-pub overflow_cast-result : goal.overflow_cast-result
-overflow_cast-result c = omega (arith, c.shared_slice_known-1.given c.args.i)
