@@ -1,7 +1,7 @@
 -- The decimal digits of a number: the last digit apart, how many there are, and that each byte is a digit (`decimal-each`). From the definition in
 -- specs/Decimals.antt.
-use mathlib.Core.Path.{◌≡◌, refl, ap, ◌∙◌}
-use Prim.Native.Nat.{ℕ, zero, suc, ◌+◌, ◌/◌, ◌%◌, ◌^◌, ◌≤◌, ◌<◌}
+use mathlib.Core.Path.{◌≡◌, refl, sym, ap, ◌∙◌}
+use Prim.Native.Nat.{ℕ, zero, suc, ◌+◌, ◌*◌, ◌/◌, ◌%◌, ◌^◌, ◌≤◌, ◌<◌, max}
 use native.Mathlib.Nat.{pow-suc}
 use native.Mathlib.Omega.{arith}
 use native.Mathlib.Decide.{dec_lt}
@@ -12,6 +12,7 @@ use lib.Dec.{ltb}
 use borrow.Author.Tests.{ltb-true, ltb-false, lt-ltb, le-ltb}
 use Rattle.laws.specs.Each.{Each}
 use Rattle.laws.proofs.Each.{each_append}
+use Rattle.laws.proofs.Powers.{pow_pos}
 use Rattle.texts.specs.Decimals.{decimal_from, decimal}
 
 -- More steps than the number give the same digits.
@@ -41,6 +42,19 @@ more_digits n h = last_apart n h ∙ (rw (enough n (suc (n / 10)) (n / 10) (omeg
 
 pub length_more : (n : ℕ) → 10 ≤ n → length (decimal n) ≡ length (decimal (n / 10)) + 1
 length_more n h = ap length (more_digits n h) ∙ length-append (decimal (n / 10)) ((48 + n % 10) ∷ [])
+
+-- A number from 10^d to below 10^(d + 1) has d + 1 digits.
+length_by_power : (d n : ℕ) → 10 ^ d ≤ n → n < 10 * 10 ^ d → length (decimal n) ≡ d + 1
+length_by_power zero n l h = ap length (one_digit n (omega arith))
+length_by_power (suc d) n l h =
+    let p : 10 ^ suc d ≡ 10 ^ d * 10 = pow-suc 10 d in
+    let positive : 0 < 10 ^ d = pow_pos 10 d (omega arith) in
+    omega (arith, length_more n (omega arith), length_by_power d (n / 10) (omega arith) (omega arith))
+
+-- The same with 0 beside 1, which has as many digits.
+pub length_by_log : (d n : ℕ) → 10 ^ d ≤ max n 1 → max n 1 < 10 * 10 ^ d → d + 1 ≡ length (decimal n)
+length_by_log d zero l h = sym (ap length (one_digit 0 (omega arith)) ∙ sym (ap length (one_digit 1 (omega arith))) ∙ length_by_power d 1 l h)
+length_by_log d (suc n) l h = sym (length_by_power d (suc n) (omega arith) (omega arith))
 
 -- A number below 10^(d + 1) has at most d + 1 digits.
 pub decimal-length : (d n : ℕ) → n < 10 ^ suc d → length (decimal n) ≤ suc d

@@ -12,7 +12,8 @@ use lib.Seq.{sets, length-sets, sets-eq, set_out, take-suc}
 use lib.Dec.{leb}
 use borrow.Author.Tests.{leb-true, leb-false}
 use Rattle.texts.specs.Decimals.{decimal}
-use Rattle.texts.specs.Needs.{top, Puts}
+use Rattle.texts.specs.declared.Writer.{Writer}
+use Rattle.texts.specs.Needs.{top, Puts, Writes}
 
 -- Two texts, one behind the other, are set one after the other.
 pub sets_append : (p l : List ℕ) (at : ℕ) (q : List ℕ) → sets l at (p ++ q) ≡ sets (sets l at p) (at + length p) q
@@ -38,13 +39,9 @@ at_top l at q h = go (leb at top) refl
 pub kept : {a b : List ℕ} {at r : ℕ} {p : List ℕ} → Puts a b at r p → length b ≡ length a
 kept {a} {b} {at} {r} {p} P = ap length P.leaves ∙ length-sets a at p
 
--- No text, written anywhere.
-pub nothing : (out : List ℕ) (at : ℕ) → at ≤ top → length out ≤ top → Puts out out at at []
-nothing out at h l = record { place = omega arith; leaves = refl; bounded = l }
-
--- One text, and then another right behind it.
-pub then : {a b c : List ℕ} {at next r : ℕ} {p q : List ℕ} → Puts a b at next p → Puts b c next r q → Puts a c at r (p ++ q)
-then {a} {b} {c} {at} {next} {r} {p} {q} P Q =
+-- One text, and then another right behind it, in a buffer.
+puts_then : {a b c : List ℕ} {at next r : ℕ} {p q : List ℕ} → Puts a b at next p → Puts b c next r q → Puts a c at r (p ++ q)
+puts_then {a} {b} {c} {at} {next} {r} {p} {q} P Q =
     record {
       place = omega (arith, P.place, Q.place, length-append p q);
       leaves =
@@ -53,15 +50,20 @@ then {a} {b} {c} {at} {next} {r} {p} {q} P Q =
       bounded = P.bounded;
     }
 
+-- No text.
+pub nothing : (w : Writer) → w.at ≤ top → length w.out.now ≤ top → Writes w w []
+nothing w h l = record { buffer = refl; puts = record { place = omega arith; leaves = refl; bounded = l } }
+
+-- One text, and then another right behind it.
+pub then : {u v w : Writer} {p q : List ℕ} → Writes u v p → Writes v w q → Writes u w (p ++ q)
+then P Q = record { buffer = Q.buffer ∙ P.buffer; puts = puts_then P.puts Q.puts }
+
 -- A text with a number behind it, and then another text.
-pub then_field : {a b c : List ℕ} {at next r : ℕ} (text : List ℕ) (n : ℕ) {q : List ℕ} → Puts a b at next (text ++ decimal n) → Puts b c next r q
-    → Puts a c at r (text ++ (decimal n ++ q))
+pub then_field : {u v w : Writer} (text : List ℕ) (n : ℕ) {q : List ℕ} → Writes u v (text ++ decimal n) → Writes v w q → Writes u w (text ++ (decimal n ++ q))
 then_field text n {q} P Q = rw (← append_assoc text (decimal n) q) (then P Q)
 
 -- One byte more of a text.
-pub more : {a b c : List ℕ} {at next r : ℕ} (text : List ℕ) (i : ℕ) → i < length text → Puts a b at next (take i text)
-    → Puts b c next r (get_or text i 0 ∷ [])
-    → Puts a c at r (take (i + 1) text)
+pub more : {u v w : Writer} (text : List ℕ) (i : ℕ) → i < length text → Writes u v (take i text) → Writes v w (get_or text i 0 ∷ []) → Writes u w (take (i + 1) text)
 more text i h P Q = rw (add-one i, take-suc text i 0 h) (then P Q)
 
 -- A text that fits, written from the start.

@@ -2,6 +2,7 @@
 -- place or not, so that writers one after the other need no condition.
 use Rattle.std.specs.Prelude.{◌≡◌, ℕ, ◌+◌, ◌≤◌, min, List, length}
 use Rattle.std.proofs.lemmas.List.Edits.{sets}
+use Rattle.texts.specs.declared.Writer.{Writer}
 
 -- The highest place that a writer counts to, 2^64 - 1.
 abbrev pub top : ℕ
@@ -12,3 +13,8 @@ pub record Puts (out out' : List ℕ) (at r : ℕ) (text : List ℕ) : Type 0 wh
   pub place : r ≡ min (at + length text) top
   pub leaves : out' ≡ sets out at text
   pub bounded : length out ≤ top
+
+-- A writer wrote a text into the buffer that it had, and stands behind it.
+pub record Writes (w w' : Writer) (text : List ℕ) : Type 0 where
+  pub buffer : w'.out.ghost_name ≡ w.out.ghost_name
+  pub puts : Puts w.out.now w'.out.now w.at w'.at text

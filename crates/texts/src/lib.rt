@@ -1,44 +1,72 @@
-// Writers of texts into a lent buffer: a byte, some bytes, a number in decimal, a text with a number behind it. A writer takes the place
-// to write at and answers the place after its text. Bytes that the buffer has no place for are counted and not written.
+// Writing texts into a lent buffer: bytes, and numbers in decimal.
 
 #![tactic(auto)]
 
-ghost use Rattle.std.specs.Prelude.{◌≡◌, ◌+◌, ◌%◌, min, [], ◌∷◌, ◌++◌, length};
+ghost use Rattle.std.specs.Prelude.{◌≡◌, ◌%◌, ◌+◌, [], ◌∷◌, ◌++◌, length};
 ghost use Rattle.texts.specs.Decimals.{decimal};
-ghost use Rattle.texts.specs.Needs.{top, Puts};
+ghost use Rattle.texts.specs.Needs.{Writes};
 
-// The place after a place, 2^64 - 1 being the last one.
-fn next_place(at: usize) -> usize
-    ensures { result ≡ min (at + 1) top }
-{
-    if at == 18446744073709551615 {
-        return at;
-    }
-    at + 1
+// A lent buffer and the place reached in it. Bytes that the buffer has no place for are counted and not written.
+#[derive(Drop)]
+pub struct Writer<'a> {
+    out: &'a mut [u8],
+    at: usize,
 }
 
-// One byte.
-fn put_byte(out: &mut [u8], at: usize, b: u8) -> usize
-    ensures { Puts out.old out.new at result (b ∷ []) }
-{
-    if at < out.len() {
-        out[at] = b;
-        return next_place(at);
+impl<'a> Writer<'a> {
+    // A writer at the buffer's start.
+    pub fn new(out: &'a mut [u8]) -> Writer<'a>
+        ensures buffer { result.out.ghost_name ≡ out.entry.ghost_name }
+        ensures unwritten { result.out.now ≡ out.old }
+        ensures start { result.at ≡ 0 }
+    {
+        Writer { out, at: 0 }
     }
-    next_place(at)
-}
 
-// The bytes of a text.
-pub fn put_text(out: &mut [u8], at: usize, text: &[u8]) -> usize
-    ensures { Puts out.old out.new at result text.now }
-{
-    let mut next = at;
-    let mut i: usize = 0;
-    while i < text.len() {
-        next = put_byte(out, next, text[i]);
-        i += 1;
+    // The place after all that was written: a text's length.
+    pub fn place(&self) -> usize
+        ensures { result ≡ self.now.at }
+    {
+        self.at
     }
-    next
+
+    // One byte. The last place is 2^64 - 1.
+    fn put_byte(&mut self, b: u8)
+        ensures { Writes self.old self.new (b ∷ []) }
+    {
+        let len = self.out.len();
+        if self.at < len {
+            self.out[self.at] = b;
+        }
+        self.at = self.at.saturating_add(1);
+    }
+
+    // The bytes of a text.
+    pub fn put_text(&mut self, text: &[u8])
+        ensures { Writes self.old self.new text.now }
+    {
+        for b in text {
+            self.put_byte(*b);
+        }
+    }
+
+    // A number in decimal.
+    fn put_decimal(&mut self, n: u64)
+        ensures { Writes self.old self.new (decimal n) }
+    {
+        if n >= 10 {
+            self.put_decimal(n / 10);
+        }
+        self.put_byte(last_digit(n));
+    }
+
+    // A text and then a number.
+    pub fn put_field(&mut self, text: &[u8], n: u64)
+        ensures { Writes self.old self.new (text.now ++ decimal n) }
+    {
+        self.put_text(text);
+        self.put_decimal(n);
+    }
 }
 
 // The last digit of a number, as it is written.
@@ -48,35 +76,9 @@ fn last_digit(n: u64) -> u8
     48 + (n % 10) as u8
 }
 
-// A number in decimal.
-fn put_decimal(out: &mut [u8], at: usize, n: u64) -> usize
-    ensures { Puts out.old out.new at result (decimal n) }
-{
-    let d = last_digit(n);
-    if n < 10 {
-        return put_byte(out, at, d);
-    }
-    let next = put_decimal(out, at, n / 10);
-    put_byte(out, next, d)
-}
-
-// How many digits a number has.
+// How many digits a number has: 0 has one, as 1 has.
 pub fn digit_count(n: u64) -> usize
     ensures { result ≡ length (decimal n) }
 {
-    let mut count: usize = 1;
-    let mut left = n;
-    while left >= 10 {
-        left /= 10;
-        count += 1;
-    }
-    count
-}
-
-// A text and then a number.
-pub fn put_field(out: &mut [u8], at: usize, text: &[u8], n: u64) -> usize
-    ensures { Puts out.old out.new at result (text.now ++ decimal n) }
-{
-    let next = put_text(out, at, text);
-    put_decimal(out, next, n)
+    n.max(1).ilog10() as usize + 1
 }

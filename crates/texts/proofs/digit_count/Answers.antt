@@ -1,18 +1,6 @@
--- `texts::digit_count` meets its contract. The invariant: the digits counted so far, less one, and those of the number left are all digits.
-use mathlib.Core.Path.{ap}
-use native.Mathlib.Omega.{arith}
-use lib.ListN.{length}
-use Rattle.texts.proofs.Decimals.{one_digit, length_more, decimal-length}
+-- `texts::digit_count` meets its contract, by the powers of 10 that its logarithm lies between.
+use Rattle.texts.proofs.Decimals.{length_by_log}
 use Rattle.texts.proofs.digit_count.Goals as goal
 
-pub overflow_add-count : goal.overflow_add-count
-overflow_add-count c =
-    omega (arith, c.loop-left.invariant, decimal-length 19 c.args.n (omega arith))
-
-pub loop-left-preserved : goal.loop-left-preserved
-loop-left-preserved c =
-    omega (arith, c.loop-left.invariant, length_more c.loop-left.left c.loop-left-test.true)
-
 pub returns : goal.returns
-returns c =
-    omega (arith, c.loop-left.invariant, ap length (one_digit c.loop-left.left c.loop-left-test.false))
+returns c = length_by_log c.ilog10.result c.args.n (rw (← c.max.ensures) c.ilog10.ensures.power_le) (rw (← c.max.ensures) c.ilog10.ensures.next_power_gt)
