@@ -1,46 +1,42 @@
--- The test of the letters by what is left of them: one turn of the loops of `is_in` and `good_letters`, and what good letters are.
-use mathlib.Core.Path.{◌≡◌, sym, ap}
+-- The test of the letters by what is left of them: one turn of the loop of `good_letters`, and what good letters are.
+use mathlib.Core.Path.{◌≡◌, refl, sym, ap}
 use Prim.Native.Nat.{ℕ, ◌+◌, ◌<◌, ◌≤◌}
 use native.Mathlib.Numerals.{add-one}
-use mathlib.Core.Bool.{true, false, and-false, and-eq-true_iff, ◌&&◌}
-use mathlib.Core.List.{List}
+use mathlib.Core.Bool.{Bool, true, false, and-false, and-eq-true_iff, ◌&&◌, ◌||◌}
+use mathlib.Core.List.{List, [], ◌∷◌}
 use lib.ListN.{length, get_or, drop, drop_of_length-le}
 use lib.Seq.{drop-cons}
-use lib.Dec.{leb}
-use borrow.Author.Tests.{eq-eqb, ne_eqb, le-leb, lt-leb, leb-true}
+use lib.Dec.{leb, eqb}
+use Rattle.std.specs.List.{list_any}
+use Rattle.std.specs.Char.{is_ascii_uppercase}
+use borrow.Author.Tests.{le-leb, lt-leb, leb-true}
 use Rattle.settings.specs.Settings.{is_in, is_capital, different_capitals, good_letters}
 
-module _ (l : List ℕ) (i b : ℕ) where
-  pub in_here : i < length l → get_or l i 0 ≡ b → true ≡ is_in b (drop i l)
-  unfolding is_in
-  in_here h e = rw (drop-cons l i 0 h, eq-eqb (get_or l i 0) b e)
+-- Whether b is in a list, as std's `contains` searches for it.
+pub any_is_in : (b : ℕ) (ls : List ℕ) → list_any (λ x. eqb x b) ls ≡ is_in b ls
+unfolding is_in
+any_is_in b [] = refl
+any_is_in b (l ∷ ls) = ap (λ (t : Bool). eqb l b || t) (any_is_in b ls)
 
-  pub in_next : i < length l → (get_or l i 0 ≡ b → ⊥) → is_in b (drop i l) ≡ is_in b (drop (i + 1) l)
-  unfolding is_in
-  in_next h e = rw (add-one i, drop-cons l i 0 h, ne_eqb (get_or l i 0) b e)
-
-  pub in_none : length l ≤ i → false ≡ is_in b (drop i l)
-  unfolding is_in
-  in_none h = rw (drop_of_length-le l h)
+-- A capital, as std tests it.
+pub uppercase_capital : (b : ℕ) → is_ascii_uppercase b ≡ is_capital b
+unfolding is_capital
+uppercase_capital b = refl
 
 module _ (l : List ℕ) (i : ℕ) where
-  pub below_A : i < length l → get_or l i 0 < 65 → false ≡ different_capitals (drop i l)
-  unfolding different_capitals is_capital
-  below_A h g = rw (drop-cons l i 0 h, lt-leb 65 (get_or l i 0) g)
-
-  pub above_Z : i < length l → 90 < get_or l i 0 → false ≡ different_capitals (drop i l)
-  unfolding different_capitals is_capital
-  above_Z h g = rw (drop-cons l i 0 h, lt-leb (get_or l i 0) 90 g, and-false (leb 65 (get_or l i 0)))
+  pub no_capital : i < length l → false ≡ is_capital (get_or l i 0) → false ≡ different_capitals (drop i l)
+  unfolding different_capitals
+  no_capital h e = rw (drop-cons l i 0 h, ← e)
 
   pub repeated : i < length l → true ≡ is_in (get_or l i 0) (drop (i + 1) l) → false ≡ different_capitals (drop i l)
   unfolding different_capitals
   repeated h g = rw (drop-cons l i 0 h, ← (add-one i), ← g, and-false (is_capital (get_or l i 0)))
 
-  pub next_good : i < length l → 65 ≤ get_or l i 0 → get_or l i 0 ≤ 90 → false ≡ is_in (get_or l i 0) (drop (i + 1) l)
+  pub next_good : i < length l → true ≡ is_capital (get_or l i 0) → false ≡ is_in (get_or l i 0) (drop (i + 1) l)
       → different_capitals (drop i l) ≡ different_capitals (drop (i + 1) l)
-  unfolding different_capitals is_capital
-  next_good h g f e =
-      rw (drop-cons l i 0 h, ← (add-one i), le-leb 65 (get_or l i 0) g, le-leb (get_or l i 0) 90 f, ← e)
+  unfolding different_capitals
+  next_good h g e =
+      rw (drop-cons l i 0 h, ← (add-one i), ← g, ← e)
       (ap (λ (n : ℕ). different_capitals (drop n l)) (sym (add-one i)))
 
   pub all_good : length l ≤ i → true ≡ different_capitals (drop i l)

@@ -2,7 +2,9 @@
 -- A refused call leaves its buffer as it was. From the definitions of specs/Grounds.antt alone.
 use mathlib.Core.Path.{◌≡◌, refl, ap, ◌∙◌}
 use mathlib.Core.Bool.{Bool, false, true, cond}
-use Rattle.std.specs.Prelude.{Option, None, Some}
+use Rattle.std.specs.Prelude.{Option, None, Some, Result}
+use Rattle.std.specs.Result.{IsErrAnd}
+use Rattle.std.proofs.lemmas.Result.{err_from_is_err_and}
 use mathlib.Core.List.{List, [], ◌++◌, append-nil}
 use Prim.Native.Nat.{ℕ, ◌≤◌}
 use native.Mathlib.Omega.{arith}
@@ -10,7 +12,8 @@ use lib.ListN.{drop, length, take, drop_of_length-le, take-append-drop}
 use lib.Seq.{length-take-le}
 use lib.Dec.{ltb}
 use borrow.Author.Tests.{ltb-false}
-use Rattle.settings.specs.Grounds.{refused, Ground, Outcome, outcome, ◌or_else◌, given, ground, ground_at, too_short, unless_refused, Overwrites}
+use Rattle.settings.specs.declared.Refusal.{Refusal}
+use Rattle.settings.specs.Grounds.{refused, Ground, ground_of, Outcome, outcome, outcome_of, ◌or_else◌, given, ground, ground_at, too_short, unless_refused, Overwrites}
 
 -- The grounds of a call that is refused.
 pub refused_is : {A : Type 0} (f : Ground) (a : A) (g : Option Ground) → refused f ≡ outcome g a → g ≡ Some f
@@ -110,3 +113,9 @@ prefix_overwritten None n places t {new = new} size long O =
     }
 prefix_overwritten (Some f) n places t size long O =
     record { answers = O.answers; leaves = ap (λ (l : List ℕ). l ++ drop n t) O.leaves ∙ take-append-drop n t }
+
+-- ---- the exit of a `?`
+
+-- What a `?` returns where the call before it was refused: that refusal.
+pub passed_on : {A : Type 0} (r : Result A Refusal) (f : Refusal) → IsErrAnd r (λ x. x ≡ f) → outcome_of r ≡ refused (ground_of f)
+passed_on r f e = let (x, is, same) = err_from_is_err_and r e in rw (is, same)

@@ -5,17 +5,17 @@ use Rattle.std.specs.Prelude.{None}
 use mathlib.Core.List.{List}
 use Prim.Native.Nat.{ℕ, ◌<◌, ◌≤◌, ◌^◌}
 use native.Mathlib.Omega.{arith}
-use borrow.Author.Tests.{lt-ltb, not-false, ltb-false, eqb-false}
+use borrow.Author.Tests.{not-false, ltb-false, eqb-false}
 use lib.Dec.{ltb, eqb}
 use lib.ListN.{length}
 use mathlib.Mathlib.Data.Bool.Basic.{or-eq-false-eq-eq-false-and-eq-false}
 use Rattle.laws.proofs.Powers.{exponent_le}
-use Rattle.settings.specs.Grounds.{ground, refused, outcome, given}
+use Rattle.settings.specs.Grounds.{Ground, ground, refused, outcome, given}
 use Rattle.settings.specs.Limits.{Limits}
 use Rattle.settings.specs.Settings.{good_letters, settings_ground, settings_of, bad_size, settings_for, mirror_of, classes}
 use Rattle.settings.proofs.Letters.{good_at_least, good_at_most}
-use Rattle.settings.proofs.Outcomes.{later_none, test_fails, first_none, passed}
-use Rattle.settings.specs.declared.Mirror.TheVariants.{Reversal, Complement}
+use Rattle.settings.proofs.Outcomes.{later_none, test_fails, first_none, passed, refused_on}
+use Rattle.settings.specs.declared.Mirror.{Mirror}
 use Rattle.settings.specs.declared.Settings.{Settings}
 
 module _ (l : List ℕ) (k m : ℕ) where
@@ -23,19 +23,15 @@ module _ (l : List ℕ) (k m : ℕ) where
   unfolding settings_ground
   ground_1 e = rw (← e)
 
-  pub ground_2 : true ≡ good_letters l → 1 < m → refused (2, 0) ≡ outcome (settings_ground l k m) (settings_of l k m)
+  pub mirror_refused : (f : Ground) → true ≡ good_letters l → refused f ≡ outcome (ground 2 (ltb 1 m)) (mirror_of m)
+      → refused f ≡ outcome (settings_ground l k m) (settings_of l k m)
   unfolding settings_ground
-  ground_2 e h = rw (← e, lt-ltb 1 m h)
+  mirror_refused f e h = rw (← e) (refused_on f (mirror_of m) (settings_of l k m) (ground 2 (ltb 1 m)) _ h)
 
-  pub rest_0 : true ≡ good_letters l → m ≡ 0
-      → outcome (ground 4 (bad_size (length l) k)) (settings_for (length l) k Reversal) ≡ outcome (settings_ground l k m) (settings_of l k m)
+  pub mirror_given : {x : Mirror} → true ≡ good_letters l → given x ≡ outcome (ground 2 (ltb 1 m)) (mirror_of m)
+      → outcome (ground 4 (bad_size (length l) k)) (settings_for (length l) k x) ≡ outcome (settings_ground l k m) (settings_of l k m)
   unfolding settings_ground
-  rest_0 e h = rw (← e, h)
-
-  pub rest_1 : true ≡ good_letters l → m ≡ 1
-      → outcome (ground 4 (bad_size (length l) k)) (settings_for (length l) k Complement) ≡ outcome (settings_ground l k m) (settings_of l k m)
-  unfolding settings_ground
-  rest_1 e h = rw (← e, h)
+  mirror_given e h = let p = passed (mirror_of m) (ground 2 (ltb 1 m)) h in rw (← e, p.none_applies_lem, p.value)
 
 -- ---- what holds where no ground applies
 

@@ -1,9 +1,6 @@
 -- Document 01, "Grounds for refusing", and document 02, K1 (15 to 17), K4 (18), K5 (19) and K7 (20 to 22): how a call reports a refusal, and the order in
 -- which grounds are tried.
-use Rattle.std.specs.Prelude.{ℕ, ◌≡◌, Bool, true, false, cond, List, ◌++◌, length, drop, ltb}
-use Rattle.std.specs.Prelude.{Option, None, Some}
-use Rattle.settings.specs.declared.Filling.{Filling}
-use Rattle.settings.specs.declared.Filling.TheVariants.{Filled, Unfilled}
+use Rattle.std.specs.Prelude.{ℕ, ◌≡◌, Bool, true, false, cond, List, ◌++◌, length, drop, ltb, Option, None, Some, Result, Ok, Err}
 use Rattle.settings.specs.declared.Refusal.{Refusal}
 use Rattle.settings.specs.declared.Refusal.TheVariants.{BadLetters, BadMirror, BadK, WrongLength, TooLarge, ShortBuffer, NoSuchCode, ForeignByte, StrayByte, EarlyLetter, CountsFull, NoSurveyLine, LongInput, BadRecord, QualityLength, QualityByte, CountsLacking, FormOrder, BadLine, OtherSettings, BadCount}
 
@@ -42,6 +39,16 @@ pub data Outcome (A : Type 0) : Type 0 where
   given : A → Outcome A
   refused : Ground → Outcome A
 
+-- The outcome that a function's result tells: its value, or the number and P of the refusal.
+abbrev pub outcome_of : {A : Type 0} → Result A Refusal → Outcome A
+outcome_of (Ok a) = given a
+outcome_of (Err f) = refused (ground_of f)
+
+-- The ground that the result of a search for faults names, if it found one.
+abbrev pub fault_of : {A : Type 0} → Result A Refusal → Option Ground
+fault_of (Ok a) = None
+fault_of (Err f) = Some (ground_of f)
+
 -- Ground n with P = 0, if it applies.
 abbrev pub ground : ℕ → Bool → Option Ground
 ground n true = Some (n, 0)
@@ -75,11 +82,6 @@ unless_refused (Some g) new old = old
 -- A lent buffer after a call that overwrites it from its start: the new places and then the old ones; all as before where the call is refused.
 abbrev pub overwritten : Option Ground → (places old : List ℕ) → List ℕ
 overwritten g places old = unless_refused g (places ++ drop (length places) old) old
-
--- Its answer as document 01's value: how many places it set, or the refusal's number and P.
-abbrev pub of_filling : Filling → Outcome ℕ
-of_filling (Filled n) = given n
-of_filling (Unfilled f) = refused (ground_of f)
 
 -- "A call that overwrites a lent buffer from its start .. answers how many places it set, and changes no later one."
 pub record Overwrites (g : Option Ground) (count : ℕ) (places old : List ℕ) (answer : Outcome ℕ) (new : List ℕ) : Type 0 where

@@ -4,11 +4,7 @@ use Rattle.std.specs.Prelude.{Option, None, Some}
 use Rattle.settings.specs.declared.Mirror.{Mirror}
 use Rattle.settings.specs.declared.Mirror.TheVariants.{Reversal, Complement}
 use Rattle.settings.specs.declared.Settings.{Settings}
-use Rattle.settings.specs.declared.Checked.{Checked}
-use Rattle.settings.specs.declared.Checked.TheVariants.{Good, Bad}
-use Rattle.settings.specs.declared.Rank.{Rank}
-use Rattle.settings.specs.declared.Rank.TheVariants.{At, NoLetter}
-use Rattle.settings.specs.Grounds.{Ground, Outcome, given, refused, ground_of, ground, ◌or_else◌}
+use Rattle.settings.specs.Grounds.{Ground, ground, ◌or_else◌}
 use Rattle.settings.specs.Limits.{most_words}
 
 -- "capitals A to Z"
@@ -92,12 +88,3 @@ settings_for s k m = record { s = s; k = k; mirror = m; power = s ^ k; classes =
 -- The same of settings as a caller gives them.
 abbrev pub settings_of : List ℕ → ℕ → ℕ → Settings
 settings_of letters k mirror = settings_for (length letters) k (mirror_of mirror)
-
--- How the answers of this crate's functions are read.
-abbrev pub of_checked : Checked → Outcome Settings
-of_checked (Good st) = given st
-of_checked (Bad f) = refused (ground_of f)
-
-abbrev pub of_rank : Rank → Option ℕ
-of_rank NoLetter = None
-of_rank (At n) = Some n

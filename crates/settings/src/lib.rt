@@ -3,10 +3,10 @@
 
 #![tactic(auto)]
 
-ghost use Rattle.std.specs.Prelude.{◌≡◌, ◌^◌, ◌<◌, ◌≤◌, min, length, drop};
-ghost use Rattle.settings.specs.Grounds.{ground_of, ground, outcome};
-ghost use Rattle.settings.specs.RankTables.{as_rank, RankTable};
-ghost use Rattle.settings.specs.Settings.{classes, capital_of, reads_u_as_t, read_as, rank_in, is_in, good_letters, settings_ground, bad_size, settings_for, settings_of, of_checked, of_rank};
+ghost use Rattle.std.specs.Prelude.{◌≡◌, ◌==◌, ◌^◌, ◌<◌, ◌≤◌, ltb, min, length, position};
+ghost use Rattle.settings.specs.Grounds.{ground_of, ground, outcome, outcome_of};
+ghost use Rattle.settings.specs.RankTables.{as_rank, rank_by_table, RanksOf};
+ghost use Rattle.settings.specs.Settings.{classes, reads_u_as_t, read_as, rank_in, is_in, good_letters, mirror_of, settings_ground, bad_size, settings_for, settings_of};
 
 // The limits of document 01: of s^k, of a sequence file's or a plain sequence's bytes, of a table's classes, and of a count.
 pub const MOST_WORDS: u64 = 4611686018427387904;
@@ -21,14 +21,14 @@ pub const HIGHEST_COUNT: u64 = 4294967295;
 const MORE_WORDS: u64 = MOST_WORDS + 1;
 
 // What the other strand makes of a word: read backwards, or read backwards with each rank i replaced by s - 1 - i.
-#[derive(Clone, Copy)]
+#[derive(Clone, Copy, PartialEq, Eq)]
 pub enum Mirror {
     Reversal,
     Complement,
 }
 
 // The grounds for refusing, in the order of their numbers 1 to 22, of which 3 is reserved. One that has a P other than 0 holds it.
-#[derive(Clone, Copy)]
+#[derive(Clone, Copy, PartialEq, Eq)]
 pub enum Refusal {
     BadLetters,
     BadMirror,
@@ -53,75 +53,68 @@ pub enum Refusal {
     BadCount(usize),
 }
 
-// The answer of a call that overwrites a lent buffer from its start: how many places it set, or the refusal, which leaves the buffer unchanged.
-#[derive(Clone, Copy)]
-pub enum Filling {
-    Filled(usize),
-    Unfilled(Refusal),
-}
+impl Refusal {
+    // Its number.
+    pub fn number(self) -> u64
+        ensures { result ≡ (ground_of self).0 }
+    {
+        match self {
+            Refusal::BadLetters => 1,
+            Refusal::BadMirror => 2,
+            Refusal::BadK => 4,
+            Refusal::WrongLength => 5,
+            Refusal::TooLarge => 6,
+            Refusal::ShortBuffer(_) => 7,
+            Refusal::NoSuchCode => 8,
+            Refusal::ForeignByte(_) => 9,
+            Refusal::StrayByte(_) => 10,
+            Refusal::EarlyLetter(_) => 11,
+            Refusal::CountsFull => 12,
+            Refusal::NoSurveyLine => 13,
+            Refusal::LongInput => 14,
+            Refusal::BadRecord(_) => 15,
+            Refusal::QualityLength(_) => 16,
+            Refusal::QualityByte(_) => 17,
+            Refusal::CountsLacking => 18,
+            Refusal::FormOrder => 19,
+            Refusal::BadLine(_) => 20,
+            Refusal::OtherSettings(_) => 21,
+            Refusal::BadCount(_) => 22,
+        }
+    }
 
-// What is found of a text, or of a part of it, that is searched for faults: none, or the first one.
-#[derive(Clone, Copy)]
-pub enum Finding {
-    Clean,
-    Faulty(Refusal),
-}
-
-// The number of a refusal.
-pub fn number_of(f: Refusal) -> u64
-    ensures { result ≡ (ground_of f).0 }
-{
-    match f {
-        Refusal::BadLetters => 1,
-        Refusal::BadMirror => 2,
-        Refusal::BadK => 4,
-        Refusal::WrongLength => 5,
-        Refusal::TooLarge => 6,
-        Refusal::ShortBuffer(_) => 7,
-        Refusal::NoSuchCode => 8,
-        Refusal::ForeignByte(_) => 9,
-        Refusal::StrayByte(_) => 10,
-        Refusal::EarlyLetter(_) => 11,
-        Refusal::CountsFull => 12,
-        Refusal::NoSurveyLine => 13,
-        Refusal::LongInput => 14,
-        Refusal::BadRecord(_) => 15,
-        Refusal::QualityLength(_) => 16,
-        Refusal::QualityByte(_) => 17,
-        Refusal::CountsLacking => 18,
-        Refusal::FormOrder => 19,
-        Refusal::BadLine(_) => 20,
-        Refusal::OtherSettings(_) => 21,
-        Refusal::BadCount(_) => 22,
+    // Its P, 0 for one that has none.
+    pub fn place(self) -> u64
+        ensures { result ≡ (ground_of self).1 }
+    {
+        match self {
+            Refusal::ShortBuffer(needed) => needed as u64,
+            Refusal::ForeignByte(at) => at as u64,
+            Refusal::StrayByte(at) => at as u64,
+            Refusal::EarlyLetter(at) => at as u64,
+            Refusal::BadRecord(at) => at as u64,
+            Refusal::QualityLength(at) => at as u64,
+            Refusal::QualityByte(at) => at as u64,
+            Refusal::BadLine(at) => at as u64,
+            Refusal::OtherSettings(at) => at as u64,
+            Refusal::BadCount(at) => at as u64,
+            _ => 0,
+        }
     }
 }
 
-// The P of a refusal.
-pub fn place_of(f: Refusal) -> u64
-    ensures { result ≡ (ground_of f).1 }
-{
-    match f {
-        Refusal::BadLetters => 0,
-        Refusal::BadMirror => 0,
-        Refusal::BadK => 0,
-        Refusal::WrongLength => 0,
-        Refusal::TooLarge => 0,
-        Refusal::ShortBuffer(needed) => needed as u64,
-        Refusal::NoSuchCode => 0,
-        Refusal::ForeignByte(at) => at as u64,
-        Refusal::StrayByte(at) => at as u64,
-        Refusal::EarlyLetter(at) => at as u64,
-        Refusal::CountsFull => 0,
-        Refusal::NoSurveyLine => 0,
-        Refusal::LongInput => 0,
-        Refusal::BadRecord(at) => at as u64,
-        Refusal::QualityLength(at) => at as u64,
-        Refusal::QualityByte(at) => at as u64,
-        Refusal::CountsLacking => 0,
-        Refusal::FormOrder => 0,
-        Refusal::BadLine(at) => at as u64,
-        Refusal::OtherSettings(at) => at as u64,
-        Refusal::BadCount(at) => at as u64,
+// The mirror that a number names: 0 is reversal, 1 reverse complement.
+impl TryFrom<u64> for Mirror {
+    type Error = Refusal;
+
+    fn try_from(number: u64) -> Result<Mirror, Refusal>
+        ensures { outcome_of result ≡ outcome (ground 2 (ltb 1 number)) (mirror_of number) }
+    {
+        match number {
+            0 => Ok(Mirror::Reversal),
+            1 => Ok(Mirror::Complement),
+            _ => Err(Refusal::BadMirror),
+        }
     }
 }
 
@@ -135,68 +128,43 @@ pub struct Settings {
     pub classes: u64,
 }
 
-// What the check of settings gives: the settings, or why they are refused.
-#[derive(Clone, Copy)]
-pub enum Checked {
-    Good(Settings),
-    Bad(Refusal),
-}
-
-// A byte's rank among the letters, or that it is read as none of them.
-#[derive(Clone, Copy)]
-pub enum Rank {
-    At(usize),
-    NoLetter,
-}
-
-// A small letter's capital; any other byte itself.
-fn capital(b: u8) -> u8
-    ensures { result ≡ capital_of b }
-{
-    if b >= 97 {
-        if b <= 122 {
-            return b - 32;
-        }
-    }
-    b
-}
-
-// Whether the letters have T (84) and no U (85), so that U is read as T (document 02, K2).
+// Whether the letters have T and no U, so that U is read as T (document 02, K2).
 fn reads_u_as_t(letters: &[u8]) -> bool
     ensures { result ≡ reads_u_as_t letters.now }
 {
-    if is_in(letters, 0, 85) {
-        return false;
-    }
-    is_in(letters, 0, 84)
+    is_in(letters, b'T') && !is_in(letters, b'U')
 }
 
 // The capital that a byte is read as: its own, save that U is T where the letters have T and no U.
 fn read_as(letters: &[u8], b: u8) -> u8
     ensures { result ≡ read_as letters.now b }
 {
-    let c = capital(b);
-    if c == 85 {
-        if reads_u_as_t(letters) {
-            return 84;
-        }
+    let c = b.to_ascii_uppercase();
+    if c == b'U' && reads_u_as_t(letters) {
+        b'T'
+    } else {
+        c
     }
-    c
 }
 
-// The rank of a byte among the settings' letters.
-pub fn rank_of(letters: &[u8], b: u8) -> Rank
-    ensures { of_rank result ≡ rank_in letters.now b }
+// The first place of b among the letters, if it is one of them.
+fn place_of(letters: &[u8], b: u8) -> Option<usize>
+    ensures { result ≡ position (λ l. l == b) letters.now }
 {
-    let c = read_as(letters, b);
-    let mut i = 0;
-    while i < letters.len() {
-        if letters[i] == c {
-            return Rank::At(i);
-        }
-        i += 1;
-    }
-    Rank::NoLetter
+    letters.iter().position(|l| *l == b)
+}
+
+// The rank of a byte among the settings' letters, if it is read as one of them.
+pub fn rank_of(letters: &[u8], b: u8) -> Option<usize>
+    ensures { result ≡ rank_in letters.now b }
+{
+    place_of(letters, read_as(letters, b))
+}
+
+// The ranks of all bytes, made once a call so that no byte of a file or sequence is searched for among the letters: at a byte's place its rank, or 255 for
+// a byte that is no letter. A table of `Option`s would be twice as long.
+pub struct RankTable {
+    pub bytes: [u8; 256],
 }
 
 // The rank of a byte as one byte, 255 for none. With at most 16 letters no rank is 255.
@@ -205,71 +173,51 @@ fn rank_byte(letters: &[u8], b: u8) -> u8
     ensures { as_rank result ≡ rank_in letters.now b }
 {
     match rank_of(letters, b) {
-        Rank::At(n) => n as u8,
-        Rank::NoLetter => 255,
+        Some(rank) => rank as u8,
+        None => 255,
     }
 }
 
-// Fills a table of 256 places with the ranks of all bytes.
-fn fill_rank_table(table: &mut [u8], letters: &[u8])
-    requires { (length table.old ≡ 256) × (length letters.now ≤ 16) }
-    ensures { RankTable letters.now table.new }
-{
-    let mut b: usize = 0;
-    while b < 256 {
-        table[b] = rank_byte(letters, b as u8);
-        b += 1;
-    }
-}
-
-// The ranks of all bytes, made once a call so that no byte of a file or sequence is searched for among the letters. At most 16 letters are asked, so
-// that 255, which stands for no letter, is no rank.
-pub fn rank_table(letters: &[u8]) -> [u8; 256]
-    requires { length letters.now ≤ 16 }
-    ensures { RankTable letters.now result }
-{
-    let mut table = [255u8; 256];
-    fill_rank_table(&mut table, letters);
-    table
-}
-
-// Whether b stands in letters at the place from or later.
-pub fn is_in(letters: &[u8], from: usize, b: u8) -> bool
-    ensures { result ≡ is_in b (drop from letters.now) }
-{
-    let mut i = from;
-    while i < letters.len() {
-        if letters[i] == b {
-            return true;
+impl RankTable {
+    // At most 16 letters are asked, so that 255, which stands for no letter, is no rank.
+    pub fn new(letters: &[u8]) -> RankTable
+        requires { length letters.now ≤ 16 }
+        ensures { RanksOf letters.now result }
+    {
+        let mut bytes = [255u8; 256];
+        for (b, place) in bytes.iter_mut().enumerate() {
+            *place = rank_byte(letters, b as u8);
         }
-        i += 1;
+        RankTable { bytes }
     }
-    false
+
+    // The rank of a byte, if it is a letter.
+    pub fn rank(&self, b: u8) -> Option<u8>
+        ensures { result ≡ rank_by_table self.now b }
+    {
+        let rank = self.bytes[b as usize];
+        if rank == 255 { None } else { Some(rank) }
+    }
+}
+
+// Whether b is one of the letters.
+pub fn is_in(letters: &[u8], b: u8) -> bool
+    ensures { result ≡ is_in b letters.now }
+{
+    letters.contains(&b)
 }
 
 // Whether the letters are 2 to 16 different capitals. A longer slice is refused by its length alone.
 fn good_letters(letters: &[u8]) -> bool
     ensures { result ≡ good_letters letters.now }
 {
-    if letters.len() < 2 {
+    if letters.len() < 2 || letters.len() > 16 {
         return false;
     }
-    if letters.len() > 16 {
-        return false;
-    }
-    let mut i: usize = 0;
-    while i < letters.len() {
-        let b = letters[i];
-        if b < 65 {
+    for (i, &b) in letters.iter().enumerate() {
+        if !b.is_ascii_uppercase() || is_in(&letters[i + 1..], b) {
             return false;
         }
-        if b > 90 {
-            return false;
-        }
-        if is_in(letters, i + 1, b) {
-            return false;
-        }
-        i += 1;
     }
     true
 }
@@ -281,13 +229,11 @@ pub fn power(s: u64, k: usize) -> u64
     ensures { result ≡ min (s ^ k) 4611686018427387905 }
 {
     let mut p: u64 = 1;
-    let mut i: usize = 0;
-    while i < k {
+    for _ in 0..k {
         if p > MOST_WORDS / s {
             return MORE_WORDS;
         }
         p *= s;
-        i += 1;
     }
     p
 }
@@ -319,20 +265,20 @@ pub fn class_count(s: u64, m: Mirror, k: usize) -> u64
 }
 
 // The settings of n letters, or ground 4.
-fn sized(n: usize, k: usize, m: Mirror) -> Checked
+fn sized(n: usize, k: usize, m: Mirror) -> Result<Settings, Refusal>
     requires { (2 ≤ n) × (n ≤ 16) }
-    ensures { of_checked result ≡ outcome (ground 4 (bad_size n k)) (settings_for n k m) }
+    ensures { outcome_of result ≡ outcome (ground 4 (bad_size n k)) (settings_for n k m) }
 {
     if k == 0 {
-        return Checked::Bad(Refusal::BadK);
+        return Err(Refusal::BadK);
     }
     let s = n as u64;
     let words = power(s, k);
     if words > MOST_WORDS {
-        return Checked::Bad(Refusal::BadK);
+        return Err(Refusal::BadK);
     }
     let classes = class_count(s, m, k);
-    Checked::Good(Settings {
+    Ok(Settings {
         s,
         k,
         mirror: m,
@@ -342,16 +288,12 @@ fn sized(n: usize, k: usize, m: Mirror) -> Checked
 }
 
 // The settings, or the first of the grounds 1, 2 and 4 that applies.
-pub fn check(letters: &[u8], k: usize, mirror: u64) -> Checked
-    ensures { of_checked result ≡ outcome (settings_ground letters.now k mirror) (settings_of letters.now k mirror) }
+pub fn check(letters: &[u8], k: usize, mirror: u64) -> Result<Settings, Refusal>
+    ensures { outcome_of result ≡ outcome (settings_ground letters.now k mirror) (settings_of letters.now k mirror) }
 {
     if !good_letters(letters) {
-        return Checked::Bad(Refusal::BadLetters);
+        return Err(Refusal::BadLetters);
     }
-    let n = letters.len();
-    match mirror {
-        0 => sized(n, k, Mirror::Reversal),
-        1 => sized(n, k, Mirror::Complement),
-        _ => Checked::Bad(Refusal::BadMirror),
-    }
+    let m = Mirror::try_from(mirror)?;
+    sized(letters.len(), k, m)
 }
