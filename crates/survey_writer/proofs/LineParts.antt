@@ -1,16 +1,12 @@
--- The survey line as its parts are written, and the mirror's name in it. From survey's law of the line that we print.
-use mathlib.Core.Path.{◌≡◌, refl}
+-- The survey line as its parts are written. From survey's law of the line that we print.
+use mathlib.Core.Path.{◌≡◌}
 use Prim.Native.Nat.{ℕ}
 use mathlib.Core.List.{List, ◌++◌, append_assoc, append-nil}
 use Rattle.laws.specs.Text.{bytes}
-use Rattle.laws.proofs.Tests.{past_zero}
 use Rattle.settings.specs.Settings.{settings_of}
 use Rattle.texts.specs.Decimals.{decimal}
 use Rattle.survey.specs.Line.{mirror_name, survey_line}
 use Rattle.survey.proofs.Written.{printed_line}
-
-pub complement_named : (m : ℕ) → (m ≡ 0 → ⊥) → mirror_name m ≡ bytes "complement"
-complement_named = past_zero (λ (m : ℕ). mirror_name m ≡ bytes "complement") (λ m. refl)
 
 -- The survey line as its parts are written, one after the other.
 pub survey_parts : (letters : List ℕ) (k m : ℕ) {n : ℕ} → n ≡ (settings_of letters k m).classes

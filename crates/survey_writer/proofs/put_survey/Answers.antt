@@ -7,7 +7,6 @@ use Rattle.survey_writer.proofs.put_survey.Goals as goal
 pub returns : goal.returns
 returns c =
     let a = c.args in
-    let field = then_field (bytes ") (classes ") a.classes c.put_field-after_classes.ensures c.put_text.ensures in
+    let classes = then_field (bytes ") (classes ") a.classes c.put_field-2.ensures c.put_text-3.ensures in
     rw (← survey_parts _ a.k a.mirror c.requires)
-    (then c.put_text-after_opening.ensures
-    (then c.put_text-after_letters.ensures (then_field (bytes ") (k ") a.k c.put_field-after_k.ensures (then c.put_mirror-after_mirror.ensures field))))
+    (then c.put_text.ensures (then c.put_text-2.ensures (then_field (bytes ") (k ") a.k c.put_field.ensures (then c.put_mirror.ensures classes))))
