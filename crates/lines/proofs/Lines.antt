@@ -11,6 +11,9 @@ use lib.ListN.{length, take, drop, get_or, length-drop, drop_of_length-le}
 use lib.Seq.{drop-cons, drop-drop}
 use lib.Dec.{eqb}
 use borrow.Author.Tests.{eqb-true, eqb-false, eq-eqb, ne_eqb}
+use denote.Ref.{Bor}
+use Rattle.std.specs.Prelude.{Option, None, Some, MatchOption}
+use Rattle.std.specs.List.{HoldsAt}
 use Rattle.lines.specs.Lines.{lf_next, on_first, lines, first_byte_is}
 use Rattle.lines.specs.Needs.{first_line, joined, NoLf}
 
@@ -97,13 +100,19 @@ unfolding first_byte_is first_line
 first_byte c [] = refl
 first_byte c (b ∷ t) = refl
 
-pub byte_here : (t : List ℕ) (at b : ℕ) → at < length t → eqb (get_or t at 0) b ≡ first_byte_is b (drop at t)
+byte_here : (t : List ℕ) (at b : ℕ) → at < length t → eqb (get_or t at 0) b ≡ first_byte_is b (drop at t)
 unfolding first_byte_is
 byte_here t at b h = rw (drop-cons t at 0 h)
 
-pub byte_none : (t : List ℕ) (at b : ℕ) → length t ≤ at → false ≡ first_byte_is b (drop at t)
+byte_none : (t : List ℕ) (at b : ℕ) → length t ≤ at → false ≡ first_byte_is b (drop at t)
 unfolding first_byte_is
 byte_none t at b h = rw (drop_of_length-le t h)
+
+-- The byte at a place, as `get` and a test on it say it.
+pub byte_got : (t : List ℕ) (at b : ℕ) (o : Option (Bor ℕ)) (r : Bool) → MatchOption o (length t ≤ at) (λ x. (at < length t) × HoldsAt (λ y. x.now ≡ y) t at)
+    → MatchOption o (r ≡ false) (λ x. r ≡ eqb x.now b) → r ≡ first_byte_is b (drop at t)
+byte_got t at b None r h g = g ∙ byte_none t at b h
+byte_got t at b (Some x) r h g = g ∙ ap (λ (y : ℕ). eqb y b) (h.1 0) ∙ byte_here t at b h.0
 
 -- LF is next where the first byte is LF.
 pub lf_is_next : (t : List ℕ) → first_byte_is 10 t ≡ lf_next t

@@ -1,12 +1,17 @@
 -- The text of a line, its bytes without the end: where it ends, by the line's last two bytes. By induction over lines that end in LF and lines that do not.
 use mathlib.Core.Path.{◌≡◌, refl, sym, ap, ◌∙◌}
-use mathlib.Core.Bool.{Bool, true, false, cond, ◌&&◌, ◌||◌, and-false}
-use mathlib.Core.List.{List, [], ◌∷◌}
+use mathlib.Core.Bool.{Bool, true, false, cond, ◌&&◌, ◌||◌, and-false, true≢false}
+use mathlib.Core.List.{List, [], ◌∷◌, ◌++◌}
 use mathlib.Core.Logic.{◌⊎◌, inl, inr, ⊎_elim}
 use Prim.Native.Nat.{ℕ, zero, suc, ◌+◌, ◌-◌, ◌≤◌, ◌<◌}
 use native.Mathlib.Omega.{arith}
-use lib.ListN.{length, take, drop, get_or}
-use lib.Seq.{get_or-take, get_or-drop, take-take}
+use lib.ListN.{length, take, drop, get_or, length-append}
+use lib.Seq.{take-take}
+use Rattle.std.specs.List.{ends_with}
+use Rattle.std.proofs.lemmas.Bool.Decides.{Decides-eqb}
+use Rattle.std.proofs.lemmas.List.{get_or-append-add}
+use Rattle.std.proofs.lemmas.List.Prefix.{end_from_reads}
+use Rattle.std.proofs.lemmas.Slice.Eq.{ends_is}
 use lib.Dec.{eqb}
 use borrow.Author.Tests.{eqb-true, eqb-false, eq-eqb, ne_eqb}
 use Rattle.lines.specs.Lines.{lf_next, text_of}
@@ -25,6 +30,10 @@ first_kind (b ∷ t) = go (eqb b 10) refl (first_kind t)
     go : (c : Bool) → eqb b 10 ≡ c → Ended (first_line t) ⊎ Open (first_line t) → Ended (b ∷ cond c [] (first_line t)) ⊎ Open (b ∷ cond c [] (first_line t))
     go true e k = let same : b ≡ 10 = eqb-true b 10 e in rw same (inl lf)
     go false e k = ⊎_elim (λ E. inl (ended_more (eqb-false b 10 e) E)) (λ O. inr (free (eqb-false b 10 e) O)) k
+
+ended_some : {l : List ℕ} → Ended l → 1 ≤ length l
+ended_some lf = omega arith
+ended_some (more ne E) = omega arith
 
 ended_last : {l : List ℕ} → Ended l → (n : ℕ) → n + 1 ≡ length l → get_or l n 0 ≡ 10
 ended_last lf zero e = refl
@@ -103,51 +112,52 @@ module _ (f : List ℕ) (from : ℕ) where
       ∙ take-take (length (text_of line)) (length line) (drop from f) h.1
       ∙ ap (λ (x : ℕ). take x (drop from f)) (sym n)
 
-  -- A byte of the line as one of the file.
-  byte_of : (n : ℕ) → n < length line → get_or line n 0 ≡ get_or f (from + n) 0
-  byte_of n h =
-      ap (λ (x : List ℕ). get_or x n 0) (first_is_front (drop from f)) ∙ get_or-take (length line) (drop from f) n 0 h ∙ get_or-drop from f n 0
+-- ---- how a line ends, by what its last bytes are
 
-  module _ (after : ℕ) (e : after ≡ from + length line) where
-    last_byte : from < after → get_or line (length line - 1) 0 ≡ get_or f (after - 1) 0
-    last_byte h =
-        let p : from + (length line - 1) ≡ after - 1 = omega arith in
-        byte_of (length line - 1) (omega arith) ∙ ap (λ (x : ℕ). get_or f x 0) p
+-- A list that ends with p holds p behind its front, and a list that holds it there ends with it.
+ends_at : (l p : List ℕ) → ends_with eqb l p ≡ true → (length p ≤ length l) × ((i : ℕ) → get_or l (length l - length p + i) 0 ≡ get_or p i 0)
+ends_at l p e =
+    let front : List ℕ = take (length l - length p) l in
+    let whole : l ≡ front ++ p = (ends_is Decides-eqb l p (ends_with eqb l p) refl).0 e in
+    let sizes : length l ≡ length front + length p = ap length whole ∙ length-append front p in
+    let here : length l - length p ≡ length front = omega arith in
+    (omega arith, λ i. ap (λ (x : ℕ). get_or l (x + i) 0) here ∙ ap (λ (x : List ℕ). get_or x (length front + i) 0) whole ∙ get_or-append-add front p i 0)
 
-    before_last : from + 2 ≤ after → get_or line (length line - 2) 0 ≡ get_or f (after - 2) 0
-    before_last h =
-        let p : from + (length line - 2) ≡ after - 2 = omega arith in
-        byte_of (length line - 2) (omega arith) ∙ ap (λ (x : ℕ). get_or f x 0) p
+ends_not : (l p : List ℕ) → ends_with eqb l p ≡ false → length p ≤ length l → ((i : ℕ) → i < length p → get_or l (length l - length p + i) 0 ≡ get_or p i 0) → ⊥
+ends_not l p e h same =
+    true≢false (sym ((ends_is Decides-eqb l p (ends_with eqb l p) refl).1 (take (length l - length p) l) (end_from_reads 0 l p h same)) ∙ e)
 
-    ends : from < after → get_or f (after - 1) 0 ≡ 10 → Ended line
-    ends h b =
-        ⊎_elim (λ E. E) (λ O. absurd (open_last O (length line - 1) (omega arith) (last_byte h ∙ b))) (first_kind (drop from f))
+module _ (t : List ℕ) where
+  abbrev whole_line : List ℕ
+  whole_line = first_line t
 
-    runs_out : from < after → (get_or f (after - 1) 0 ≡ 10 → ⊥) → Open line
-    runs_out h b =
-        ⊎_elim (λ E. absurd (b (sym (last_byte h) ∙ ended_last E (length line - 1) (omega arith)))) (λ O. O) (first_kind (drop from f))
+  -- "LF or CR LF", one behind the other.
+  pub text_crlf : ends_with eqb whole_line (13 ∷ 10 ∷ []) ≡ true → length (text_of whole_line) + 2 ≡ length whole_line
+  text_crlf e =
+      let at = ends_at whole_line (13 ∷ 10 ∷ []) e in
+      let n : length whole_line - 2 + 0 ≡ length whole_line - 2 = omega arith in
+      let ended : Ended whole_line = ⊎_elim (λ E. E) (λ O. absurd (open_last O (length whole_line - 2 + 1) (omega (arith, at.0)) (at.1 1))) (first_kind t) in
+      omega (arith, at.0, crlf_text ended (length whole_line - 2) (omega (arith, at.0)) (ap (λ (x : ℕ). get_or whole_line x 0) (sym n) ∙ at.1 0))
 
-    -- No line.
-    pub end_none : after ≤ from → after ≡ from + length (text_of line)
-    end_none h = omega (arith, text_short line)
+  pub text_lf : ends_with eqb whole_line (13 ∷ 10 ∷ []) ≡ false → ends_with eqb whole_line (10 ∷ []) ≡ true → length (text_of whole_line) + 1 ≡ length whole_line
+  text_lf other e =
+      let at = ends_at whole_line (10 ∷ []) e in
+      let ended : Ended whole_line = ⊎_elim (λ E. E) (λ O. absurd (open_last O (length whole_line - 1 + 0) (omega (arith, at.0)) (at.1 0))) (first_kind t) in
+      omega (arith, at.0, lf_text ended (length whole_line - 1) (omega (arith, at.0)) (λ m z g. ends_not whole_line (13 ∷ 10 ∷ []) other (omega arith) (pair m z g ended)))
+    where
+      pair : (m : ℕ) → m + 2 ≡ length whole_line → get_or whole_line m 0 ≡ 13 → Ended whole_line → (i : ℕ) → i < 2
+          → get_or whole_line (length whole_line - 2 + i) 0 ≡ get_or (13 ∷ 10 ∷ []) i 0
+      pair m z g E zero h = let n : length whole_line - 2 + 0 ≡ m = omega arith in rw n g
+      pair m z g E (suc zero) h = ended_last E (length whole_line - 2 + 1) (omega arith)
+      pair m z g E (suc (suc i)) h = absurd (omega arith)
 
-    -- A last line without LF.
-    pub end_open : from < after → (get_or f (after - 1) 0 ≡ 10 → ⊥) → after ≡ from + length (text_of line)
-    end_open h b = e ∙ ap (λ (x : List ℕ). from + length x) (sym (open_text (runs_out h b)))
+  -- A last line without LF, and no line.
+  pub text_open : ends_with eqb whole_line (10 ∷ []) ≡ false → length (text_of whole_line) ≡ length whole_line
+  text_open other = ⊎_elim (λ E. absurd (ends_not whole_line (10 ∷ []) other (some E) (last E))) (λ O. ap length (open_text O)) (first_kind t)
+    where
+      some : Ended whole_line → 1 ≤ length whole_line
+      some E = ended_some E
 
-    -- An LF alone.
-    pub end_one : from < after → get_or f (after - 1) 0 ≡ 10 → after - from < 2 → after - 1 ≡ from + length (text_of line)
-    end_one h b s = omega (arith, lf_text (ends h b) 0 (omega arith) (λ m z g. omega arith))
-
-    pub end_crlf : from + 2 ≤ after → get_or f (after - 1) 0 ≡ 10 → get_or f (after - 2) 0 ≡ 13 → after - 2 ≡ from + length (text_of line)
-    end_crlf h b r =
-        let x = crlf_text (ends (omega arith) b) (length line - 2) (omega arith) (before_last h ∙ r) in
-        omega arith
-
-    pub end_lf : from + 2 ≤ after → get_or f (after - 1) 0 ≡ 10 → (get_or f (after - 2) 0 ≡ 13 → ⊥) → after - 1 ≡ from + length (text_of line)
-    end_lf h b r =
-        let no-cr : (m : ℕ) → m + 2 ≡ length line → get_or line m 0 ≡ 13 → ⊥ = λ m z g.
-        (let same : m ≡ length line - 2 = omega arith in
-        r (sym (before_last h) ∙ ap (λ (x : ℕ). get_or line x 0) (sym same) ∙ g)) in
-        let x = lf_text (ends (omega arith) b) (length line - 1) (omega arith) no-cr in
-        omega arith
+      last : Ended whole_line → (i : ℕ) → i < 1 → get_or whole_line (length whole_line - 1 + i) 0 ≡ get_or (10 ∷ []) i 0
+      last E zero h = ended_last E (length whole_line - 1 + 0) (omega (arith, ended_some E))
+      last E (suc i) h = absurd (omega arith)

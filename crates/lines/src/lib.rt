@@ -2,62 +2,43 @@
 
 #![tactic(auto)]
 
-ghost use Rattle.std.specs.Prelude.{◌≡◌, false, ◌+◌, ◌≤◌, length, drop};
+ghost use Rattle.std.specs.Prelude.{◌≡◌, ◌==◌, false, ◌+◌, ◌≤◌, length, drop};
+ghost use Rattle.std.specs.List.{list_any};
 ghost use Rattle.lines.specs.Lines.{text_of, first_byte_is};
-ghost use Rattle.lines.specs.Needs.{first_line, NoLf, LineEnd};
+ghost use Rattle.lines.specs.Needs.{first_line, LineEnd};
 
 // Whether the byte at a place is there and is b.
 pub fn byte_is(text: &[u8], at: usize, b: u8) -> bool
     ensures { result ≡ first_byte_is b (drop at text.now) }
 {
-    if at < text.len() {
-        text[at] == b
-    } else {
-        false
-    }
+    text.get(at).is_some_and(|x| *x == b)
 }
 
-// Whether an LF is among the 16 bytes from i on. No branch in the loop, so that the bytes are compared at once.
-fn lf_in(text: &[u8], i: usize) -> bool
-    requires { i + 16 ≤ length text.now }
-    ensures { result ≡ false → NoLf text.now i (i + 16) }
+// Whether an LF is among the bytes of a block. No branch in the loop, so that they are compared at once.
+fn has_lf(block: &[u8; 16]) -> bool
+    ensures { result ≡ list_any (λ b. b == 10) block.now }
 {
     let mut found = false;
-    let mut j: usize = 0;
-    while j < 16 {
-        found = found | (text[i + j] == b'\n');
-        j += 1;
+    for b in block {
+        found |= *b == b'\n';
     }
     found
 }
 
-// The first place from `from` on whose byte is LF, or the text's end, byte by byte.
-fn lf_from(text: &[u8], from: usize) -> usize
-    ensures { LineEnd text.now from result }
-{
-    let mut i = from;
-    while i < text.len() {
-        if text[i] == b'\n' {
-            return i;
-        }
-        i += 1;
-    }
-    i
-}
-
-// The same, 16 bytes at a time where no LF is among them.
+// The first place from `from` on whose byte is LF, or the text's end: past the blocks of 16 bytes that have no LF, and then byte by byte.
 pub fn line_end(text: &[u8], from: usize) -> usize
     requires { from ≤ length text.now }
     ensures { LineEnd text.now from result }
 {
     let mut i = from;
-    while 16 <= text.len() - i {
-        if lf_in(text, i) {
-            return lf_from(text, i);
+    while let Some(block) = text[i..].first_chunk::<16>() {
+        if has_lf(block) {
+            break;
         }
         i += 16;
     }
-    lf_from(text, i)
+    let rest = &text[i..];
+    i + rest.iter().position(|b| *b == b'\n').unwrap_or(rest.len())
 }
 
 // The place behind the line that starts at a place; behind the text that place itself.
@@ -68,10 +49,7 @@ pub fn after_line(text: &[u8], from: usize) -> usize
         return from;
     }
     let e = line_end(text, from);
-    if e < text.len() {
-        return e + 1;
-    }
-    e
+    if e < text.len() { e + 1 } else { e }
 }
 
 // The place behind a line's text, given the place behind the line: before its LF or CR LF.
@@ -82,14 +60,12 @@ pub fn text_end(text: &[u8], from: usize, after: usize) -> usize
     if after <= from {
         return after;
     }
-    if text[after - 1] != b'\n' {
-        return after;
+    let line = &text[from..after];
+    if line.ends_with(b"\r\n") {
+        after - 2
+    } else if line.ends_with(b"\n") {
+        after - 1
+    } else {
+        after
     }
-    if after - from < 2 {
-        return after - 1;
-    }
-    if text[after - 2] == b'\r' {
-        return after - 2;
-    }
-    after - 1
 }

@@ -1,9 +1,7 @@
--- `lines::byte_is` meets its contract: by its test.
-use Rattle.lines.proofs.Lines.{byte_here, byte_none}
+-- `lines::byte_is` meets its contract: by what `get` says of the place.
+use borrow.Author.Rules.{rules}
+use Rattle.lines.proofs.Lines.{byte_got}
 use Rattle.lines.proofs.byte_is.Goals as goal
 
-pub returns-then-at-text : goal.returns-then-at-text
-returns-then-at-text c = let a = c.args in byte_here a.text.now a.at a.b c.if-at-text.true
-
-pub returns-else-at-text : goal.returns-else-at-text
-returns-else-at-text c = let a = c.args in byte_none a.text.now a.at a.b c.if-at-text.false
+pub returns : goal.returns
+returns c = byte_got c.args.text.now c.args.at c.args.b c.get.result c.is_some_and.result c.get.ensures.lookup.3 (search rules)

@@ -1,19 +1,26 @@
 -- `lines::line_end` meets its contract. The invariant: no byte from `from` up to i is LF.
+use mathlib.Core.Path.{◌≡◌, sym, ◌∙◌}
 use native.Mathlib.Omega.{arith}
-use Rattle.lines.proofs.Searching.{no_lf_none, no_lf_then, end_behind}
+use Rattle.std.proofs.Common.{rules, tests}
+use lib.ListN.{length-drop}
+use lib.Seq.{take_all}
+use Rattle.std.proofs.lemmas.Iterator.{IsFirst-from_position, YieldsList-from_slice}
+use Rattle.lines.proofs.Searching.{no_lf_none, block_past, end_behind, end_found}
 use Rattle.lines.proofs.line_end.Goals as goal
 
-pub loop-i-init : goal.loop-i-init
-loop-i-init c = (c.requires, no_lf_none)
+pub loop-block-init : goal.loop-block-init
+loop-block-init c = record { inside = c.requires; none_before = no_lf_none }
 
-pub overflow_sub-text : goal.overflow_sub-text
-overflow_sub-text c = c.loop-i.invariant.0
-
-pub returns-then-lf_in : goal.returns-then-lf_in
-returns-then-lf_in c = end_behind c.loop-i.invariant.1 c.lf_from.ensures
-
-pub loop-i-preserved : goal.loop-i-preserved
-loop-i-preserved c = (omega arith, no_lf_then c.loop-i.invariant.1 (c.lf_in.ensures c.if-lf_in.false))
+pub loop-block-preserved : goal.loop-block-preserved
+loop-block-preserved c =
+    let a = c.args in
+    let rest = take_all _ _ (omega (arith, length-drop c.loop-block.i a.text.now)) in
+    let past = block_past a.text.now a.from c.loop-block.i _ _ c.loop-block.invariant.inside rest c.loop-block.invariant.none_before c.in-Some.ensures.cases (sym c.has_lf.ensures ∙ c.if-has_lf.false) in
+    record { inside = past.0; none_before = past.1 }
 
 pub returns : goal.returns
-returns c = end_behind c.loop-i.invariant.1 c.lf_from-2.ensures
+returns c =
+    let a = c.args in
+    let found = IsFirst-from_position _ _ c.position.result (λ x. x ≡ 10) (λ x. x ≡ 10 → ⊥) c.position.ensures.ran (YieldsList-from_slice _ c.iter.ensures.rest) (λ x q k. search (rules, tests)) (λ x q k. search (rules, tests)) in
+    end_behind c.loop-block.invariant.none_before
+    (end_found a.text.now c.loop-block.i _ _ _ c.loop-block.invariant.inside (take_all _ _ (omega (arith, length-drop c.loop-block.i a.text.now))) found c.unwrap_or.ensures)

@@ -4,8 +4,8 @@ use lib.ListN.{length}
 use Rattle.lines.specs.Needs.{NoLf}
 use Rattle.lines.proofs.line_end.Given as goal
 
-abbrev pub invariant-loop-i : goal.invariant-loop-i
-invariant-loop-i l = (l.i ≤ length l.text) × NoLf l.text l.from l.i
+abbrev pub invariant-loop-block : goal.invariant-loop-block
+invariant-loop-block l = record { inside : l.i ≤ length l.text; none_before : NoLf l.text l.from l.i }
 
-abbrev pub decreases-loop-i : goal.decreases-loop-i
-decreases-loop-i l = length l.text - l.i
+abbrev pub decreases-loop-block : goal.decreases-loop-block
+decreases-loop-block l = length l.text - l.i
