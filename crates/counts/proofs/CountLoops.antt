@@ -4,29 +4,20 @@ use Prim.Native.Nat.{ℕ, suc, ◌+◌, ◌-◌, ◌<◌, ◌≤◌, max}
 use native.Mathlib.Decide.{dec_le}
 use native.Mathlib.Numerals.{add-one}
 use native.Mathlib.Omega.{arith}
-use mathlib.Core.Bool.{Bool, true, false, cond, ◌||◌, false≢true}
+use mathlib.Core.Bool.{Bool, true, false, cond, ◌||◌, or-false, or_assoc}
 use mathlib.Core.List.{List, [], ◌∷◌, ◌++◌}
 use lib.Dec.{eqb, ltb}
+use Rattle.std.specs.List.{fold}
 use lib.ListN.{length, get_or, take, drop, drop_of_length-le}
 use lib.Seq.{drop-cons, take-add, take_all}
 use borrow.Author.Tests.{lt-ltb, le-ltb, eq-eqb}
 use Rattle.tally_book.specs.Table.{change, one_more, changes, occurrences, full}
 use Rattle.laws.specs.Each.{Each}
 use Rattle.tally_book.specs.Needs.{Below}
-use Rattle.counts.specs.declared.Way.{Way}
 use Rattle.counts.specs.declared.Way.TheVariants.{In, Out}
-use Rattle.counts.specs.Needs.{Fits, Changed, highest_of}
+use Rattle.counts.specs.Needs.{Fits, Changed}
 use Rattle.laws.proofs.Each.{each_at}
 use Rattle.tally_book.proofs.Changes.{length_changes, get_d_more, occurrences-append}
-
--- The two ways told apart.
-is_out : Way → Bool
-is_out In = false
-is_out Out = true
-
-pub in_not_out : In ≡ Out → ⊥
-unfolding is_out
-in_not_out e = false≢true (ap is_out e)
 
 -- ---- room
 
@@ -101,54 +92,34 @@ module _ {counts₀ codes counts : List ℕ} {i : ℕ} (C : CountingOn counts₀
   unfolding changes
   counted_all h = sym (C.left ∙ rw (drop_of_length-le codes h))
 
--- Some codes, all counted.
-pub counted_in : {counts codes counts' : List ℕ} → counts' ≡ changes one_more counts codes → Changed In counts codes (length codes) counts'
-counted_in {counts} {codes} e =
-    record {
-      upto = omega arith;
-      leaves = e ∙ ap (changes one_more counts) (sym (take_all (length codes) codes (omega arith)));
-      enough = λ out. absurd (in_not_out out);
-      stopped = λ h. absurd (omega arith);
-    }
-
 -- On the way in all codes are counted.
 pub all_in : {counts codes counts' : List ℕ} {r : ℕ} → Changed In counts codes r counts' → counts' ≡ changes one_more counts codes
 all_in {counts} {codes} {r = r} C =
     let whole : length codes ≤ r =
     elim (dec_le (length codes) r) as (λ _. length codes ≤ r) [
       | yes h ↦ h
-      | no h ↦ absurd (in_not_out (C.stopped (omega arith)).out)
+      | no h ↦ let out : In ≡ Out = (C.stopped (omega arith)).out in cc
     ] in
     C.leaves ∙ ap (changes one_more counts) (take_all r codes whole)
 
 -- ---- the highest count
 
-module _ (counts : List ℕ) (i m : ℕ) (left : highest_of counts ≡ max m (highest_of (drop i counts))) where
-  pub higher : (m' : ℕ) → i < length counts → m' ≡ max m (get_or counts i 0) → highest_of counts ≡ max m' (highest_of (drop (i + 1) counts))
-  unfolding highest_of
-  higher m' h e =
-      let d : highest_of (drop i counts) ≡ max (get_or counts i 0) (highest_of (drop (i + 1) counts)) = rw (add-one i, drop-cons counts i 0 h) in
-      omega arith
+or_max : (a b c : ℕ) → (ltb a b || ltb a c) ≡ ltb a (max b c)
+or_max a b c =
+    elim (dec_le b a) as (λ _. (ltb a b || ltb a c) ≡ ltb a (max b c)) [
+      | yes h ↦
+          elim (dec_le c a) as (λ _. (ltb a b || ltb a c) ≡ ltb a (max b c)) [
+            | yes g ↦ rw (le-ltb a b h, le-ltb a c g) (sym (le-ltb a (max b c) (omega arith)))
+            | no g ↦ rw (le-ltb a b h, lt-ltb a c (omega arith)) (sym (lt-ltb a (max b c) (omega arith)))
+          ]
+      | no h ↦ rw (lt-ltb a b (omega arith)) (sym (lt-ltb a (max b c) (omega arith)))
+    ]
 
-  pub highest_all : length counts ≤ i → m ≡ highest_of counts
-  unfolding highest_of
-  highest_all h =
-      let d : highest_of (drop i counts) ≡ 0 = rw (drop_of_length-le counts h) in
-      omega arith
+full_from : (n m : ℕ) (cs : List ℕ) → (ltb (4294967295 - n) m || full n cs) ≡ ltb (4294967295 - n) (fold max m cs)
+unfolding full
+full_from n m [] = or-false (ltb (4294967295 - n) m)
+full_from n m (c ∷ cs) = rw (← or_assoc (ltb (4294967295 - n) m) (ltb (4294967295 - n) c) (full n cs), or_max (4294967295 - n) m c) (full_from n (max m c) cs)
 
 -- Ground 12 asks of the highest count alone.
-pub full-highest : (n : ℕ) (cs : List ℕ) → full n cs ≡ ltb (4294967295 - n) (highest_of cs)
-unfolding full highest_of
-full-highest n [] = sym (le-ltb (4294967295 - n) 0 (omega arith))
-full-highest n (c ∷ cs) = rw (full-highest n cs) (or_max (4294967295 - n) c (highest_of cs))
-  where
-    or_max : (a b c : ℕ) → (ltb a b || ltb a c) ≡ ltb a (max b c)
-    or_max a b c =
-        elim (dec_le b a) as (λ _. (ltb a b || ltb a c) ≡ ltb a (max b c)) [
-          | yes h ↦
-              elim (dec_le c a) as (λ _. (ltb a b || ltb a c) ≡ ltb a (max b c)) [
-                | yes g ↦ rw (le-ltb a b h, le-ltb a c g) (sym (le-ltb a (max b c) (omega arith)))
-                | no g ↦ rw (le-ltb a b h, lt-ltb a c (omega arith)) (sym (lt-ltb a (max b c) (omega arith)))
-              ]
-          | no h ↦ rw (lt-ltb a b (omega arith)) (sym (lt-ltb a (max b c) (omega arith)))
-        ]
+pub full_highest : (n : ℕ) (cs : List ℕ) → full n cs ≡ ltb (4294967295 - n) (fold max 0 cs)
+full_highest n cs = let e : ltb (4294967295 - n) 0 ≡ false = le-ltb (4294967295 - n) 0 (omega arith) in ap (λ (b : Bool). b || full n cs) (sym e) ∙ full_from n 0 cs

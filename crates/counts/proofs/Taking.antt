@@ -9,7 +9,7 @@ use mathlib.Core.List.{List, [], ◌∷◌, ◌++◌}
 use lib.Dec.{eqb}
 use lib.ListN.{length, get_or, take, drop, take-append-drop}
 use lib.Seq.{take-suc, take_all}
-use borrow.Author.Tests.{eqb-true, eqb-false, eq-eqb}
+use borrow.Author.Tests.{eqb-true, eq-eqb}
 use Rattle.laws.specs.Each.{Each}
 use Rattle.laws.proofs.Each.{each_at}
 use Rattle.tally_book.specs.Table.{change, one_less, changes, one_more, occurrences}
@@ -18,10 +18,6 @@ use Rattle.tally_book.proofs.Changes.{length_changes, get_d_less, changes_append
 use Rattle.tally_book.proofs.Lacks.{none_lacking, lacking_at}
 use Rattle.counts.specs.declared.Way.TheVariants.{Out}
 use Rattle.counts.specs.Needs.{Fits, Enough, Changed, TakenUnlessLacking}
-
--- A count that is not 0 is above it.
-pub some_left : {n : ℕ} {b : Bool} → b ≡ eqb n 0 → b ≡ false → 0 < n
-some_left {n} e f = let ne = eqb-false n 0 (sym e ∙ f) in omega arith
 
 pub record TakingOn (counts₀ codes counts : List ℕ) (i : ℕ) : Type 0 where
   pub upto : i ≤ length codes
@@ -63,13 +59,6 @@ module _ {counts₀ codes counts : List ℕ} {i : ℕ} (D : TakingOn counts₀ c
             let left : 0 < get_or counts p 0 = rw same some in
             omega (arith, left_at p g)
         go p g false f = omega (arith, D.enough.at p g)
-
-    -- The class of the next code has no count left.
-    pub stops : get_or counts (get_or codes i 0) 0 ≡ 0 → Changed Out counts₀ codes i counts
-    stops z = record { upto = D.upto; leaves = D.leaves; enough = λ _. D.enough; stopped = λ _. record { out = refl; inside = code_below; zero = z } }
-
-  pub all_taken : length codes ≤ i → Changed Out counts₀ codes i counts
-  all_taken h = record { upto = D.upto; leaves = D.leaves; enough = λ _. D.enough; stopped = λ l. absurd (omega arith) }
 
 -- ---- ground 18
 

@@ -1,5 +1,5 @@
 -- What the functions that count codes, or take them away, ask of each other and promise each other. No claim and no call of document 01 rests on it.
-use Rattle.std.specs.Prelude.{◌≡◌, ℕ, ◌+◌, ◌<◌, ◌≤◌, max, Bool, cond, List, [], ◌∷◌, length, get_or, take}
+use Rattle.std.specs.Prelude.{◌≡◌, ℕ, ◌+◌, ◌<◌, ◌≤◌, Bool, cond, List, length, get_or, take}
 use Rattle.tally_book.specs.Table.{changes, one_more, one_less, occurrences, lacks}
 use Rattle.counts.specs.declared.Way.{Way}
 use Rattle.counts.specs.declared.Way.TheVariants.{In, Out}
@@ -35,8 +35,3 @@ pub record Changed (way : Way) (counts codes : List ℕ) (r : ℕ) (counts' : Li
 pub record TakenUnlessLacking (counts codes : List ℕ) (lacking : Bool) (counts' : List ℕ) : Type 0 where
   pub answers : lacking ≡ lacks counts codes
   pub leaves : counts' ≡ cond (lacks counts codes) counts (changes one_less counts codes)
-
--- The highest of some counts, and 0 where there are none.
-unfoldable pub highest_of : List ℕ → ℕ
-highest_of [] = 0
-highest_of (c ∷ cs) = max c (highest_of cs)

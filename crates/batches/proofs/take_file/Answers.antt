@@ -2,12 +2,12 @@
 -- counted again, for which there is room, since it was there.
 use mathlib.Core.Path.{sym, ◌∙◌}
 use native.Mathlib.Omega.{arith}
-use Rattle.counts.proofs.CountLoops.{in_not_out, all_in}
+use Rattle.counts.proofs.CountLoops.{all_in}
 use Rattle.counts.proofs.Taking.{of_all, restore_fits, took-all, lacking_restored}
 use Rattle.batches.proofs.take_file.Goals as goal
 
 pub change_file-taken-requires : goal.change_file-taken-requires
-change_file-taken-requires c = record { ready_coder = c.requires.ready_coder; ranks_below = c.requires.ranks_below; counts_len = c.requires.counts_len; fits = λ e. absurd (in_not_out (sym e)) }
+change_file-taken-requires c = record { ready_coder = c.requires.ready_coder; ranks_below = c.requires.ranks_below; counts_len = c.requires.counts_len; fits = λ e. cc e }
 
 pub returns-then-taken-windows : goal.returns-then-taken-windows
 returns-then-taken-windows c =

@@ -1,19 +1,18 @@
 -- `counts::count_codes` meets its contract. The invariant, `CountingOn`: what is left of the codes gives the counts at the end.
+use Rattle.std.proofs.Common.{refl, arith}
+use Rattle.tally_book.specs.Table.{change, one_more}
 use Rattle.counts.proofs.CountLoops.{counting_on_none, can_count, counts_on, counted_all}
 use Rattle.counts.proofs.count_codes.Goals as goal
 
-pub loop-i-init : goal.loop-i-init
-loop-i-init c = let pre = c.requires in counting_on_none _ _ pre.fits pre.each
+pub loop-q-init : goal.loop-q-init
+loop-q-init c = counting_on_none _ _ c.requires.fits c.requires.each
 
-pub count_code-requires : goal.count_code-requires
-count_code-requires c = can_count c.loop-i.invariant c.loop-i-test.true
+pub overflow_add-counts : goal.overflow_add-counts
+overflow_add-counts c = rw c.place.ensures (omega (arith, can_count c.loop-q.invariant c.loop-q-test.true))
 
-pub loop-i-preserved : goal.loop-i-preserved
-loop-i-preserved c =
-    counts_on c.loop-i.invariant _ c.loop-i-test.true c.count_code.ensures
-
-pub shape_of-counts : goal.shape_of-counts
-shape_of-counts c = c.loop-i.invariant.same_length
+pub loop-q-preserved : goal.loop-q-preserved
+unfolding change one_more
+loop-q-preserved c = counts_on c.loop-q.invariant _ c.loop-q-test.true (rw c.place.ensures refl)
 
 pub returns : goal.returns
-returns c = counted_all c.loop-i.invariant c.loop-i-test.false
+returns c = counted_all c.loop-q.invariant c.loop-q-test.false

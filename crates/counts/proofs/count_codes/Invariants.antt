@@ -1,11 +1,6 @@
--- The loops of this function: what holds at each turn, and what falls.
-use Prim.Native.Nat.{◌-◌}
-use lib.ListN.{length}
+-- The loop of this function: what holds at each turn.
 use Rattle.counts.proofs.CountLoops.{CountingOn}
 use Rattle.counts.proofs.count_codes.Given as goal
 
-abbrev pub invariant-loop-i : goal.invariant-loop-i
-invariant-loop-i l = CountingOn l.initial.counts l.codes l.counts l.i
-
-abbrev pub decreases-loop-i : goal.decreases-loop-i
-decreases-loop-i l = length l.codes - l.i
+abbrev pub invariant-loop-q : goal.invariant-loop-q
+invariant-loop-q l = CountingOn l.initial.counts l.codes l.counts l.q-index
