@@ -1,16 +1,11 @@
 -- The kernel by two-bit numbers under settings that it takes: what it asks holds, and its codes are those of the settings.
-use mathlib.Core.Path.{◌≡◌, ◌∙◌, subst}
-use mathlib.Core.List.{List}
-use Prim.Native.Nat.{ℕ, ◌*◌, ◌^◌, ◌≤◌}
-use native.Mathlib.Omega.{arith}
+use Rattle.std.proofs.Common.{◌≡◌, ◌∙◌, subst, List, ℕ, ◌*◌, ◌^◌, ◌≤◌, arith}
 use Rattle.laws.proofs.Powers.{exponent_le, four_pow}
 use Rattle.encoding.specs.Words.{Complement, Ranks}
-use Rattle.kernels.specs.declared.Kernel.{Kernel}
 use Rattle.kernels.specs.declared.Kernel.TheVariants.{TwoBit}
 use Rattle.kernels.specs.declared.Coder.{Coder}
 use Rattle.windows.specs.Windows.{window_codes}
 use Rattle.windows.specs.Needs.{Fills}
-use Rattle.kernels.specs.Needs.{Takes, ReadyCoder}
 use Rattle.two_bit.specs.Needs.{TwoBitInput}
 
 four_exponent : (k : ℕ) → 4 ^ k ≤ 2 ^ 62 → k ≤ 31
@@ -18,17 +13,17 @@ four_exponent k h =
     let e : 2 ^ (2 * k) ≤ 2 ^ 62 = rw (four_pow k) at h in
     omega (arith, exponent_le 2 (2 * k) (omega arith) e)
 
-module _ {c : Coder} {powers mirrors : List ℕ} (C : ReadyCoder c powers mirrors) (two : c.kernel ≡ TwoBit) where
+module _ (c : Coder) (two : c.kernel ≡ TwoBit) where
   taken : (c.s ≡ 4) × (c.mirror ≡ Complement)
-  taken = subst (λ (x : Kernel). Takes x c.s c.mirror) two C.takes
+  taken = c.takes two
 
   pub two_bit_input : {ranks : List ℕ} → Ranks c.s ranks → TwoBitInput c.k c.palindromes ranks
   two_bit_input {ranks} R =
       record {
         ranks = subst (λ (s : ℕ). Ranks s ranks) taken.0 R;
-        some = C.some;
-        small = four_exponent c.k (subst (λ (s : ℕ). s ^ c.k ≤ 2 ^ 62) taken.0 C.limits.small);
-        count = C.count ∙ rw (taken.0, taken.1);
+        some = c.some;
+        small = four_exponent c.k (subst (λ (s : ℕ). s ^ c.k ≤ 2 ^ 62) taken.0 c.limits.small);
+        count = c.count ∙ rw (taken.0, taken.1);
       }
 
   pub two_bit_codes : (ranks : List ℕ) {o new : List ℕ} → Fills (window_codes 4 Complement c.k ranks) o new

@@ -1,5 +1,4 @@
--- What the kernels ask holds: under settings that pass the check (GoodSettings), of the settings that two-bit numbers take (Coders), of the table of powers
--- (PowerTables).
-pub mod Coders
+-- Laws of the table of powers (PowerTables), of good settings (GoodSettings), and of the kernel by two-bit numbers under settings that it takes (Coders).
 pub mod PowerTables
 pub mod GoodSettings
+pub mod Coders

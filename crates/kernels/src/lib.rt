@@ -1,16 +1,20 @@
-// From ranks to codes: the piece that codes along a sequence, adding and withdrawing a file share. It takes good settings as a `Coder` with the powers of s and the
-// table of mirrors, each made once a call, and a list of ranks, and leaves the windows to one of the two kernels below. Callers cut what is too long for their arrays into pieces that overlap by k - 1 letters.
+// From ranks to codes: the piece that codes along a sequence, adding and withdrawing a file share. A `Coder` has what either kernel needs of good settings,
+// made once a call; it takes a list of ranks and leaves the windows to one of the two kernels below. Callers cut what is too long for their arrays into pieces
+// that overlap by k - 1 letters.
 
 #![tactic(auto)]
 
 ghost use Rattle.std.specs.Prelude.{◌≡◌, ◌+◌, ◌-◌, ◌*◌, ◌^◌, ◌<◌, ◌≤◌, length};
+ghost use Rattle.settings.specs.Limits.{Limits};
+ghost use Rattle.settings.specs.RankTables.{RanksBelow};
 ghost use Rattle.encoding.specs.Words.{Ranks};
 ghost use Rattle.windows.specs.Windows.{window_codes};
 ghost use Rattle.windows.specs.Needs.{Fills};
-ghost use Rattle.any_alphabet.specs.Needs.{Powers};
-ghost use Rattle.kernels.specs.Needs.{coder_of, ReadyCoder};
+ghost use Rattle.packed.specs.Mirrors.{MirrorTable};
+ghost use Rattle.any_alphabet.specs.Needs.{Powers, CountsPalindromes};
+ghost use Rattle.kernels.specs.Kernels.{Takes, GoodSettings};
 
-use settings::{Mirror, Settings};
+use settings::{Mirror, RankTable, Settings};
 
 // How codes are worked out: by the kernel for every alphabet, or by two-bit numbers, which four letters under complement alone have.
 #[derive(Clone, Copy)]
@@ -19,57 +23,36 @@ pub enum Kernel {
     TwoBit,
 }
 
-// What a kernel needs of good settings: the number of letters, k, the mirror, the number of palindromes.
-#[derive(Clone, Copy)]
+// What a kernel needs of good settings, made once a call: the number of letters, k, the mirror, the number of palindromes, the powers of s up to s^k,
+// the table of mirrors, and the rank of every byte.
 pub struct Coder {
     pub kernel: Kernel,
     pub s: u64,
     pub k: usize,
     pub mirror: Mirror,
     pub palindromes: u64,
-}
-
-// Writes the powers of s up to s^k.
-fn fill_powers(table: &mut [u64], s: u64, k: usize)
-    requires table_len { length table.old ≡ 64 }
-    requires lt_s { 1 < s }
-    requires k_bound { s ^ k ≤ 2 ^ 62 }
-    ensures { Powers s k table.new }
-{
-    table[0] = 1;
-    let mut p: u64 = 1;
-    let mut i: usize = 0;
-    while i < k {
-        p = p * s;
-        i += 1;
-        table[i] = p;
-    }
-}
-
-// The coder of good settings: 2c - w of w words in c classes are palindromes. Of the settings it asks only that this number can be worked out.
-pub fn coder_of(st: Settings, kernel: Kernel) -> Coder
-    requires classes_bound { 2 * st.classes < 2 ^ 64 }
-    requires power_bound { st.power ≤ 2 * st.classes }
-    ensures { result ≡ coder_of kernel st.k st }
-{
-    let mirror = st.mirror;
-    Coder {
-        kernel,
-        s: st.s,
-        k: st.k,
-        mirror,
-        palindromes: 2 * st.classes - st.power,
-    }
+    pub powers: [u64; 64],
+    pub mirrors: [u8; 256],
+    pub ranks: RankTable,
+    pub ghost limits: { Limits s k },
+    pub ghost some: { 1 ≤ k },
+    pub ghost count: { CountsPalindromes s mirror k palindromes },
+    pub ghost takes: { Takes kernel s mirror },
+    pub ghost powers_are: { Powers s k powers },
+    pub ghost mirrors_are: { MirrorTable mirrors },
+    pub ghost ranks_below: { RanksBelow s ranks },
 }
 
 // The powers of s up to s^k. It asks for good settings' s and k: as s is at least 2, k is at most 62, and as s^k is at most 2^62, no product wraps.
-pub fn power_table(s: u64, k: usize) -> [u64; 64]
+fn power_table(s: u64, k: usize) -> [u64; 64]
     requires lt_s { 1 < s }
     requires k_bound { s ^ k ≤ 2 ^ 62 }
     ensures { Powers s k result }
 {
-    let mut table = [0u64; 64];
-    fill_powers(&mut table, s, k);
+    let mut table = [1u64; 64];
+    for i in 0..k {
+        table[i + 1] = table[i] * s;
+    }
     table
 }
 
@@ -78,21 +61,53 @@ pub fn window_count(n: usize, k: usize) -> usize
     requires { n ≤ 16777216 }
     ensures { result ≡ n + 1 - k }
 {
-    if n < k { 0 } else { n - k + 1 }
+    (n + 1).saturating_sub(k)
 }
 
-// The codes of all windows of a list of ranks, from the start of a lent list. It asks for a coder of good settings whose kernel takes them, with its
-// powers and the table of mirrors (`ReadyCoder`), ranks below s, and a place for each window.
-pub fn fill_codes(ranks: &[u8], c: Coder, powers: &[u64; 64], mirrors: &[u8; 256], out: &mut [u64])
-    requires ready_coder { ReadyCoder c powers.now mirrors.now }
-    requires ranks { Ranks c.s ranks.now }
-    requires k_in_bounds { length ranks.now + 1 - c.k ≤ length out.old }
-    ensures { Fills (window_codes c.s c.mirror c.k ranks.now) out.old out.new }
-{
-    let kernel = c.kernel;
-    let m = c.mirror;
-    match kernel {
-        Kernel::AnyAlphabet => any_alphabet::fill(ranks, c.k, c.s, m, powers, c.palindromes, out),
-        Kernel::TwoBit => two_bit::fill(ranks, c.k as u64, c.palindromes, mirrors, out),
+impl Coder {
+    ghost use Rattle.kernels.specs.Coders.{CoderOf};
+
+    // The coder of good settings, by a kernel that takes them.
+    pub fn new(letters: &[u8], st: Settings, kernel: Kernel) -> Coder
+        requires good { GoodSettings letters.now st }
+        requires takes { Takes kernel st.s st.mirror }
+        ensures { CoderOf letters.now st kernel result }
+    {
+        Coder {
+            kernel,
+            s: st.s,
+            k: st.k,
+            mirror: st.mirror,
+            palindromes: 2 * st.classes - st.power, // of w words in c classes 2c - w are palindromes
+            powers: power_table(st.s, st.k),
+            mirrors: packed::mirror_table(),
+            ranks: RankTable::new(letters),
+        }
+    }
+
+    // The codes of all windows of a list of ranks, from the start of a lent list, which has a place for each.
+    pub fn fill_codes(&self, ranks: &[u8], out: &mut [u64])
+        requires ranks { Ranks self.now.s ranks.now }
+        requires room { length ranks.now + 1 - self.now.k ≤ length out.old }
+        ensures { Fills (window_codes self.now.s self.now.mirror self.now.k ranks.now) out.old out.new }
+    {
+        match self.kernel {
+            Kernel::AnyAlphabet => any_alphabet::fill(
+                ranks,
+                self.k,
+                self.s,
+                self.mirror,
+                &self.powers,
+                self.palindromes,
+                out,
+            ),
+            Kernel::TwoBit => two_bit::fill(
+                ranks,
+                self.k as u64,
+                self.palindromes,
+                &self.mirrors,
+                out,
+            ),
+        }
     }
 }
