@@ -1,14 +1,6 @@
 -- The value of the digits of a canonical word, as `digits_value` and `differing_value` work it out, and that it fits.
-use mathlib.Core.Path.{◌≡◌, ap, subst, subst⁻¹, ◌∙◌, sym, refl}
-use mathlib.Core.Bool.{cond}
-use mathlib.Core.List.{List, ◌∷◌, ◌++◌, []}
-use Prim.Native.Nat.{◌-◌, ℕ, ◌<◌, ◌≤◌, ◌*◌, ◌/◌, ◌+◌, ◌%◌, ◌^◌, suc, min}
-use native.Mathlib.Nat.{mul-le-mul_right, div-add-mod', zero-add}
-use native.Mathlib.Omega.{arith}
-use borrow.Author.Tests.{eq-eqb, ne_eqb}
-use lib.Dec.{eqb}
-use lib.ListN.{length, take, drop, get_or}
-use lib.Seq.{take_all}
+use Rattle.std.proofs.Common.{◌≡◌, ap, subst, ◌∙◌, sym, refl, cond, List, ◌∷◌, ◌++◌, [], ◌-◌, ℕ, ◌<◌, ◌≤◌, ◌*◌, ◌/◌, ◌+◌, ◌%◌, ◌^◌, suc, min, mul-le-mul_right, div-add-mod', zero-add, arith, eq-eqb, ne_eqb, eqb, length, take, drop, get_or, take_all}
+use mathlib.Core.Path.{subst⁻¹}
 use Rattle.laws.proofs.Powers.{pair_count, square, pow-two_more}
 use Rattle.settings.proofs.Powers.{capped}
 use Rattle.encoding.specs.Codes.{pair_rank, digits}
@@ -55,24 +47,19 @@ module _ (s : ℕ) (w : List ℕ) (l r : ℕ) (d : FitDiffering s w l r) (R : �
 
 -- ---- `digits_value`
 
-pub digits-none : (s : ℕ) (m : Mirror) (w : List ℕ) → length w ≡ 0 → 0 ≡ plain s (digits s m (length w) w)
+pub digits-none : (s : ℕ) (m : Mirror) (w : List ℕ) → length w < 1 → 0 ≡ plain s (digits s m (length w) w)
 unfolding digits plain
-digits-none s m w e = rw e
+digits-none s m w h = let e : length w ≡ 0 = omega arith in rw e
 
-pub digits-one : (s : ℕ) (m : Mirror) (w : List ℕ) → length w ≡ 1 → mirror_rank s m (get_or w (length w - 1) 0) ≡ plain s (digits s m (length w) w)
+pub digits-one : (s : ℕ) (m : Mirror) (w : List ℕ) → 1 ≤ length w → length w < 2 → mirror_rank s m (get_or w 0 0) ≡ plain s (digits s m (length w) w)
 unfolding digits
-digits-one s m w e = rw e (sym (plain-one s (mirror_rank s m (get_or w 0 0))))
+digits-one s m w h g = let e : length w ≡ 1 = omega arith in rw e (sym (plain-one s (mirror_rank s m (get_or w 0 0))))
 
-pub last_rank_lt : (s : ℕ) (w : List ℕ) → Ranks s w → (length w ≡ 0 → ⊥) → get_or w (length w - 1) 0 < s
+pub last_rank_lt : (s : ℕ) (w : List ℕ) → Ranks s w → 2 ≤ length w → get_or w (length w - 1) 0 < s
 last_rank_lt s w h g = ranks_at s w (length w - 1) h (omega arith)
 
--- A canonical word of two letters or more, as `digits_value` has it past its two tests.
-pub record LongCanonical (s : ℕ) (m : Mirror) (w : List ℕ) : Type 0 where
-  pub fits : FitCanonical s m w
-  pub not_none : length w ≡ 0 → ⊥
-  pub not_one : length w ≡ 1 → ⊥
-
-module _ {s : ℕ} {m : Mirror} {w : List ℕ} (L : LongCanonical s m w) where
+-- A canonical word of two letters or more.
+module _ {s : ℕ} {m : Mirror} {w : List ℕ} (F : FitCanonical s m w) (two : 2 ≤ length w) where
   in_len : length (take (length w - 1 - 1) (drop 1 w)) ≡ length w - 1 - 1
   in_len = length_part 1 (length w - 1 - 1) w (omega arith)
 
@@ -101,16 +88,16 @@ module _ {s : ℕ} {m : Mirror} {w : List ℕ} (L : LongCanonical s m w) where
       ∙ (rw (zero-add (suc (length w - 1 - 1)), last_at) at (value_part s m 0 (length w - 1 - 1) w (omega arith)))
 
   whole_ranks : Ranks s (get_or w 0 0 ∷ (take (length w - 1 - 1) (drop 1 w) ++ (get_or w (length w - 1) 0 ∷ [])))
-  whole_ranks = subst (Ranks s) whole L.fits.word.ranks
+  whole_ranks = subst (Ranks s) whole F.word.ranks
 
   whole_least : IsCanonical s m (get_or w 0 0 ∷ (take (length w - 1 - 1) (drop 1 w) ++ (get_or w (length w - 1) 0 ∷ [])))
-  whole_least = subst (IsCanonical s m) whole L.fits.least
+  whole_least = subst (IsCanonical s m) whole F.least
 
   pub inner_canonical : get_or w 0 0 ≡ mirror_rank s m (get_or w (length w - 1) 0) → FitCanonical s m (take (length w - 1 - 1) (drop 1 w))
   inner_canonical e =
       record {
-        word = inner_of s w L.fits.word.two L.fits.word.ranks L.fits.word.small (length w - 1 - 1) (omega arith);
-        few = L.fits.few;
+        word = inner_of s w F.word.two F.word.ranks F.word.small (length w - 1 - 1) (omega arith);
+        few = F.few;
         least =
             canonical_inner s m (length w - 1 - 1) (get_or w 0 0) (get_or w (length w - 1) 0) (take (length w - 1 - 1) (drop 1 w)) in_len whole_ranks
             whole_least e;
@@ -128,7 +115,7 @@ module _ {s : ℕ} {m : Mirror} {w : List ℕ} (L : LongCanonical s m w) where
       sym (step ∙ rw (eq-eqb (get_or w 0 0) (mirror_rank s m (get_or w (length w - 1) 0)) e, g))
 
   pub value_small : plain s (digits s m (length w) w) < 2 ^ 62
-  value_small = omega (arith, value_lt s m L.fits.word.two (length w) w refl L.fits.word.ranks L.fits.least, L.fits.word.small)
+  value_small = omega (arith, value_lt s m F.word.two (length w) w refl F.word.ranks F.least, F.word.small)
 
   differs : (get_or w 0 0 ≡ mirror_rank s m (get_or w (length w - 1) 0) → ⊥) → FitDiffering s w (get_or w 0 0) (mirror_rank s m (get_or w (length w - 1) 0))
   differs d =
@@ -136,11 +123,11 @@ module _ {s : ℕ} {m : Mirror} {w : List ℕ} (L : LongCanonical s m w) where
       = canonical_first s m (length w - 1 - 1) (get_or w 0 0) (get_or w (length w - 1) 0) (take (length w - 1 - 1) (drop 1 w)) in_len whole_ranks
       whole_least in
       record {
-        word = L.fits.word;
-        few = L.fits.few;
+        word = F.word;
+        few = F.few;
         long = omega arith;
         less = omega arith;
-        rank = mirror_rank-lt s m (get_or w (length w - 1) 0) (last_rank_lt s w L.fits.word.ranks L.not_none);
+        rank = mirror_rank-lt s m (get_or w (length w - 1) 0) (last_rank_lt s w F.word.ranks two);
       }
 
   value_differ : (get_or w 0 0 ≡ mirror_rank s m (get_or w (length w - 1) 0) → ⊥)

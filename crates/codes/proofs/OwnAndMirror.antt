@@ -1,13 +1,7 @@
 -- A word of ranks w and its mirror, where `ranks_code` has the mirror in an array: the one of lower plain rank is canonical, and its code is that of w. From the
 -- encoding's laws of the canonical word.
-use mathlib.Core.Path.{refl, ◌≡◌, sym, ◌∙◌, ap, subst⁻¹}
-use mathlib.Core.Bool.{true, false}
-use mathlib.Core.List.{List, ◌++◌}
-use Prim.Native.Nat.{ℕ, ◌≤◌, ◌<◌}
-use native.Mathlib.Omega.{arith}
-use lib.ListN.{length, take}
-use lib.Dec.{leb}
-use borrow.Author.Tests.{le-leb, lt-leb}
+use Rattle.std.proofs.Common.{refl, ◌≡◌, ◌∙◌, ap, ◌⊎◌, inl, inr, List, ◌++◌, ℕ, ◌≤◌, ◌<◌, arith, length, take, leb}
+use mathlib.Core.Path.{subst⁻¹}
 use Rattle.laws.proofs.Buffers.{front_is, front_fits, front_length}
 use Rattle.settings.specs.Limits.{Limits}
 use Rattle.encoding.specs.Words.{Mirror, mirror, plain}
@@ -28,6 +22,9 @@ pub record MirrorArray (s : ℕ) (m : Mirror) (w other : List ℕ) : Type 0 wher
   pub few : s ≤ 16
   pub rest : List ℕ
   pub holds : other ≡ mirror s m w ++ rest
+
+pub as_mirror : {s : ℕ} {m : Mirror} {w other : List ℕ} → FitWord s w × (s ≤ 16) → (d : List ℕ) → other ≡ mirror s m w ++ d → MirrorArray s m w other
+as_mirror p d e = record { word = p.0; few = p.1; rest = d; holds = e }
 
 module _ {s : ℕ} {m : Mirror} {w other : List ℕ} (A : MirrorArray s m w other) where
   other_is : take (length w) other ≡ mirror s m w
@@ -56,13 +53,10 @@ module _ {s : ℕ} {m : Mirror} {w other : List ℕ} (A : MirrorArray s m w othe
       own_low : plain s w ≤ plain s (mirror s m w)
       own_low = omega (arith, p_is, q_is)
 
-      pub own_first : true ≡ leb (plain s w) (plain s (mirror s m w))
-      own_first = sym (le-leb _ _ own_low)
-
-      pub own_least : FitCanonical s m w
+      own_least : FitCanonical s m w
       own_least = record { word = A.word; few = A.few; least = own_low }
 
-      pub own_answer : (r : ℕ) → r ≡ code_of_canonical s m (length w) w → r ≡ code s m (length w) w
+      own_answer : (r : ℕ) → r ≡ code_of_canonical s m (length w) w → r ≡ code s m (length w) w
       unfolding code
       own_answer r x = x ∙ rw (canonical-low s m w own_low)
 
@@ -71,17 +65,29 @@ module _ {s : ℕ} {m : Mirror} {w other : List ℕ} (A : MirrorArray s m w othe
       other_low : plain s (mirror s m w) < plain s w
       other_low = omega (arith, p_is, q_is)
 
-      pub other_first : false ≡ leb (plain s w) (plain s (mirror s m w))
-      other_first = sym (lt-leb _ _ other_low)
-
-      pub other_least : FitCanonical s m (take (length w) other)
+      other_least : FitCanonical s m (take (length w) other)
       other_least =
           subst⁻¹ (FitCanonical s m) other_is
           (record { word = mirror_word_lem; few = A.few; least = rw (mirror-mirror s m (length w) w refl A.word.ranks) (omega (arith, other_low)) })
 
-      pub other_answer : (r : ℕ) → r ≡ code_of_canonical s m (length (take (length w) other)) (take (length w) other) → r ≡ code s m (length w) w
+      other_answer : (r : ℕ) → r ≡ code_of_canonical s m (length (take (length w) other)) (take (length w) other) → r ≡ code s m (length w) w
       unfolding code
       other_answer r x =
           x
           ∙ ap (λ (l : List ℕ). code_of_canonical s m (length l) l) other_is
           ∙ rw (canonical-high s m w other_low, length-mirror s m w)
+
+    -- The lower of the two, whichever it is.
+    abbrev pub Lower : List ℕ → Type 0
+    Lower lower = ((p ≤ q) × (lower ≡ w)) ⊎ ((q < p) × (lower ≡ take (length w) other))
+
+    pub lower_least : (lower : List ℕ) → Lower lower → FitCanonical s m lower
+    lower_least lower (inl o) = rw o.1 (own_least o.0)
+    lower_least lower (inr o) = rw o.1 (other_least o.0)
+
+    pub lower_answer : (lower : List ℕ) → Lower lower → (r : ℕ) → r ≡ code_of_canonical s m (length lower) lower → r ≡ code s m (length w) w
+    lower_answer lower (inl o) r x = own_answer o.0 r (x ∙ ap (λ (l : List ℕ). code_of_canonical s m (length l) l) o.1)
+    lower_answer lower (inr o) r x = other_answer o.0 r (x ∙ ap (λ (l : List ℕ). code_of_canonical s m (length l) l) o.1)
+
+    pub lower_first : leb p q ≡ leb (plain s w) (plain s (mirror s m w))
+    lower_first = rw (p_is, q_is)

@@ -1,27 +1,24 @@
 -- The word of a code as it is written into a buffer: the two ends, the letters of a plain rank, the pair of a rank, the word within.
-use mathlib.Core.Path.{◌≡◌, ◌∙◌, ap, subst, sym, refl, subst⁻¹}
-use mathlib.Core.List.{List, ◌∷◌, ◌++◌, [], append_assoc, append-nil}
-use Prim.Native.Nat.{◌-◌, ℕ, ◌+◌, ◌≤◌, suc, ◌<◌, ◌^◌, ◌/◌, ◌%◌, ◌*◌, zero}
-use native.Mathlib.Nat.{div-lt_iff_lt-mul, pow-suc, div-add-mod', mod-lt, mul-le-mul_left}
-use native.Mathlib.Omega.{arith}
+use Rattle.std.proofs.Common.{◌≡◌, ◌∙◌, ap, ap₂, subst, sym, refl, List, ◌∷◌, ◌++◌, [], append_assoc, append-nil, ◌-◌, ℕ, ◌+◌, ◌≤◌, suc, ◌<◌, ◌^◌, ◌/◌, ◌%◌, ◌*◌, zero, min, div-lt_iff_lt-mul, pow-suc, div-add-mod', mod-lt, mul-le-mul_left, arith, set, length, take, drop, length-append, length-set, replicate, drop-cons, get_or-set_same, drop-set-lt, length-take-le, drop_at}
+use mathlib.Core.Path.{subst⁻¹}
 use borrow.Rule.Slice.PartMut.{put_mid}
-use lib.ListN.{set, length, take, drop, length-append, length-set, replicate}
-use lib.Seq.{set_split, drop-length, drop-cons, get_or-set_same, drop-set-lt, length-take-le, drop_at}
+use lib.Seq.{set_split, drop-length}
 use Rattle.settings.specs.Limits.{Limits}
 use Rattle.settings.specs.Settings.{classes}
 use Rattle.settings.proofs.Limits.{k_at_most, limits_less}
+use Rattle.settings.proofs.Powers.{capped}
 use Rattle.laws.proofs.Each.{each_append}
 use Rattle.laws.proofs.Powers.{pair_count, square, pow_pos, pow-two_more}
 use Rattle.laws.proofs.Buffers.{front_is, front_fits, front_length}
 use Rattle.encoding.specs.Calls.{in_capitals}
 use Rattle.codes.specs.Needs.{RankOfPair, FitHighCode}
-use Rattle.encoding.specs.Words.{plain, Ranks, Mirror, mirror_rank}
+use Rattle.encoding.specs.Words.{plain, Ranks, Mirror, Complement, mirror_rank}
 use Rattle.encoding.specs.WordsOfCodes.{word_of, word_of_plain, pair_of_rank, middle_of_code}
 use Rattle.encoding.proofs.Bijection.{word_low, word_high}
-use Rattle.encoding.proofs.ClassNumbers.{classes-le, classes-suc}
+use Rattle.encoding.proofs.ClassNumbers.{classes-le, classes-suc, classes-one_complement}
 use Rattle.encoding.proofs.Codes.{length_word_of, ranks_word_of}
 use Rattle.encoding.proofs.Ends.{plain-snoc}
-use Rattle.encoding.proofs.Pairs.{rank_of_pair}
+use Rattle.encoding.proofs.Pairs.{rank_of_pair, rank_here, rank_next}
 use Rattle.encoding.proofs.Plain.{plain-word_of_plain, length-word_of_plain, ranks_word_of_plain, word_of_plain-plain}
 use Rattle.ranks.proofs.WordParts.{length_part}
 
@@ -84,18 +81,53 @@ plain_end s (suc i) left w out h e = absurd (omega arith)
 
 -- ---- the pair of a rank
 
-pub rank_start : (s R : ℕ) → RankOfPair s R → R < pair_count (suc (s - 1))
-rank_start s R h = let e : suc (s - 1) ≡ s = omega arith in rw e (omega (arith, square s))
-
-pub rank_pos : (t R : ℕ) → R < pair_count (suc t) → t ≤ R → 1 ≤ t
+rank_pos : (t R : ℕ) → R < pair_count (suc t) → t ≤ R → 1 ≤ t
 unfolding pair_count
 rank_pos zero R h g = absurd (omega arith)
 rank_pos (suc t) R h g = omega arith
 
-pub rank_less : (t R : ℕ) → R < pair_count (suc t) → t ≤ R → R - t < pair_count (suc (t - 1))
+rank_less : (t R : ℕ) → R < pair_count (suc t) → t ≤ R → R - t < pair_count (suc (t - 1))
 unfolding pair_count
 rank_less zero R h g = absurd (omega arith)
 rank_less (suc t) R h g = let e : suc t - 1 ≡ t = omega arith in rw e (omega arith)
+
+-- After l turns of `pair_of`: the pair with the rank R is l more than that with what is left of it, a rank among the pairs of s - l letters.
+pub record PairFrom (s R l left : ℕ) : Type 0 where
+  pub letter : l < s
+  pub below : left < pair_count (suc (s - 1 - l))
+  pub first : (pair_of_rank (s - 1) R).0 ≡ l + (pair_of_rank (s - 1 - l) left).0
+  pub second : (pair_of_rank (s - 1) R).1 ≡ l + (pair_of_rank (s - 1 - l) left).1
+
+pub pair_start : (s R : ℕ) → RankOfPair s R → PairFrom s R 0 R
+pair_start s R h =
+    let all : suc (s - 1) ≡ s = omega (arith, h.0) in
+    let none_less : s - 1 - 0 ≡ s - 1 = omega arith in
+    record { letter = omega (arith, h.0); below = rw (none_less, all) (omega (arith, square s, h.1)); first = rw none_less (omega arith); second = rw none_less (omega arith) }
+
+module _ {s R l left : ℕ} (P : PairFrom s R l left) where
+  -- One turn more.
+  module _ (h : s - 1 - l ≤ left) where
+    one_more : 1 ≤ s - 1 - l
+    one_more = rank_pos (s - 1 - l) left P.below h
+
+    pub pair_next : PairFrom s R (l + 1) (left - (s - 1 - l))
+    pair_next =
+        let next = rank_next (s - 1 - l) left one_more h in
+        let less : s - 1 - (l + 1) ≡ s - 1 - l - 1 = omega arith in
+        record {
+          letter = omega (arith, one_more);
+          below = rw less (rank_less (s - 1 - l) left P.below h);
+          first = rw less (omega (arith, P.first, ap (λ (x : ℕ × ℕ). x.0) next));
+          second = rw less (omega (arith, P.second, ap (λ (x : ℕ × ℕ). x.1) next));
+        }
+
+  -- No turn more.
+  pub pair_here : left < s - 1 - l → let pair : ℕ × ℕ = (l, l + 1 + left) in pair ≡ pair_of_rank (s - 1) R
+  pair_here h =
+      let here = rank_here (s - 1 - l) left h in
+      let left_is : l ≡ (pair_of_rank (s - 1) R).0 = omega (arith, P.first, ap (λ (x : ℕ × ℕ). x.0) here) in
+      let right_is : l + 1 + left ≡ (pair_of_rank (s - 1) R).1 = omega (arith, P.second, ap (λ (x : ℕ × ℕ). x.1) here) in
+      ap₂ (λ (x y : ℕ). (x, y)) left_is right_is
 
 -- ---- the word with its ends set and its inside written
 
@@ -128,13 +160,14 @@ module _ (s : ℕ) (m : Mirror) (out : List ℕ) (h : 2 ≤ length out) where
       ∙ ap (λ (n : ℕ). word_of s m n q) (sym two_more)
 
   pub high_word : (q p : ℕ) → p ≡ s ^ (length out - 2) → (X Y : List ℕ) (l r t : ℕ)
-      → l ≡ (pair_of_rank (s - 1) (q / p)).0
-      → r ≡ (pair_of_rank (s - 1) (q / p)).1
+      → (let pair : ℕ × ℕ = (l, r) in pair ≡ pair_of_rank (s - 1) (q / p))
       → t ≡ mirror_rank s m r
       → X ≡ l ∷ (take (length out - 2) (drop 1 out) ++ (t ∷ []))
       → Y ≡ word_of_plain s (length (take (length out - 1 - 1) (drop 1 X))) (q % p)
       → put_mid 1 (length out - 1 - 1) X Y ≡ word_of s m (length out) (s * classes s m (length out - 2) + q)
-  high_word q p z X Y l r t el er et e f =
+  high_word q p z X Y l r t lr et e f =
+      let el : l ≡ (pair_of_rank (s - 1) (q / p)).0 = ap (λ (x : ℕ × ℕ). x.0) lr in
+      let er : r ≡ (pair_of_rank (s - 1) (q / p)).1 = ap (λ (x : ℕ × ℕ). x.1) lr in
       put_inside out X h l t e Y
       ∙ ap (λ (x : List ℕ). l ∷ (x ++ (t ∷ []))) (f ∙ ap (λ (n : ℕ). word_of_plain s n (q % p)) (part_length out X h l t e))
       ∙ rw (et, el, er, z) (sym (word_high s m (length out - 2) q))
@@ -164,23 +197,32 @@ module _ (s : ℕ) (m : Mirror) (out : List ℕ) (h : 2 ≤ length out) where
         rw e ((div-lt_iff_lt-mul pos).1 k)
 
 -- A code that is q above those of equal outer letters, and p as `power` gives it.
-module _ {s : ℕ} {m : Mirror} {out : List ℕ} {q : ℕ} (F : FitHighCode s m out q) {p : ℕ} (z : p ≡ s ^ (length out - 2)) where
+module _ {s : ℕ} {m : Mirror} {out : List ℕ} {q : ℕ} (F : FitHighCode s m out q) {p : ℕ} (by : p ≡ min (s ^ (length out - 2)) 4611686018427387905) where
+  pub p_is : p ≡ s ^ (length out - 2)
+  p_is = capped s (length out) (length out - 2) p F.limits.two (omega arith) F.limits.small by
+
   pub p_pos : 0 < p
-  p_pos = rw z (pow_pos s (length out - 2) F.limits.two)
+  p_pos = rw p_is (pow_pos s (length out - 2) F.limits.two)
 
   rank_lt : q / p < pair_count s
   rank_lt =
-      let k : q < pair_count s * p = rw z (omega (arith, F.below, all_classes s m out F.long)) in
+      let k : q < pair_count s * p = rw p_is (omega (arith, F.below, all_classes s m out F.long)) in
       (div-lt_iff_lt-mul p_pos).1 k
 
   pub rank_below : RankOfPair s (q / p)
   rank_below = (F.limits.two, omega (arith, square s, rank_lt), F.limits.few)
 
-  pub right_lt : (pair_of_rank (s - 1) (q / p)).1 < s
-  right_lt = omega (arith, (rank_of_pair s (q / p) rank_lt).0.within, F.limits.two)
+  pub right_lt : (l r : ℕ) → (let pair : ℕ × ℕ = (l, r) in pair ≡ pair_of_rank (s - 1) (q / p)) → r < s
+  right_lt l r lr = omega (arith, ap (λ (x : ℕ × ℕ). x.1) lr, (rank_of_pair s (q / p) rank_lt).0.within, F.limits.two)
 
   pub remainder_lt : (n : ℕ) → n ≡ length out - 2 → q % p < s ^ n
-  remainder_lt n e = rw e (subst (λ (x : ℕ). q % p < x) z (mod-lt q p_pos))
+  remainder_lt n e = rw e (subst (λ (x : ℕ). q % p < x) p_is (mod-lt q p_pos))
+
+-- A code of a word of one letter, under complement.
+pub middle_low : (s q : ℕ) {m : Mirror} → q < classes s m 1 → m ≡ Complement → q < (s + 1) / 2
+middle_low s q h e =
+    let below = subst (λ (m : Mirror). q < classes s m 1) e h in
+    omega (arith, classes-one_complement s, below)
 
 pub none_word : (s : ℕ) (m : Mirror) (q : ℕ) (out : List ℕ) → length out ≡ 0 → out ≡ word_of s m (length out) q
 unfolding word_of

@@ -1,14 +1,8 @@
 -- The scan for the first pair that differs: where it stops is the number of equal outer pairs, by one turn of the loop of `differing_at`; and the
 -- pair that differs, from 1, is the one after these.
-use mathlib.Core.Path.{◌≡◌, ap, sym, ◌∙◌, refl}
-use mathlib.Core.Bool.{cond, Bool, true, false}
-use mathlib.Core.List.{List, ◌++◌, ◌∷◌, []}
-use mathlib.Core.Logic.{◌≢◌}
-use Prim.Native.Nat.{ℕ, ◌*◌, ◌≤◌, ◌<◌, ◌+◌, suc, ◌-◌, zero}
-use native.Mathlib.Omega.{arith}
-use borrow.Author.Tests.{ne_eqb, eq-eqb, leb-true, le-leb, leb-false, lt-leb}
-use lib.Dec.{eqb, leb}
-use lib.ListN.{get_or, length, get_or-append}
+use Rattle.std.proofs.Common.{◌≡◌, ap, sym, ◌∙◌, refl, cond, Bool, true, false, List, ◌++◌, ◌∷◌, [], ◌≢◌, ℕ, ◌*◌, ◌/◌, ◌≤◌, ◌<◌, ◌+◌, suc, ◌-◌, zero, arith, ne_eqb, eq-eqb, leb-true, le-leb, leb-false, eqb, leb, get_or, length}
+use borrow.Author.Tests.{lt-leb}
+use lib.ListN.{get_or-append}
 use lib.Seq.{get_or_at}
 use Rattle.encoding.specs.Codes.{differing_pair}
 use Rattle.encoding.specs.Needs.{equal_pairs}
@@ -58,9 +52,10 @@ pub record Equal (s : ℕ) (m : Mirror) (w : List ℕ) (i : ℕ) : Type 0 where
   pub equal : (j p : ℕ) → j < i → p + suc j ≡ length w → get_or w j 0 ≡ mirror_rank s m (get_or w p 0)
 
 module _ (s : ℕ) (m : Mirror) (w : List ℕ) (i : ℕ) (inv : Equal s m w i) where
-  pub stop_middle : length w - i < i + 2 → i ≡ equal_pairs s m (length w) w
-  stop_middle h =
-      sym (stops_at s m (length w) w refl i (record { fits = inv.fits; equal = inv.equal; differs = λ p g e. absurd (omega (arith, inv.fits)) }))
+  pub half_equal : length w / 2 ≤ i → length w / 2 ≡ equal_pairs s m (length w) w
+  half_equal h =
+      let middle : length w / 2 ≡ i = omega (arith, inv.fits) in
+      middle ∙ sym (stops_at s m (length w) w refl i (record { fits = inv.fits; equal = inv.equal; differs = λ p g e. absurd (omega (arith, inv.fits)) }))
 
   pub stop_differs : (get_or w i 0 ≡ mirror_rank s m (get_or w (length w - 1 - i) 0) → ⊥) → i ≡ equal_pairs s m (length w) w
   stop_differs d =

@@ -1,11 +1,7 @@
 -- The shift and the odd-k subtraction as `shift_of` and `odd_shift` work them out from powers that stop above 2^62, and the code from these.
-use mathlib.Core.Path.{ap, ◌≡◌, refl, ◌∙◌, sym}
-use mathlib.Core.List.{List}
-use Prim.Native.Nat.{ℕ, ◌<◌, ◌≤◌, ◌^◌, min, ◌-◌, ◌*◌, ◌+◌, suc, ◌/◌, ◌%◌}
-use native.Mathlib.Nat.{pow-suc, pow-le-pow_right, mul-le-mul_right}
-use native.Mathlib.Omega.{arith}
-use borrow.Author.Tests.{lt-leb, le-leb, ne_eqb, eq-eqb}
-use lib.ListN.{length}
+use Rattle.std.proofs.Common.{ap, ◌≡◌, refl, ◌∙◌, sym, List, ℕ, ◌<◌, ◌≤◌, ◌^◌, min, ◌-◌, ◌*◌, ◌+◌, suc, ◌/◌, ◌%◌, pow-suc, mul-le-mul_right, arith, le-leb, ne_eqb, eq-eqb, length}
+use native.Mathlib.Nat.{pow-le-pow_right}
+use borrow.Author.Tests.{lt-leb}
 use Rattle.laws.proofs.Powers.{pow-fits}
 use Rattle.settings.specs.Settings.{half_up, is_odd}
 use Rattle.settings.proofs.Powers.{capped}
@@ -25,15 +21,24 @@ module _ (s k p : ℕ) (fits : 2 * p ≤ k) where
   unfolding shift pair_after
   no_shift h = rw (lt-leb (2 * suc p) k (omega arith))
 
-  pub shift_pow : 1 < s → p + 2 ≤ k - p → s ^ (k - k / 2) ≤ s ^ (k - p - 1)
-  shift_pow hs h = pow-le-pow_right (omega arith) (omega arith)
+  -- x and y are the two powers as `power` gives them.
+  module _ (two : 1 < s) (small : s ^ k ≤ 2 ^ 62) (h : p + 2 ≤ k - p) (x y : ℕ) (x-by : x ≡ min (s ^ (k - p - 1)) 4611686018427387905)
+      (y-by : y ≡ min (s ^ (k - k / 2)) 4611686018427387905) where
+    x_is : x ≡ s ^ (k - p - 1)
+    x_is = capped s k (k - p - 1) x two (omega arith) small x-by
 
-  pub some_shift : p + 2 ≤ k - p → (x y : ℕ) → x ≡ s ^ (k - p - 1) → y ≡ s ^ (k - k / 2) → (x - y) / 2 ≡ shift s k (pair_after k p)
-  unfolding shift pair_after half_up
-  some_shift h x y x_is y_is =
-      let e : k - p - 1 ≡ k - suc p = omega arith in
-      let f : k - k / 2 ≡ (k + 1) / 2 = omega arith in
-      rw (le-leb (2 * suc p) k (omega arith), x_is, y_is, e, f)
+    y_is : y ≡ s ^ (k - k / 2)
+    y_is = capped s k (k - k / 2) y two (omega arith) small y-by
+
+    pub shift_pow : y ≤ x
+    shift_pow = let up : s ^ (k - k / 2) ≤ s ^ (k - p - 1) = pow-le-pow_right (omega arith) (omega arith) in omega (arith, x_is, y_is)
+
+    pub some_shift : (x - y) / 2 ≡ shift s k (pair_after k p)
+    unfolding shift pair_after half_up
+    some_shift =
+        let e : k - p - 1 ≡ k - suc p = omega arith in
+        let f : k - k / 2 ≡ (k + 1) / 2 = omega arith in
+        rw (le-leb (2 * suc p) k (omega arith), x_is, y_is, e, f)
 
 -- ---- under complement with odd k
 

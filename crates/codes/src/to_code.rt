@@ -16,17 +16,12 @@ fn differing_at(w: &[u64], s: u64, m: Mirror) -> usize
     ensures { result ≡ equal_pairs s m (length w.now) w.now }
 {
     let n = w.len();
-    let mut i: usize = 0;
-    let at = loop {
-        if n - i < i + 2 {
-            break i;
-        }
+    for i in 0..n / 2 {
         if w[i] != ranks::mirror_rank(s, m, w[n - 1 - i]) {
-            break i;
+            return i;
         }
-        i += 1;
-    };
-    at
+    }
+    n / 2
 }
 
 // The value of the digits of a word whose outer pair l < r differs: R/s + 1, R mod s, and the inner letters.
@@ -46,19 +41,18 @@ fn digits_value(w: &[u64], s: u64, m: Mirror) -> u64
     requires { FitCanonical s m w.now }
     ensures { result ≡ plain s (digits s m (length w.now) w.now) }
 {
-    let n = w.len();
-    if n == 0 {
-        return 0;
+    match w {
+        [] => 0,
+        [middle] => ranks::mirror_rank(s, m, *middle),
+        [first, inner @ .., last] => {
+            let last = ranks::mirror_rank(s, m, *last);
+            if *first == last {
+                digits_value(inner, s, m) * s + last
+            } else {
+                differing_value(w, s, *first, last)
+            }
+        }
     }
-    let last = ranks::mirror_rank(s, m, w[n - 1]);
-    if n == 1 {
-        return last;
-    }
-    let first = w[0];
-    if first == last {
-        return digits_value(&w[1..n - 1], s, m) * s + last;
-    }
-    differing_value(w, s, first, last)
 }
 
 // The shift of a word of k letters with p equal outer pairs.
@@ -115,21 +109,14 @@ pub fn ranks_code(w: &[u64], s: u64, m: Mirror) -> WordCode
     ensures { (result.code.0 ≡ code s m (length w.now) w.now)
         × (result.canonical ≡ leb (plain s w.now) (plain s (mirror s m w.now))) }
 {
-    let k = w.len();
-    let mut other = [0u64; 64];
-    ranks::fill_mirror(w, s, m, &mut other);
-    let other_word = &other[..k];
-    let own_rank = ranks::plain_rank(w, s);
-    let other_rank = ranks::plain_rank(other_word, s);
-    if own_rank.0 <= other_rank.0 {
-        WordCode {
-            code: canonical_code(w, s, m),
-            canonical: true,
-        }
-    } else {
-        WordCode {
-            code: canonical_code(other_word, s, m),
-            canonical: false,
-        }
+    // Stays: no heap, and a mirror must lie somewhere: a word within the limits has at most 62 letters.
+    let mut places = [0u64; 64];
+    ranks::fill_mirror(w, s, m, &mut places);
+    let mirror = &places[..w.len()];
+    let canonical = ranks::plain_rank(w, s).0 <= ranks::plain_rank(mirror, s).0;
+    let lower = if canonical { w } else { mirror };
+    WordCode {
+        code: canonical_code(lower, s, m),
+        canonical,
     }
 }

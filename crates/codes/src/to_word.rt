@@ -7,10 +7,6 @@ ghost use Rattle.codes.specs.Needs.{RankOfPair, FitHighCode};
 
 use settings::Mirror;
 
-// A pair of ranks l < r.
-#[derive(Clone, Copy)]
-struct Pair(pub u64, pub u64);
-
 // Sets the two ends of a word of two letters or more.
 fn set_ends(out: &mut [u64], a: u64, b: u64)
     requires { 2 ≤ length out.old }
@@ -26,29 +22,26 @@ fn fill_plain(out: &mut [u64], s: u64, q: u64)
     requires { (1 < s) × (q < s ^ length out.old) }
     ensures { out.new ≡ word_of_plain s (length out.old) q }
 {
-    let mut i = out.len();
     let mut left = q;
-    while 0 < i {
-        i -= 1;
+    for i in (0..out.len()).rev() {
         out[i] = left % s;
         left /= s;
     }
 }
 
-// The pair with a rank: each turn leaves out the pairs with the lowest l.
-fn pair_of(s: u64, rank: u64) -> Pair
+// The pair l < r with a rank: each turn leaves out the s - 1 - l pairs with the lowest l.
+fn pair_of(s: u64, rank: u64) -> (u64, u64)
     requires { RankOfPair s rank }
-    ensures { (result.0 ≡ (pair_of_rank (s - 1) rank).0) × (result.1 ≡ (pair_of_rank (s - 1) rank).1) }
+    ensures { result ≡ pair_of_rank (s - 1) rank }
 {
-    let mut t = s - 1;
+    // Stays: the rank ends the loop; a `for l in 0..s` would return from within and end in an `unreachable!`.
     let mut left = rank;
-    let mut l: u64 = 0;
-    while left >= t {
-        left -= t;
-        t -= 1;
+    let mut l = 0;
+    while left >= s - 1 - l {
+        left -= s - 1 - l;
         l += 1;
     }
-    Pair(l, l + 1 + left)
+    (l, l + 1 + left)
 }
 
 // The canonical word of one letter with code q.
@@ -69,8 +62,8 @@ fn fill_differing(out: &mut [u64], s: u64, m: Mirror, q: u64)
 {
     let n = out.len();
     let p = settings::power(s, n - 2);
-    let lr = pair_of(s, q / p);
-    set_ends(out, lr.0, ranks::mirror_rank(s, m, lr.1));
+    let (l, r) = pair_of(s, q / p);
+    set_ends(out, l, ranks::mirror_rank(s, m, r));
     fill_plain(&mut out[1..n - 1], s, q % p);
 }
 

@@ -1,13 +1,7 @@
 -- The plain rank and the mirror of a word of ranks, a letter at a time: the loops of `plain_rank` and `fill_mirror`.
-use mathlib.Core.Path.{◌≡◌, refl, sym, ◌∙◌, ap}
-use mathlib.Core.List.{List, [], reverse, ◌++◌}
-use Prim.Native.Nat.{ℕ, ◌<◌, ◌+◌, ◌*◌, ◌^◌, ◌≤◌}
+use Rattle.std.proofs.Common.{◌≡◌, refl, sym, ◌∙◌, ap, List, [], reverse, ◌++◌, ℕ, ◌<◌, ◌+◌, ◌*◌, ◌^◌, ◌≤◌, add-one, zero-add, arith, length, take, drop, get_or, set, take-suc, length-take-le}
 use native.Mathlib.Nat.{pow-le-pow_right}
-use native.Mathlib.Numerals.{add-one}
-use Rattle.std.proofs.Common.{zero-add}
-use native.Mathlib.Omega.{arith}
-use lib.ListN.{length, take, drop, get_or, set, length-reverse}
-use lib.Seq.{take-suc, length-take-le}
+use lib.ListN.{length-reverse}
 use Rattle.std.specs.List.{enumerate_from}
 use Rattle.std.proofs.lemmas.List.FromFn.{length-enumerate_from, get_or-enumerate_from}
 use Rattle.std.proofs.lemmas.Grind.{get_or_default_zero}

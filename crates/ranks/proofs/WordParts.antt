@@ -1,13 +1,5 @@
 -- Parts of a word of ranks: one rank, a part and its ends, the digits of a part by its ends, and the word within.
-use mathlib.Core.Path.{ap, ◌≡◌, ◌∙◌}
-use mathlib.Core.Bool.{cond, Bool, true, false}
-use mathlib.Core.List.{List, [], ◌∷◌, ◌++◌}
-use Prim.Native.Nat.{◌-◌, ℕ, ◌<◌, suc, ◌+◌, ◌≤◌, ◌/◌, ◌%◌, ◌*◌, ◌^◌}
-use native.Mathlib.Nat.{pow-suc}
-use native.Mathlib.Omega.{arith}
-use lib.Dec.{eqb}
-use lib.ListN.{length, get_or, take, drop, length-drop}
-use lib.Seq.{length-take-le, drop-cons, take-suc, get_or-drop}
+use Rattle.std.proofs.Common.{ap, ◌≡◌, ◌∙◌, cond, Bool, true, false, List, [], ◌∷◌, ◌++◌, ◌-◌, ℕ, ◌<◌, suc, ◌+◌, ◌≤◌, ◌/◌, ◌%◌, ◌*◌, ◌^◌, pow-suc, arith, eqb, length, get_or, take, drop, length-drop, length-take-le, drop-cons, take-suc, get_or-drop}
 use Rattle.laws.proofs.Each.{each_at}
 use Rattle.laws.proofs.Powers.{pow-fits}
 use Rattle.encoding.specs.Codes.{digits, pair_rank}

@@ -1,6 +1,5 @@
 -- `ranks::pair_rank` meets its contract. The product is at most 16 * 32, so that nothing wraps.
-use mathlib.Core.Path.{refl}
-use native.Mathlib.Omega.{arith}
+use Rattle.std.proofs.Common.{refl, arith}
 use Rattle.encoding.specs.Codes.{pair_rank}
 use Rattle.encoding.proofs.Pairs.{pair_small}
 use Rattle.ranks.proofs.pair_rank.Goals as goal

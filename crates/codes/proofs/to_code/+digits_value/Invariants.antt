@@ -1,5 +1,5 @@
 -- `codes::to_code::digits_value` calls itself on the word within, two letters shorter. The measure is the length of the word.
-use lib.ListN.{length}
+use Rattle.std.proofs.Common.{length}
 use Rattle.codes.proofs.to_code.+digits_value.Given as goal
 
 abbrev pub decreases-digits_value : goal.decreases-digits_value

@@ -1,6 +1,5 @@
 -- `codes::to_code::canonical_code` meets its contract. The value of the digits is at least what is subtracted, and what is left is the code (Shifts).
-use Prim.Native.Nat.{ℕ, ◌+◌, ◌≤◌}
-use native.Mathlib.Omega.{arith}
+use Rattle.std.proofs.Common.{arith}
 use Rattle.codes.proofs.Shifts.{at_le, enough, code_is_this}
 use Rattle.codes.proofs.to_code.canonical_code.Goals as goal
 
@@ -10,15 +9,11 @@ shift_of-shift-requires c =
 
 pub overflow_sub-result : goal.overflow_sub-result
 overflow_sub-result c =
-    let subtracted : ℕ = c.shift_of-shift.result + c.odd_shift-odd.result in
-    let subtracts : subtracted ≤ c.digits_value-value.result = enough c.requires c.differing_at-at.ensures c.shift_of-shift.ensures c.odd_shift-odd.ensures c.digits_value-value.ensures in
-    omega (arith, subtracts)
+    omega (arith, enough c.requires c.differing_at-at.ensures c.shift_of-shift.ensures c.odd_shift-odd.ensures c.digits_value-value.ensures)
 
 pub overflow_sub-result-2 : goal.overflow_sub-result-2
 overflow_sub-result-2 c =
-    let subtracted : ℕ = c.shift_of-shift.result + c.odd_shift-odd.result in
-    let subtracts : subtracted ≤ c.digits_value-value.result = enough c.requires c.differing_at-at.ensures c.shift_of-shift.ensures c.odd_shift-odd.ensures c.digits_value-value.ensures in
-    omega (arith, subtracts)
+    omega (arith, enough c.requires c.differing_at-at.ensures c.shift_of-shift.ensures c.odd_shift-odd.ensures c.digits_value-value.ensures)
 
 pub returns : goal.returns
 returns c =

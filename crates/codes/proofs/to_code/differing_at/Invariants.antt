@@ -1,11 +1,6 @@
--- The loops of this function: what holds at each turn, and what falls.
-use Prim.Native.Nat.{◌-◌}
-use lib.ListN.{length}
+-- The pairs passed are equal.
 use Rattle.codes.proofs.Scan.{Equal}
 use Rattle.codes.proofs.to_code.differing_at.Given as goal
 
 abbrev pub invariant-loop-i : goal.invariant-loop-i
 invariant-loop-i l = Equal l.s l.m l.w l.i
-
-abbrev pub decreases-loop-i : goal.decreases-loop-i
-decreases-loop-i l = length l.w - l.i

@@ -1,11 +1,7 @@
 -- `codes::to_code::odd_shift` meets its contract. A case for each mirror and, under complement, for odd and even k (Shifts).
-use native.Mathlib.Omega.{arith}
-use borrow.Author.Rules.{rules}
+use Rattle.std.proofs.Common.{arith}
 use Rattle.codes.proofs.Shifts.{odd_reversal, odd_complement, odd_fits, even_complement}
 use Rattle.codes.proofs.to_code.odd_shift.Goals as goal
-
-pub enum_told-1 : goal.enum_told-1
-enum_told-1 c = search rules
 
 pub overflow_mul-result : goal.overflow_mul-result
 overflow_mul-result c =

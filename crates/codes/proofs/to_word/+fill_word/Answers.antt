@@ -1,9 +1,6 @@
 -- `codes::to_word::fill_word` meets its contract: a code below low is that of a word with equal ends, whose inner word is written by a call on the
 -- span within; any other is that of a word whose ends differ (ReadSteps).
-use mathlib.Core.Path.{◌≡◌, subst, ap}
-use Prim.Native.Nat.{◌-◌, ℕ, ◌<◌, ◌≤◌, ◌*◌}
-use native.Mathlib.Omega.{arith}
-use lib.ListN.{length}
+use Rattle.std.proofs.Common.{◌≡◌, subst, ap, ◌-◌, ℕ, ◌<◌, ◌≤◌, ◌*◌, arith, length}
 use Rattle.laws.proofs.Powers.{pow-fits}
 use Rattle.settings.specs.Settings.{classes}
 use Rattle.codes.proofs.ReadSteps.{none_word, one_word, low_small, part_length, inner_limits, inner_lt, upper, low_word, upper_word}

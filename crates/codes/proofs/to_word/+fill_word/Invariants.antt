@@ -1,5 +1,5 @@
 -- `codes::to_word::fill_word` calls itself on the span within, two places shorter. The measure is the length of the span.
-use lib.ListN.{length}
+use Rattle.std.proofs.Common.{length}
 use Rattle.codes.proofs.to_word.+fill_word.Given as goal
 
 abbrev pub decreases-fill_word : goal.decreases-fill_word

@@ -1,6 +1,5 @@
 -- `codes::to_word::set_ends` meets its contract. From `ends_set` (ReadSteps).
-use native.Mathlib.Omega.{arith}
-use lib.ListN.{length-set}
+use Rattle.std.proofs.Common.{arith, length-set}
 use Rattle.codes.proofs.ReadSteps.{ends_set}
 use Rattle.codes.proofs.to_word.set_ends.Goals as goal
 
