@@ -1,14 +1,13 @@
 -- Texts written one after the other are one text; a text that fits, written from the start, is followed by what the buffer held. From what
 -- `sets` does to a list.
 use mathlib.Core.Path.{◌≡◌, refl, sym, ap, ◌∙◌}
-use Prim.Native.Nat.{ℕ, suc, ◌+◌, ◌≤◌, ◌<◌, min}
+use Prim.Native.Nat.{ℕ, suc, ◌+◌, ◌≤◌, min}
 use native.Mathlib.Nat.{add-zero, add-suc, suc-add, zero-add}
-use native.Mathlib.Numerals.{add-one}
 use native.Mathlib.Omega.{arith}
 use mathlib.Core.Bool.{Bool, true, false}
-use mathlib.Core.List.{List, [], ◌∷◌, ◌++◌, append_assoc}
-use lib.ListN.{length, take, drop, get_or, set, length-append}
-use lib.Seq.{sets, length-sets, sets-eq, set_out, take-suc}
+use mathlib.Core.List.{List, [], ◌∷◌, ◌++◌, append_assoc, append-nil}
+use lib.ListN.{length, drop, set, length-append}
+use lib.Seq.{sets, length-sets, sets-eq, set_out}
 use lib.Dec.{leb}
 use borrow.Author.Tests.{leb-true, leb-false}
 use Rattle.texts.specs.Decimals.{decimal}
@@ -62,9 +61,21 @@ then P Q = record { buffer = Q.buffer ∙ P.buffer; puts = puts_then P.puts Q.pu
 pub then_field : {u v w : Writer} (text : List ℕ) (n : ℕ) {q : List ℕ} → Writes u v (text ++ decimal n) → Writes v w q → Writes u w (text ++ (decimal n ++ q))
 then_field text n {q} P Q = rw (← append_assoc text (decimal n) q) (then P Q)
 
--- One byte more of a text.
-pub more : {u v w : Writer} (text : List ℕ) (i : ℕ) → i < length text → Writes u v (take i text) → Writes v w (get_or text i 0 ∷ []) → Writes u w (take (i + 1) text)
-more text i h P Q = rw (add-one i, take-suc text i 0 h) (then P Q)
+-- A writer has written a text but for what is left of it: what a loop keeps that writes one.
+pub record Lacks (u w : Writer) (text left : List ℕ) : Type 0 where
+  pub written : List ℕ
+  pub writes : Writes u w written
+  pub parts : written ++ left ≡ text
+
+pub lacks_all : (w : Writer) (text : List ℕ) → w.at ≤ top → length w.out.now ≤ top → Lacks w w text text
+lacks_all w text h l = record { written = []; writes = nothing w h l; parts = refl }
+
+-- A part more.
+pub lacks_less : {u v w : Writer} {text : List ℕ} (p : List ℕ) {q : List ℕ} → Lacks u v text (p ++ q) → Writes v w p → Lacks u w text q
+lacks_less p {q} L P = record { written = L.written ++ p; writes = then L.writes P; parts = append_assoc L.written p q ∙ L.parts }
+
+pub lacks_none : {u w : Writer} {text : List ℕ} → Lacks u w text [] → Writes u w text
+lacks_none L = rw (← L.parts, append-nil L.written) L.writes
 
 -- A text that fits, written from the start.
 pub from_start : {a b : List ℕ} {r : ℕ} {p : List ℕ} → Puts a b 0 r p → length p ≤ length a → b ≡ p ++ drop (length p) a

@@ -31,7 +31,8 @@ impl<'a> Writer<'a> {
     }
 
     // One byte. The last place is 2^64 - 1.
-    fn put_byte(&mut self, b: u8)
+    #[inline]
+    pub fn put_byte(&mut self, b: u8)
         ensures { Writes self.old self.new (b ∷ []) }
     {
         let len = self.out.len();

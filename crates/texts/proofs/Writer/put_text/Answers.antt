@@ -1,5 +1,16 @@
-use Rattle.texts.proofs.Writing.{more}
+-- `texts::Writer::put_text` meets its contract: each byte leaves one less to write.
+use native.Mathlib.Omega.{arith}
+use mathlib.Core.List.{[], ◌∷◌}
+use Rattle.std.proofs.lemmas.List.{drop_more, drop_all}
+use Rattle.texts.proofs.Writing.{lacks_all, lacks_less, lacks_none}
 use Rattle.texts.proofs.Writer.put_text.Goals as goal
 
+pub loop-b-init : goal.loop-b-init
+loop-b-init c = lacks_all _ _ (omega arith) (omega arith)
+
 pub loop-b-preserved : goal.loop-b-preserved
-loop-b-preserved c = more _ c.loop-b.b-index c.loop-b-test.true c.loop-b.invariant c.put_byte.ensures
+loop-b-preserved c =
+    lacks_less (_ ∷ []) (rw (drop_more c.args.text.now c.loop-b.b-index 0 c.loop-b-test.true) at c.loop-b.invariant) c.put_byte.ensures
+
+pub returns : goal.returns
+returns c = lacks_none (rw (drop_all c.loop-b.b-index c.args.text.now c.loop-b-test.false) at c.loop-b.invariant)

@@ -1,7 +1,7 @@
--- The loop of this function: the bytes before the index are written.
-use lib.ListN.{take}
-use Rattle.texts.specs.Needs.{Writes}
+-- The loop of this function: the text's bytes from the index on are left to write.
+use lib.ListN.{drop}
+use Rattle.texts.proofs.Writing.{Lacks}
 use Rattle.texts.proofs.Writer.put_text.Given as goal
 
 abbrev pub invariant-loop-b : goal.invariant-loop-b
-invariant-loop-b l = Writes l.initial.self l.self (take l.b-index l.text)
+invariant-loop-b l = Lacks l.initial.self l.self l.text (drop l.b-index l.text)
