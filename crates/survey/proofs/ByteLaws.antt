@@ -1,15 +1,9 @@
 -- The bytes of a form's value: those that the reader's test passes are the grammar's, and a stretch of them ends where the value does.
-use mathlib.Core.Path.{◌≡◌, refl, sym, ap}
-use mathlib.Core.Bool.{Bool, true, false, not, ◌||◌, and-eq-true_iff, false≢true}
-use mathlib.Core.List.{List, [], ◌∷◌, ◌++◌}
-use mathlib.Core.Logic.{◌≢◌}
+use Rattle.std.proofs.Common.{◌≡◌, refl, sym, ap, Bool, true, false, not, ◌||◌, List, [], ◌∷◌, ◌++◌, ◌≢◌, ℕ, suc, ◌≤◌, ◌<◌, arith, length, take, leb, eqb, leb-true, le-leb, ne_eqb}
+use mathlib.Core.Bool.{and-eq-true_iff, false≢true}
 use mathlib.Mathlib.Data.Bool.Basic.{eq-false_of_not-eq-true}
-use Prim.Native.Nat.{ℕ, suc, ◌≤◌, ◌<◌}
-use native.Mathlib.Omega.{arith}
-use lib.ListN.{length, take}
 use lib.Seq.{take-length}
-use lib.Dec.{leb, eqb}
-use borrow.Author.Tests.{leb-true, le-leb, eqb-false, ne_eqb}
+use borrow.Author.Tests.{eqb-false}
 use Rattle.laws.specs.Text.{bytes}
 use Rattle.laws.proofs.Tests.{by_test}
 use Rattle.survey.specs.declared.Name.{Name}

@@ -1,8 +1,6 @@
 -- Computed checks of the line that we print, and of the reading's definition: lines with their answers, lines in another order, and inputs that start with no
 -- survey line, by the rule that they keep or break.
-use mathlib.Core.Path.{◌≡◌, refl}
-use mathlib.Core.List.{List, [], ◌∷◌, ◌++◌}
-use Prim.Native.Nat.{ℕ}
+use Rattle.std.proofs.Common.{◌≡◌, refl, List, [], ◌∷◌, ◌++◌, ℕ}
 use Prim.Native.String.{String}
 use Rattle.laws.specs.Text.{bytes}
 use Rattle.settings.specs.Grounds.{Outcome, given, refused}

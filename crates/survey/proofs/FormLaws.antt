@@ -1,21 +1,14 @@
 -- A form at a place: what the reader takes for one is a form of the grammar (`form_good`), and a form of the grammar is read (`form_there`).
-use mathlib.Core.Path.{◌≡◌, refl, sym, ap, ◌∙◌}
-use mathlib.Core.Bool.{true, false}
-use mathlib.Core.List.{List, [], ◌∷◌, ◌++◌, append_assoc, append-nil}
-use Prim.Native.Nat.{ℕ, ◌+◌, ◌≤◌}
-use native.Mathlib.Omega.{arith}
-use lib.ListN.{length, take, drop, length-drop, take-append-drop}
-use lib.Seq.{drop-drop, drop-append_seam}
+use Rattle.std.proofs.Common.{◌≡◌, refl, sym, ap, ◌∙◌, true, List, [], ◌∷◌, ◌++◌, append_assoc, append-nil, ℕ, ◌+◌, ◌-◌, ◌≤◌, arith, length, take, drop, length-drop, take-append-drop, drop-drop, Option, None, Some}
+use lib.Seq.{drop-append_seam}
 use Rattle.laws.specs.Text.{bytes}
 use Rattle.laws.proofs.Tests.{by_test}
 use Rattle.survey.specs.declared.Name.{Name}
 use Rattle.survey.specs.declared.Name.TheVariants.{Letters, K, Mirror}
 use Rattle.survey.specs.declared.Form.{Form}
-use Rattle.survey.specs.declared.Form.TheVariants.{Of, NoForm}
-use Rattle.survey.specs.declared.End.{End}
 use Rattle.survey.specs.Needs.{Within}
 use Rattle.survey.specs.Forms.{unclosed, line_of}
-use Rattle.survey.specs.Reading.{starts_with, stretch, value_byte, sized, number_of, form_of, form_from, form_at, next_form, line_end, head_of, line_from}
+use Rattle.survey.specs.Reading.{starts_with, stretch, value_byte, sized, read_form, form_of, form_from, form_at, next_form}
 use Rattle.survey.proofs.TextLaws.{starts_at}
 use Rattle.survey.proofs.ByteLaws.{stretch-le}
 use Rattle.survey.proofs.ValueLaws.{ValueText, some_bytes, value_read, value_there}
@@ -56,15 +49,19 @@ pub value_inside : (t : List ℕ) (name : Name) (from n : ℕ) → n ≡ stretch
     → from + n ≤ length t
 value_inside t name from n e s = omega (arith, some_bytes (drop from t) n name s, stretch-le (value_byte name) (drop from t), length-drop from t)
 
--- The form that was read stands at the place; if a bracket follows, its value and number are the grammar's.
-pub record FormRead (t : List ℕ) (at : ℕ) (name : Name) (from len number : ℕ) : Type 0 where
-  pub text : drop at t ≡ opening name ++ (take len (drop from t) ++ drop (from + len) t)
-  pub inside : from + len ≤ length t
-  pub means : (w : List ℕ) → drop (from + len) t ≡ 41 ∷ w → ValueText name (take len (drop from t)) number
+pub end_inside : (t : List ℕ) (name : Name) (from : ℕ) {end : ℕ} → end ≡ from + stretch (value_byte name) (drop from t)
+    → sized name (drop from t) (end - from) ≡ true → from + (end - from) ≤ length t
+end_inside t name from e s = value_inside t name from _ (omega arith) s
 
-abbrev pub FormGood : List ℕ → ℕ → Form → Type 0
-FormGood t at NoForm = Unit
-FormGood t at (Of name from len number) = FormRead t at name from len number
+-- The form that was read stands at the place; if a bracket follows, its value and number are the grammar's.
+pub record FormRead (t : List ℕ) (at : ℕ) (f : Form) : Type 0 where
+  pub text : drop at t ≡ opening f.name ++ (take f.len (drop f.from t) ++ drop (f.from + f.len) t)
+  pub inside : Within t f
+  pub means : (w : List ℕ) → drop (f.from + f.len) t ≡ 41 ∷ w → ValueText f.name (take f.len (drop f.from t)) f.number
+
+abbrev pub FormGood : List ℕ → ℕ → Option Form → Type 0
+FormGood t at None = Unit
+FormGood t at (Some f) = FormRead t at f
 
 module _ (t : List ℕ) (at : ℕ) where
   from_good : (name : Name) (from : ℕ) → from ≡ at + length (opening name) → starts_with (opening name) (drop at t) ≡ true
@@ -90,18 +87,15 @@ module _ (t : List ℕ) (at : ℕ) where
       (λ e. by_test (FormGood t at) (starts_with (bytes "(k ") (drop at t)) (from_good K (at + 3) refl)
       (λ f. by_test (FormGood t at) (starts_with (bytes "(mirror ") (drop at t)) (from_good Mirror (at + 8) refl) (λ g. tt)))
 
-within : (t : List ℕ) (at : ℕ) (f : Form) → FormGood t at f → Within t f
-within t at NoForm g = tt
-within t at (Of name from len number) g = g.inside
+-- So is the value of each form that is read.
+pub form-within : (t : List ℕ) (at : ℕ) {f : Form} → form_at t at ≡ Some f → Within t f
+form-within t at e = let good : FormRead t at _ = rw e at (form_good t at) in good.inside
 
-pub form-within : (t : List ℕ) (at : ℕ) → Within t (form_at t at)
-form-within t at = within t at (form_at t at) (form_good t at)
-
-pub next-within : (t : List ℕ) (f : Form) → Within t (next_form t f)
+pub next-within : (t : List ℕ) (f : Form) {g : Form} → next_form t (Some f) ≡ Some g → Within t g
 unfolding next_form
-next-within t NoForm = tt
-next-within t (Of name from len number) =
-    by_test (Within t) (starts_with (bytes ") ") (drop (from + len) t)) (λ e. form-within t (from + len + 2)) (λ e. tt)
+next-within t f {g} =
+    by_test (λ (o : Option Form). o ≡ Some g → Within t g) (starts_with (bytes ") ") (drop (f.from + f.len) t)) (λ s. form-within t (f.from + f.len + 2))
+    (λ s e. cc)
 
 -- ---- from the grammar
 
@@ -110,31 +104,13 @@ drop_more t at p q e = sym (drop-drop (length p) at t) ∙ ap (drop (length p)) 
 
 module _ (t : List ℕ) (at : ℕ) (v w : List ℕ) (number : ℕ) where
   from_there : (name : Name) (from : ℕ) → drop from t ≡ v ++ (41 ∷ w) → ValueText name v number
-      → form_from t name from ≡ Of name from (length v) number
+      → form_from t name from ≡ Some (read_form name from (length v) number)
   unfolding form_from
   from_there name from e h = rw e (value_there name v w number from h)
 
   pub form_there : (name : Name) → drop at t ≡ opening name ++ (v ++ (41 ∷ w)) → ValueText name v number
-      → form_at t at ≡ Of name (at + length (opening name)) (length v) number
+      → form_at t at ≡ Some (read_form name (at + length (opening name)) (length v) number)
   unfolding form_at starts_with
   form_there Letters e h = rw e (from_there Letters (at + 9) (drop_more t at (opening Letters) (v ++ (41 ∷ w)) e) h)
   form_there K e h = rw e (from_there K (at + 3) (drop_more t at (opening K) (v ++ (41 ∷ w)) e) h)
   form_there Mirror e h = rw e (from_there Mirror (at + 8) (drop_more t at (opening Mirror) (v ++ (41 ∷ w)) e) h)
-
--- ---- what `form_from` and `line_from` make of their steps
-
--- A value of n bytes.
-module _ (t : List ℕ) (name : Name) (from n : ℕ) (e : n ≡ stretch (value_byte name) (drop from t)) where
-  pub form_refused : sized name (drop from t) n ≡ false → NoForm ≡ form_from t name from
-  unfolding form_from form_of
-  form_refused s = rw (← e, s)
-
-  pub form_made : (number : ℕ) → sized name (drop from t) n ≡ true → number ≡ number_of name (drop from t) n → Of name from n number ≡ form_from t name from
-  unfolding form_from form_of
-  form_made number s h = rw (← e, s, h)
-
--- The line's end is known to be e'.
-pub line_made : (t : List ℕ) (at : ℕ) (a b c : Form) (e e' : End) → a ≡ form_at t at → b ≡ next_form t a → c ≡ next_form t b → e ≡ line_end t c → e ≡ e'
-    → head_of e' a b c ≡ line_from t at
-unfolding line_from
-line_made t at a b c e e' ha hb hc he told = rw (← told, he, hc, hb, ha)

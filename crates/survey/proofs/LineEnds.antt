@@ -1,46 +1,13 @@
--- The end of a survey line. `end_lf` and the others: what `end_after` finds, test by test. `end_good`: an end that the reader finds is one of the
--- grammar's; `end_there`: an end of the grammar is found; `end_open`: where a further form follows, there is none.
-use mathlib.Core.Path.{◌≡◌, ap}
-use mathlib.Core.Bool.{true, false, ◌&&◌, and-eq-true_iff}
-use mathlib.Core.List.{List, [], ◌++◌}
-use Prim.Native.Nat.{ℕ, ◌+◌, ◌≤◌}
-use native.Mathlib.Omega.{arith}
-use lib.ListN.{length, drop, length-drop, drop_of_length-le}
-use lib.Dec.{eqb}
-use borrow.Author.Tests.{eqb-true, eq-eqb, ne_eqb}
+-- The end of a survey line. `end_good`: an end that the reader finds is one of the grammar's; `end_there`: an end of the grammar is found; `end_open`: where
+-- a further form follows, there is none.
+use Rattle.std.proofs.Common.{◌≡◌, ap, true, ◌&&◌, List, [], ◌++◌, ℕ, ◌+◌, ◌≤◌, arith, length, drop, length-drop, drop_of_length-le, eqb, eqb-true, eq-eqb, Option, None, Some}
+use mathlib.Core.Bool.{and-eq-true_iff}
 use Rattle.laws.specs.Text.{bytes}
 use Rattle.laws.proofs.Tests.{by_test}
-use Rattle.survey.specs.declared.End.{End}
-use Rattle.survey.specs.declared.End.TheVariants.{At, Nowhere}
 use Rattle.survey.specs.Grammar.{LineEnd, lf, crlf, with_the_input}
 use Rattle.survey.specs.Reading.{starts_with, end_after}
 use Rattle.survey.proofs.TextLaws.{starts_at, starts_within}
 use Rattle.survey.proofs.FormLaws.{drop_more}
-
--- ---- the line's end, test by test, as `end_after` tries them
-
-module _ (t : List ℕ) (at : ℕ) where
-  pub end_lf : starts_with (bytes "))\n") (drop at t) ≡ true → At (at + 3) ≡ end_after t at
-  unfolding end_after
-  end_lf e = rw e
-
-  module _ (no_lf : starts_with (bytes "))\n") (drop at t) ≡ false) where
-    pub end_crlf : starts_with (bytes "))\r\n") (drop at t) ≡ true → At (at + 4) ≡ end_after t at
-    unfolding end_after
-    end_crlf e = rw (no_lf, e)
-
-    module _ (no-crlf : starts_with (bytes "))\r\n") (drop at t) ≡ false) where
-      pub end_input : starts_with (bytes "))") (drop at t) ≡ true → at + 2 ≡ length t → At (at + 2) ≡ end_after t at
-      unfolding end_after
-      end_input e h = rw (no_lf, no-crlf, e, eq-eqb (at + 2) (length t) h)
-
-      pub end_later : starts_with (bytes "))") (drop at t) ≡ true → (at + 2 ≡ length t → ⊥) → Nowhere ≡ end_after t at
-      unfolding end_after
-      end_later e h = rw (no_lf, no-crlf, e, ne_eqb (at + 2) (length t) h)
-
-      pub end_none : starts_with (bytes "))") (drop at t) ≡ false → Nowhere ≡ end_after t at
-      unfolding end_after
-      end_none e = rw (no_lf, no-crlf, e)
 
 -- ---- from the reader to the grammar
 
@@ -51,9 +18,9 @@ pub record EndRead (t : List ℕ) (at next : ℕ) : Type 0 where
   pub ends : LineEnd end (drop next t)
   pub inside : next ≤ length t
 
-abbrev pub EndGood : List ℕ → ℕ → End → Type 0
-EndGood t at Nowhere = Unit
-EndGood t at (At next) = EndRead t at next
+abbrev pub EndGood : List ℕ → ℕ → Option ℕ → Type 0
+EndGood t at None = Unit
+EndGood t at (Some next) = EndRead t at next
 
 pub end_good : (t : List ℕ) (at : ℕ) → EndGood t at (end_after t at)
 unfolding end_after
@@ -76,7 +43,7 @@ end_good t at =
 -- The line's end that stands at a place is found.
 pub record EndThere (t : List ℕ) (at : ℕ) (file : List ℕ) : Type 0 where
   pub next : ℕ
-  pub is : end_after t at ≡ At next
+  pub is : end_after t at ≡ Some next
   pub rest : drop next t ≡ file
 
 pub end_there : (t : List ℕ) (at : ℕ) {end file : List ℕ} → LineEnd end file → drop at t ≡ bytes "))" ++ (end ++ file) → EndThere t at file
@@ -88,6 +55,6 @@ end_there t at with_the_input e =
     record { next = at + 2; is = rw (e, eq-eqb (at + 2) (length t) all); rest = drop_more t at (bytes "))") [] e }
 
 -- No line ends where a space follows a form's bracket.
-pub end_open : (t : List ℕ) (at : ℕ) {rest : List ℕ} → drop at t ≡ bytes ") " ++ rest → end_after t at ≡ Nowhere
+pub end_open : (t : List ℕ) (at : ℕ) {rest : List ℕ} → drop at t ≡ bytes ") " ++ rest → end_after t at ≡ None
 unfolding end_after starts_with
 end_open t at e = rw e

@@ -1,24 +1,20 @@
 -- From the grammar to the reader: a survey line of the grammar is read (`in_order_lem`), a line with its forms in another order is told (`in_another_order`), and
 -- with a further form both are neither (`further_form`, `further_form_in_another_order`), though the first three forms have one reading (`one_row`). From the
 -- laws of one form (FormLaws) and of the line's end (LineEnds).
-use mathlib.Core.Path.{◌≡◌, refl, sym, ap, ◌∙◌}
-use mathlib.Core.Bool.{true}
-use mathlib.Core.List.{List, [], ◌∷◌, ◌++◌, append_cancel_right}
-use Prim.Native.Nat.{ℕ, ◌+◌}
-use lib.ListN.{length, take, drop}
+use Rattle.std.proofs.Common.{◌≡◌, refl, sym, ap, ◌∙◌, true, List, [], ◌∷◌, ◌++◌, ℕ, ◌+◌, length, take, drop, Option, Some, Err}
+use mathlib.Core.List.{append_cancel_right}
 use lib.Seq.{take-append_seam}
 use Rattle.laws.specs.Text.{bytes}
 use Rattle.survey.specs.declared.Name.{Name}
 use Rattle.survey.specs.declared.Name.TheVariants.{Letters, K, Mirror}
 use Rattle.survey.specs.declared.Form.{Form}
-use Rattle.survey.specs.declared.Form.TheVariants.{Of}
-use Rattle.survey.specs.declared.End.TheVariants.{At}
-use Rattle.survey.specs.declared.Head.TheVariants.{OtherOrder, NoSurvey}
+use Rattle.settings.specs.declared.Refusal.TheVariants.{NoSurveyLine, FormOrder}
+use Rattle.std.proofs.lemmas.Option.{same_Some}
 use Rattle.survey.specs.Forms.{settings_forms, unclosed, line_of}
 use Rattle.survey.specs.Grammar.{InOrder, as_listed, InAnotherOrder, xzy, yxz, yzx, zxy, zyx, LineEnd, LettersText, KText, MirrorText}
 use Rattle.settings.specs.Grounds.{given}
 use Rattle.survey.specs.Claims.{input_parts}
-use Rattle.survey.specs.Reading.{starts_with, form_at, next_form, end_after, line_end, in_order, each_once, by_order, head_of, line_from, read_line, read_input}
+use Rattle.survey.specs.Reading.{starts_with, read_form, form_at, next_form, end_after, line_end, in_order, each_once, by_order, head_of, line_from, read_line, read_input}
 use Rattle.survey.proofs.ValueLaws.{ValueText}
 use Rattle.survey.proofs.FormLaws.{opening, written, row, flat_forms, row_is, form_there, drop_more}
 use Rattle.survey.proofs.LineEnds.{end_there, end_open}
@@ -28,14 +24,14 @@ pub record RowThere (t : List ℕ) (a b c : Name) (x y z : List ℕ) (v w u : �
   pub first : ℕ
   pub second : ℕ
   pub third : ℕ
-  pub is_first : form_at t 8 ≡ Of a first (length x) v
-  pub is_second : next_form t (Of a first (length x) v) ≡ Of b second (length y) w
-  pub is_third : next_form t (Of b second (length y) w) ≡ Of c third (length z) u
-  pub is : read_line t ≡ head_of (end_after t (third + length z)) (Of a first (length x) v) (Of b second (length y) w) (Of c third (length z) u)
+  pub is_first : form_at t 8 ≡ Some (read_form a first (length x) v)
+  pub is_second : next_form t (Some (read_form a first (length x) v)) ≡ Some (read_form b second (length y) w)
+  pub is_third : next_form t (Some (read_form b second (length y) w)) ≡ Some (read_form c third (length z) u)
+  pub is : read_line t ≡ head_of (end_after t (third + length z)) (Some (read_form a first (length x) v)) (Some (read_form b second (length y) w)) (Some (read_form c third (length z) u))
   pub at_first : take (length x) (drop first t) ≡ x
   pub follows : drop (third + length z) t ≡ bytes ")" ++ after
 
-line_is : (t : List ℕ) (a b c : Form) → starts_with (bytes "(survey ") t ≡ true → form_at t 8 ≡ a → next_form t a ≡ b → next_form t b ≡ c
+line_is : (t : List ℕ) (a b c : Option Form) → starts_with (bytes "(survey ") t ≡ true → form_at t 8 ≡ a → next_form t a ≡ b → next_form t b ≡ c
     → read_line t ≡ head_of (line_end t c) a b c
 unfolding read_line line_from
 line_is t a b c s ha hb hc = rw (s, ha, hb, hc)
@@ -55,12 +51,12 @@ module _ {t : List ℕ} {at : ℕ} {name : Name} {v w : List ℕ} {number : ℕ}
   taken : take (length v) (drop (at + length (opening name)) t) ≡ v
   taken = ap (take (length v)) value_at ∙ take-append_seam v (41 ∷ w)
 
-  read_there : form_at t at ≡ Of name (at + length (opening name)) (length v) number
+  read_there : form_at t at ≡ Some (read_form name (at + length (opening name)) (length v) number)
   read_there = form_there t at v w number name S.text S.good
 
 -- The form after it, where a space and then u follow.
 module _ {t : List ℕ} {at : ℕ} {name : Name} {v u : List ℕ} {number : ℕ} (S : Stands t at name v (32 ∷ u) number) where
-  next_is : next_form t (Of name (at + length (opening name)) (length v) number) ≡ form_at t (at + length (opening name) + length v + 2)
+  next_is : next_form t (Some (read_form name (at + length (opening name)) (length v) number)) ≡ form_at t (at + length (opening name) + length v + 2)
   unfolding next_form starts_with
   next_is = rw (after_value S)
 
@@ -98,7 +94,7 @@ record LineThere (t : List ℕ) (a b c : Name) (x y z : List ℕ) (v w u : ℕ) 
   second : ℕ
   third : ℕ
   next : ℕ
-  is : read_line t ≡ head_of (At next) (Of a first (length x) v) (Of b second (length y) w) (Of c third (length z) u)
+  is : read_line t ≡ head_of (Some next) (Some (read_form a first (length x) v)) (Some (read_form b second (length y) w)) (Some (read_form c third (length z) u))
   at_first : take (length x) (drop first t) ≡ x
   rest : drop next t ≡ file
 
@@ -128,7 +124,7 @@ in_order_lem {t} letters k mirror end as_listed e =
 
 pub in_another_order : {t letters k_text mirror_text line end file : List ℕ} {k mirror : ℕ} → LettersText letters → KText k_text k
     → MirrorText mirror_text mirror → LineEnd end file → InAnotherOrder (settings_forms letters k_text mirror_text) line
-    → t ≡ line ++ (end ++ file) → read_line t ≡ OtherOrder
+    → t ≡ line ++ (end ++ file) → read_line t ≡ Err FormOrder
 unfolding head_of by_order in_order each_once
 in_another_order {t} letters k mirror end xzy e = (line_there t Letters Mirror K (letters, refl) mirror k end e).is
 in_another_order {t} letters k mirror end yxz e = (line_there t K Letters Mirror k (letters, refl) mirror end e).is
@@ -138,7 +134,7 @@ in_another_order {t} letters k mirror end zyx e = (line_there t Mirror K Letters
 
 -- Three forms, and in place of the closing bracket a space and more: neither.
 open_row : (a b c : Name) (x y z : List ℕ) (v w u : ℕ) (part rest : List ℕ) → ValueText a x v → ValueText b y w → ValueText c z u
-    → line_of (written a x ∷ written b y ∷ written c z ∷ []) ≡ part ++ bytes ")" → read_line (part ++ (bytes " " ++ rest)) ≡ NoSurvey
+    → line_of (written a x ∷ written b y ∷ written c z ∷ []) ≡ part ++ bytes ")" → read_line (part ++ (bytes " " ++ rest)) ≡ Err NoSurveyLine
 unfolding head_of
 open_row a b c x y z v w u part rest A B C e =
     let t = part ++ (bytes " " ++ rest) in
@@ -148,12 +144,12 @@ open_row a b c x y z v w u part rest A B C e =
 
 pub further_form : {letters k_text mirror_text line : List ℕ} {k mirror : ℕ} (part rest : List ℕ) → LettersText letters → KText k_text k
     → MirrorText mirror_text mirror → InOrder (settings_forms letters k_text mirror_text) line → line ≡ part ++ bytes ")"
-    → read_line (part ++ (bytes " " ++ rest)) ≡ NoSurvey
+    → read_line (part ++ (bytes " " ++ rest)) ≡ Err NoSurveyLine
 further_form part rest letters k mirror as_listed e = open_row Letters K Mirror _ _ _ _ _ _ part rest (letters, refl) k mirror e
 
 pub further_form_in_another_order : {letters k_text mirror_text line : List ℕ} {k mirror : ℕ} (part rest : List ℕ) → LettersText letters → KText k_text k
     → MirrorText mirror_text mirror → InAnotherOrder (settings_forms letters k_text mirror_text) line → line ≡ part ++ bytes ")"
-    → read_line (part ++ (bytes " " ++ rest)) ≡ NoSurvey
+    → read_line (part ++ (bytes " " ++ rest)) ≡ Err NoSurveyLine
 further_form_in_another_order part rest letters k mirror xzy e = open_row Letters Mirror K _ _ _ _ _ _ part rest (letters, refl) mirror k e
 further_form_in_another_order part rest letters k mirror yxz e = open_row K Letters Mirror _ _ _ _ _ _ part rest k (letters, refl) mirror e
 further_form_in_another_order part rest letters k mirror yzx e = open_row K Mirror Letters _ _ _ _ _ _ part rest k mirror (letters, refl) e
@@ -167,8 +163,11 @@ pub one_row : {t letters letters' k_text k_text' mirror_text mirror_text' : List
     → (letters ≡ letters') × (k ≡ k') × (mirror ≡ mirror')
 one_row {t} after after' letters k mirror e letters' k' mirror' e' =
     let r = row_there t Letters K Mirror (letters, refl) k mirror e in
-    let r' = row_there t Letters K Mirror (letters', refl) k' mirror' e' in (
-      cc (r.is_first, r'.is_first, r.at_first, r'.at_first),
-      cc (r.is_first, r'.is_first, r.is_second, r'.is_second),
-      cc (r.is_first, r'.is_first, r.is_second, r'.is_second, r.is_third, r'.is_third),
+    let r' = row_there t Letters K Mirror (letters', refl) k' mirror' e' in
+    let a = same_Some _ _ (sym r.is_first ∙ r'.is_first) in
+    let b = same_Some _ _ (sym r.is_second ∙ ap (λ (f : Form). next_form t (Some f)) a ∙ r'.is_second) in
+    let c = same_Some _ _ (sym r.is_third ∙ ap (λ (f : Form). next_form t (Some f)) b ∙ r'.is_third) in (
+      sym r.at_first ∙ ap (λ (f : Form). take f.len (drop f.from t)) a ∙ r'.at_first,
+      ap (λ (f : Form). f.number) b,
+      ap (λ (f : Form). f.number) c,
     )

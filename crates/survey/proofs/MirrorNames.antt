@@ -1,13 +1,7 @@
 -- The mirror's name: the reader compares it with its closing bracket and finds the grammar's number (`mirror-read`, `mirror-there`).
-use mathlib.Core.Path.{◌≡◌, refl}
-use mathlib.Core.Bool.{true, false, and-eq-true_iff, true≢false}
-use mathlib.Core.List.{List, [], ◌∷◌, ◌++◌}
-use mathlib.Core.Logic.{◌≢◌}
+use Rattle.std.proofs.Common.{◌≡◌, refl, true, false, true≢false, List, [], ◌∷◌, ◌++◌, ◌≢◌, ℕ, arith, eqb, eqb-true}
+use mathlib.Core.Bool.{and-eq-true_iff}
 use mathlib.Mathlib.Data.Bool.Basic.{eq-false_of_not-eq-true}
-use Prim.Native.Nat.{ℕ}
-use native.Mathlib.Omega.{arith}
-use lib.Dec.{eqb}
-use borrow.Author.Tests.{eqb-true}
 use Rattle.laws.specs.Text.{bytes}
 use Rattle.laws.proofs.Tests.{by_test}
 use Rattle.survey.specs.declared.Name.TheVariants.{Mirror}

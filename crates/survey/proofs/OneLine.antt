@@ -1,12 +1,6 @@
 -- What "equal settings then mean equal lines" (document 02, K5) rests on: where settings are not refused, a survey line with them is the one of the settings'
 -- forms as we print them (`the_settings_line`). k is spelt in one way only, its decimal digits, and 0 and 1 are the numbers of one mirror each.
-use mathlib.Core.Path.{◌≡◌, refl, sym, ap, ◌∙◌}
-use mathlib.Core.Logic.{◌≢◌}
-use Rattle.std.specs.Prelude.{None}
-use mathlib.Core.List.{List, [], ◌∷◌, ◌++◌, append_assoc, append-nil}
-use Prim.Native.Nat.{ℕ, ◌+◌, ◌-◌, ◌*◌, ◌/◌, ◌%◌, ◌≤◌}
-use native.Mathlib.Omega.{arith}
-use lib.ListN.{length}
+use Rattle.std.proofs.Common.{◌≡◌, refl, sym, ap, ◌∙◌, ◌≢◌, None, List, [], ◌∷◌, ◌++◌, append_assoc, append-nil, ℕ, ◌+◌, ◌-◌, ◌*◌, ◌/◌, ◌%◌, ◌≤◌, arith, length}
 use Rattle.laws.specs.Each.{Each}
 use Rattle.settings.specs.Settings.{settings_ground}
 use Rattle.settings.proofs.SettingsGrounds.{good_settings}

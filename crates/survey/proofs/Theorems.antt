@@ -2,18 +2,13 @@
 -- k, mirror and file that it has, and refuses 19 exactly those whose forms stand in another order. The line that we print has the number of classes besides
 -- (document 02, K6): its settings' part, closed, is read back, and itself it is none of these. From the two directions (LineRead, LineThere), what the line
 -- that we print is (Written), and that settings which are not refused have one survey line (OneLine).
-use mathlib.Core.Path.{◌≡◌, refl, sym, ap, ◌∙◌, subst}
-use Rattle.std.specs.Prelude.{None}
-use mathlib.Core.List.{List, ◌++◌, append-nil, append_assoc}
-use Prim.Native.Nat.{ℕ, ◌≤◌}
-use native.Mathlib.Omega.{arith}
-use lib.ListN.{take, drop}
+use Rattle.std.proofs.Common.{◌≡◌, refl, sym, ap, ◌∙◌, subst, inl, inr, None, Result, Ok, Err, List, ◌++◌, append-nil, append_assoc, ℕ, ◌≤◌, arith, take, drop}
 use Rattle.laws.specs.Text.{bytes}
 use Rattle.settings.specs.Grounds.{Outcome, given, refused}
 use Rattle.settings.specs.Settings.{settings_ground}
 use Rattle.settings.proofs.SettingsGrounds.{good_settings}
-use Rattle.survey.specs.declared.Head.{Head}
-use Rattle.survey.specs.declared.Head.TheVariants.{Survey, OtherOrder, NoSurvey}
+use Rattle.settings.specs.declared.Refusal.{Refusal}
+use Rattle.survey.specs.declared.Survey.{Survey}
 use Rattle.survey.specs.Forms.{unclosed, line_of}
 use Rattle.survey.specs.Line.{printed_forms, survey_line}
 use Rattle.survey.specs.Grammar.{LettersText, as_listed, LineEnd, with_the_input, SurveyInput, OtherOrderInput}
@@ -34,12 +29,11 @@ pub reads_only : (t : List ℕ) {p : InputParts} → read_input t ≡ given p �
 unfolding read_input number
 reads_only t {p} = go (read_line t) (line_good t)
   where
-    go : (h : Head) → Fine t h → of_head t h ≡ given p → SurveyInput t p.letters p.k p.mirror p.file
-    go (Survey from len k mirror next) F e =
-        let same : input_parts (take len (drop from t)) k mirror (drop next t) ≡ p = cc in
+    go : (h : Result Survey Refusal) → Fine t h → of_head t h ≡ given p → SurveyInput t p.letters p.k p.mirror p.file
+    go (Ok s) F e =
+        let same : input_parts (take s.len (drop s.from t)) s.k s.mirror (drop s.next t) ≡ p = cc in
         subst (λ (q : InputParts). SurveyInput t q.letters q.k q.mirror q.file) same F.1
-    go OtherOrder F e = absurd (omega (arith, ap number e))
-    go NoSurvey F e = absurd (omega (arith, ap number e))
+    go (Err f) F e = cc
 
 -- Every survey line is read, as the letters, k, mirror and file that it has.
 pub reads_all : {t letters : List ℕ} {k mirror : ℕ} {file : List ℕ} → SurveyInput t letters k mirror file
@@ -51,10 +45,10 @@ pub other_order_only : (t : List ℕ) → read_input t ≡ refused (19, 0) → O
 unfolding read_input number
 other_order_only t = go (read_line t) (line_good t)
   where
-    go : (h : Head) → Fine t h → of_head t h ≡ refused (19, 0) → OtherOrderInput t
-    go (Survey from len k mirror next) F e = absurd (omega (arith, ap number e))
-    go OtherOrder F e = F
-    go NoSurvey F e = absurd (omega (arith, ap number e))
+    go : (h : Result Survey Refusal) → Fine t h → of_head t h ≡ refused (19, 0) → OtherOrderInput t
+    go (Ok s) F e = absurd (omega (arith, ap number e))
+    go (Err f) (inl none) e = absurd (omega (arith, ap number (rw none at e)))
+    go (Err f) (inr other) e = other.1
 
 pub other_order_all : {t : List ℕ} → OtherOrderInput t → read_input t ≡ refused (19, 0)
 unfolding read_input
@@ -91,21 +85,21 @@ pub refuses_all : (t : List ℕ) → Neither t → read_input t ≡ refused (13,
 unfolding read_input
 refuses_all t n = go (read_line t) (line_good t)
   where
-    go : (h : Head) → Fine t h → of_head t h ≡ refused (13, 0)
-    go (Survey from len k mirror next) F = absurd (n.no_survey F.1)
-    go OtherOrder F = absurd (n.no_other_order F)
-    go NoSurvey F = refl
+    go : (h : Result Survey Refusal) → Fine t h → of_head t h ≡ refused (13, 0)
+    go (Ok s) F = absurd (n.no_survey F.1)
+    go (Err f) (inl none) = rw none
+    go (Err f) (inr other) = absurd (n.no_other_order other.1)
 
 -- The parts of the input, 13 or 19: what holds of each of these holds of what the input is read as.
 pub one_of_three : (t : List ℕ) (Q : Outcome InputParts → Type 0) → ((p : InputParts) → Q (given p)) → Q (refused (13, 0)) → Q (refused (19, 0))
     → Q (read_input t)
 unfolding read_input
-one_of_three t Q read no_survey other-order = go (read_line t)
+one_of_three t Q read no_survey other-order = go (read_line t) (line_good t)
   where
-    go : (h : Head) → Q (of_head t h)
-    go (Survey from len k mirror next) = read _
-    go NoSurvey = no_survey
-    go OtherOrder = other-order
+    go : (h : Result Survey Refusal) → Fine t h → Q (of_head t h)
+    go (Ok s) F = read _
+    go (Err f) (inl none) = rw none no_survey
+    go (Err f) (inr other) = rw other.0 other-order
 
 -- The settings' forms as we print them are read back: for letters, a k up to 999 and a mirror 0 or 1 their line is read as these, with each end, and what
 -- follows the end is the file.

@@ -1,23 +1,16 @@
 -- The value of a form: the lengths that the reader admits and the numbers that it reads are the grammar's. `value_read` goes from the reader to
 -- the grammar, `value_there` from the grammar to the reader. From the laws of the value's bytes (ByteLaws) and of the mirrors' names (MirrorNames).
-use mathlib.Core.Path.{◌≡◌, refl, sym, ap, ◌∙◌}
-use mathlib.Core.Bool.{Bool, true, false, not, ◌&&◌, ◌||◌, and-true, and-eq-true_iff, true≢false}
-use mathlib.Core.List.{List, [], ◌∷◌, ◌++◌}
-use Prim.Native.Nat.{ℕ, zero, suc, ◌+◌, ◌-◌, ◌*◌, ◌^◌, ◌≤◌, ◌<◌}
-use native.Mathlib.Nat.{pow-suc, pow-le-pow_right}
-use native.Mathlib.Numerals.{add-one}
-use native.Mathlib.Omega.{arith}
-use lib.ListN.{length, take, drop, get_or, length-append, take-append-drop}
-use lib.Seq.{length-take-le, drop-cons, take-append_seam}
-use lib.Dec.{leb, eqb}
-use borrow.Author.Tests.{leb-true, leb-false, le-leb, lt-leb, eqb-true, eq-eqb, ne_eqb, not-true}
+use Rattle.std.proofs.Common.{◌≡◌, refl, sym, ap, ◌∙◌, Bool, true, false, not, ◌&&◌, ◌||◌, true≢false, List, [], ◌∷◌, ◌++◌, ℕ, zero, suc, ◌+◌, ◌-◌, ◌*◌, ◌^◌, ◌≤◌, ◌<◌, pow-suc, add-one, arith, length, take, drop, get_or, length-append, take-append-drop, length-take-le, leb, eqb, leb-true, leb-false, le-leb, eqb-true, eq-eqb, ne_eqb, Some}
+use mathlib.Core.Bool.{and-true, and-eq-true_iff}
+use native.Mathlib.Nat.{pow-le-pow_right}
+use lib.Seq.{take-append_seam}
+use borrow.Author.Tests.{not-true}
 use Rattle.laws.specs.Text.{bytes}
 use Rattle.survey.specs.declared.Name.{Name}
 use Rattle.survey.specs.declared.Name.TheVariants.{Letters, K, Mirror}
-use Rattle.survey.specs.declared.Form.TheVariants.{Of}
 use Rattle.laws.specs.Each.{Each}
 use Rattle.survey.specs.Grammar.{LettersText, KText, SmallLetter, MirrorText, spelt}
-use Rattle.survey.specs.Reading.{starts_with, stretch, value_byte, sized, number_of, form_of}
+use Rattle.survey.specs.Reading.{starts_with, stretch, value_byte, sized, number_of, read_form, form_of}
 use Rattle.survey.proofs.ByteLaws.{ByteOf, stretch-le, stretch-each, stretch-all}
 use Rattle.survey.proofs.MirrorNames.{mirror-read, mirror-there}
 
@@ -36,22 +29,12 @@ leads zero u h g = absurd (omega arith)
 leads (suc n) [] h g = absurd (omega arith)
 leads (suc n) (x ∷ u) h g = and-true (eqb x 48)
 
-pub sized-none : (name : Name) (u : List ℕ) → sized name u 0 ≡ false
-unfolding sized
-sized-none Letters u = refl
-sized-none K u = refl
-sized-none Mirror u = refl
-
 module _ (u : List ℕ) (n : ℕ) where
-  pub k_long : 3 < n → sized K u n ≡ false
-  unfolding sized
-  k_long h = rw (le-leb 1 n (omega arith), lt-leb n 3 h)
-
-  pub k_single : n ≡ 1 → sized K u n ≡ true
+  k_single : n ≡ 1 → sized K u n ≡ true
   unfolding sized
   k_single h = rw h
 
-  pub k_more : 2 ≤ n → n ≤ 3 → sized K u n ≡ not (starts_with (bytes "0") u)
+  k_more : 2 ≤ n → n ≤ 3 → sized K u n ≡ not (starts_with (bytes "0") u)
   unfolding sized
   k_more h g = rw (le-leb 1 n (omega arith), le-leb n 3 g, ne_eqb n 1 (λ e. omega arith))
 
@@ -81,18 +64,12 @@ module _ (u : List ℕ) (n : ℕ) where
 
 -- ---- digits, one at a time
 
-module _ (t : List ℕ) (from len v j : ℕ) where
-  pub spelt_turn : j < len → from + len ≤ length t → (d : ℕ) → d ≡ get_or t (from + j) 0 - 48
-      → spelt v (take (len - j) (drop (from + j) t)) ≡ spelt (v * 10 + d) (take (len - (j + 1)) (drop (from + (j + 1)) t))
-  unfolding spelt
-  spelt_turn h g d e =
-      let left : len - j ≡ suc (len - (j + 1)) = omega arith in
-      let next : from + (j + 1) ≡ suc (from + j) = omega arith in
-      rw (left, drop-cons t (from + j) 0 (omega arith), e, next)
-
-  pub spelt-done : len ≤ j → spelt v (take (len - j) (drop (from + j) t)) ≡ v
-  unfolding spelt
-  spelt-done h = let none : len - j ≡ 0 = omega arith in rw none
+pub spelt_more : (v : ℕ) (digits : List ℕ) (i : ℕ) → i < length digits
+    → spelt v (take (i + 1) digits) ≡ spelt v (take i digits) * 10 + (get_or digits i 0 - 48)
+unfolding spelt
+spelt_more v [] i h = absurd (omega arith)
+spelt_more v (d ∷ digits) zero h = refl
+spelt_more v (d ∷ digits) (suc i) h = rw add-one (rw add-one at (spelt_more (v * 10 + (d - 48)) digits i (omega arith)))
 
 -- A number from j bytes is below 256^j.
 pub grows : (v d j : ℕ) → v < 256 ^ j → d < 256 → v * 10 + d < 256 ^ (j + 1)
@@ -162,7 +139,7 @@ value_number Mirror v w number h = mirror-there v w number h.each h.number
 
 -- A value with its bracket is read as the form that it is.
 pub value_there : (name : Name) (v w : List ℕ) (number from : ℕ) → ValueText name v number
-    → form_of name from (v ++ (41 ∷ w)) (stretch (value_byte name) (v ++ (41 ∷ w))) ≡ Of name from (length v) number
+    → form_of name from (v ++ (41 ∷ w)) (stretch (value_byte name) (v ++ (41 ∷ w))) ≡ Some (read_form name from (length v) number)
 unfolding form_of
 value_there name v w number from h =
     rw (stretch-all name v w (each_byte name v number h), value_sized name v w number h, value_number name v w number h)

@@ -1,14 +1,8 @@
 -- The survey line that we print: what it is part by part (`printed_line`); and its settings' part, closed, is a line of the grammar (`line_written`): k up to
 -- 999 in decimal is a k, the two mirrors' names are mirrors, and the letters of settings that pass the check are letters. From the laws of decimal digits of
 -- the texts and what is known of such settings.
-use mathlib.Core.Path.{◌≡◌, refl, sym, ◌∙◌}
-use mathlib.Core.Bool.{Bool, true, false, not, ◌&&◌, and-eq-true_iff}
-use Rattle.std.specs.Prelude.{None}
-use mathlib.Core.List.{List, [], ◌∷◌, ◌++◌, append_assoc, append-nil}
-use Prim.Native.Nat.{ℕ, zero, suc, ◌+◌, ◌/◌, ◌%◌, ◌≤◌}
-use native.Mathlib.Omega.{arith}
-use lib.Dec.{leb, ltb}
-use borrow.Author.Tests.{leb-true, ltb-true, ltb-false}
+use Rattle.std.proofs.Common.{◌≡◌, refl, sym, ◌∙◌, Bool, true, false, not, ◌&&◌, None, List, [], ◌∷◌, ◌++◌, append_assoc, append-nil, ℕ, zero, suc, ◌+◌, ◌/◌, ◌%◌, ◌≤◌, arith, leb, ltb, leb-true, ltb-true, ltb-false}
+use mathlib.Core.Bool.{and-eq-true_iff}
 use Rattle.laws.specs.Text.{bytes}
 use Rattle.laws.specs.Each.{Each}
 use Rattle.settings.specs.Settings.{is_capital, is_in, different_capitals, settings_ground, settings_of}

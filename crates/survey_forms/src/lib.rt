@@ -1,61 +1,72 @@
-// Reading one form of the survey line: its name, and where its value is. For the reader of the line and for the shapes of a listing's lines.
+// Reading the forms of the survey line: their names, and where their values are. For the reader of the line and for the shapes of a listing's lines.
 
 #![tactic(auto)]
 
 pub mod values; // the value of a form
 
-ghost use Rattle.std.specs.Prelude.{◌≡◌};
-ghost use Rattle.survey.specs.Needs.{Within};
+ghost use Rattle.std.specs.Prelude.{◌≡◌, Some, IfSome};
+ghost use Rattle.survey.specs.Needs.{Within, InARow};
 ghost use Rattle.survey.specs.Reading.{form_from, form_at, next_form};
 
 use survey::{Form, Name};
 use values::{number_of, sized, starts, value_end};
 
 // The form whose value starts at a place.
-fn form_from(input: &[u8], name: Name, from: usize) -> Form
-    ensures { result ≡ form_from input.now name from }
+#[tactic(auto, unfolding(survey::specs::Reading::form_from, survey::specs::Reading::form_of))]
+fn form_from(input: &[u8], name: Name, from: usize) -> Option<Form>
+    ensures value { result ≡ form_from input.now name from }
+    ensures inside { IfSome result (Within input.now) }
 {
-    let end = value_end(input, name, from);
-    let len = end - from;
+    let len = value_end(input, name, from) - from;
     if !sized(input, name, from, len) {
-        return Form::NoForm;
+        return None;
     }
     let number = number_of(input, name, from, len);
-    Form::Of {
+    Some(Form {
         name,
         from,
         len,
         number,
-    }
+    })
 }
 
 // The form that stands at a place, without its closing bracket.
-pub fn form_at(input: &[u8], at: usize) -> Form
-    ensures { result ≡ form_at input.now at }
+#[tactic(auto, unfolding(survey::specs::Reading::form_at))]
+pub fn form_at(input: &[u8], at: usize) -> Option<Form>
+    ensures value { result ≡ form_at input.now at }
+    ensures inside { IfSome result (Within input.now) }
 {
     if starts(input, at, b"(letters ") {
-        return form_from(input, Name::Letters, at + 9);
+        form_from(input, Name::Letters, at + 9)
+    } else if starts(input, at, b"(k ") {
+        form_from(input, Name::K, at + 3)
+    } else if starts(input, at, b"(mirror ") {
+        form_from(input, Name::Mirror, at + 8)
+    } else {
+        None
     }
-    if starts(input, at, b"(k ") {
-        return form_from(input, Name::K, at + 3);
-    }
-    if starts(input, at, b"(mirror ") {
-        return form_from(input, Name::Mirror, at + 8);
-    }
-    Form::NoForm
 }
 
 // The form after a form, parted from it by one space.
-pub fn next_form(input: &[u8], f: Form) -> Form
+#[tactic(auto, unfolding(survey::specs::Reading::next_form))]
+pub fn next_form(input: &[u8], f: Form) -> Option<Form>
     requires { Within input.now f }
-    ensures { result ≡ next_form input.now f }
+    ensures value { result ≡ next_form input.now (Some f) }
+    ensures inside { IfSome result (Within input.now) }
 {
-    let Form::Of { from, len, .. } = f else {
-        return Form::NoForm;
-    };
-    let end = from + len;
-    if starts(input, end, b") ") {
-        return form_at(input, end + 2);
+    let end = f.from + f.len;
+    if !starts(input, end, b") ") {
+        return None;
     }
-    Form::NoForm
+    form_at(input, end + 2)
+}
+
+// Three forms in a row, from the first one's place on.
+pub fn three_forms(input: &[u8], at: usize) -> Option<(Form, Form, Form)>
+    ensures { InARow input.now at result }
+{
+    let first = form_at(input, at)?;
+    let second = next_form(input, first)?;
+    let third = next_form(input, second)?;
+    Some((first, second, third))
 }

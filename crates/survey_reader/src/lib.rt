@@ -4,155 +4,83 @@
 #![tactic(auto)]
 
 ghost use Rattle.std.specs.Prelude.{◌≡◌};
-ghost use Rattle.survey.specs.declared.End.TheVariants.{At};
-ghost use Rattle.survey.specs.Needs.{Within};
-ghost use Rattle.survey.specs.Reading.{end_after, line_end, position as Position, in_order, each_once, by_order, head_of, line_from, read_input};
+ghost use Rattle.survey.specs.Reading.{end_after, in_order, each_once, by_order, line_from, read_input};
 ghost use Rattle.survey.specs.Claims.{ReadsLine};
 
-use survey::{End, Form, Head, Name};
+use settings::Refusal;
+use survey::{Name, Survey};
+use survey_forms::three_forms;
 use survey_forms::values::starts;
-use survey_forms::{form_at, next_form};
 
 // The place after the line whose last value ends before a place.
-fn end_after(input: &[u8], at: usize) -> End
+#[tactic(auto, unfolding(survey::specs::Reading::end_after))]
+fn end_after(input: &[u8], at: usize) -> Option<usize>
     ensures { result ≡ end_after input.now at }
 {
     if starts(input, at, b"))\n") {
-        return End::At(at + 3);
-    }
-    if starts(input, at, b"))\r\n") {
-        return End::At(at + 4);
-    }
-    if starts(input, at, b"))") {
-        if at + 2 == input.len() {
-            return End::At(at + 2);
-        }
-    }
-    End::Nowhere
-}
-
-// The place after the line whose last form this is.
-fn line_end(input: &[u8], f: Form) -> End
-    requires { Within input.now f }
-    ensures { result ≡ line_end input.now f }
-{
-    match f {
-        Form::NoForm => End::Nowhere,
-        Form::Of { from, len, .. } => end_after(input, from + len),
-    }
-}
-
-// A form's position among the three, from 0: letters, k, mirror.
-fn position(name: Name) -> usize
-    ensures { result ≡ Position name }
-{
-    match name {
-        Name::Letters => 0,
-        Name::K => 1,
-        Name::Mirror => 2,
+        Some(at + 3)
+    } else if starts(input, at, b"))\r\n") {
+        Some(at + 4)
+    } else if starts(input, at, b"))") && at + 2 == input.len() {
+        Some(at + 2)
+    } else {
+        None
     }
 }
 
 // Whether three forms with these names stand each in its position; for `shapes` too.
+#[tactic(auto, unfolding(survey::specs::Reading::in_order))]
 pub fn in_order(a: Name, b: Name, c: Name) -> bool
     ensures { result ≡ in_order a b c }
 {
-    if position(a) != 0 {
-        return false;
-    }
-    if position(b) != 1 {
-        return false;
-    }
-    position(c) == 2
+    a == Name::Letters && b == Name::K && c == Name::Mirror
 }
 
 // Whether the three names are there each once: no two are the same.
+#[tactic(auto, unfolding(survey::specs::Reading::each_once))]
 fn each_once(a: Name, b: Name, c: Name) -> bool
     ensures { result ≡ each_once a b c }
 {
-    let first = position(a);
-    let second = position(b);
-    let third = position(c);
-    if first == second {
-        return false;
-    }
-    if second == third {
-        return false;
-    }
-    third != first
+    a != b && b != c && c != a
 }
 
 // The answer on three forms with these names, which in order are this survey line.
-fn by_order(a: Name, b: Name, c: Name, survey: Head) -> Head
+#[tactic(auto, unfolding(survey::specs::Reading::by_order))]
+fn by_order(a: Name, b: Name, c: Name, survey: Survey) -> Result<Survey, Refusal>
     ensures { result ≡ by_order a b c survey }
 {
     if in_order(a, b, c) {
-        return survey;
+        Ok(survey)
+    } else if each_once(a, b, c) {
+        Err(Refusal::FormOrder)
+    } else {
+        Err(Refusal::NoSurveyLine)
     }
-    if each_once(a, b, c) {
-        return Head::OtherOrder;
-    }
-    Head::NoSurvey
-}
-
-// The answer on three forms in a row, where the line ends before the place `next`.
-fn head_of(next: usize, first: Form, second: Form, third: Form) -> Head
-    ensures { result ≡ head_of (At next) first second third }
-{
-    let Form::Of {
-        name: a,
-        from,
-        len,
-        ..
-    } = first
-    else {
-        return Head::NoSurvey;
-    };
-    let Form::Of {
-        name: b,
-        number: k,
-        ..
-    } = second
-    else {
-        return Head::NoSurvey;
-    };
-    let Form::Of {
-        name: c,
-        number: mirror,
-        ..
-    } = third
-    else {
-        return Head::NoSurvey;
-    };
-    let survey = Head::Survey {
-        from,
-        len,
-        k: k as usize,
-        mirror,
-        next,
-    };
-    by_order(a, b, c, survey)
 }
 
 // Three forms in a row, from the first form's place on.
-fn line_from(input: &[u8], at: usize) -> Head
+#[tactic(auto, unfolding(survey::specs::Reading::line_from, survey::specs::Reading::head_of, survey::specs::Reading::line_end))]
+fn line_from(input: &[u8], at: usize) -> Result<Survey, Refusal>
     ensures { result ≡ line_from input.now at }
 {
-    let first = form_at(input, at);
-    let second = next_form(input, first);
-    let third = next_form(input, second);
-    match line_end(input, third) {
-        End::Nowhere => Head::NoSurvey,
-        End::At(next) => head_of(next, first, second, third),
-    }
+    let (first, second, third) = three_forms(input, at).ok_or(Refusal::NoSurveyLine)?;
+    let next = end_after(input, third.from + third.len).ok_or(Refusal::NoSurveyLine)?;
+    let survey = Survey {
+        from: first.from,
+        len: first.len,
+        k: second.number as usize,
+        mirror: third.number,
+        next,
+    };
+    by_order(first.name, second.name, third.name, survey)
 }
 
 // Reads the survey line that an input starts with.
-pub fn read_line(input: &[u8]) -> Head
+pub fn read_line(input: &[u8]) -> Result<Survey, Refusal>
     ensures { ReadsLine input.now (read_input input.now) result }
 {
-    if starts(input, 0, b"(survey ") {
-        return line_from(input, 8);
+    if !starts(input, 0, b"(survey ") {
+        return Err(Refusal::NoSurveyLine);
     }
-    Head::NoSurvey
+    line_from(input, 8)
 }
