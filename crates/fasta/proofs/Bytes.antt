@@ -1,46 +1,20 @@
--- What a byte of a line is, from the tests that the code makes on it; what a byte can be at all (`line_cases`, `item-cases`); and that
--- every letter is a byte below 123.
+-- What a byte of a line can be (`line_cases`, `item-cases`), and that every letter is a byte below 123.
 use mathlib.Core.Path.{◌≡◌, refl}
 use Prim.Native.Nat.{ℕ, ◌≤◌, ◌<◌}
 use native.Mathlib.Omega.{arith}
 use mathlib.Core.Bool.{Bool, true, false, cond, ◌&&◌, ◌||◌}
 use lib.Dec.{leb, eqb}
-use borrow.Author.Tests.{le-leb, lt-leb, leb-true, ne_eqb}
+use borrow.Author.Tests.{le-leb, leb-true, ne_eqb}
 use Rattle.fasta.specs.declared.Item.{Item}
 use Rattle.fasta.specs.declared.Item.TheVariants.{Opens, Skip, Stray, Letter}
 use Rattle.fasta.specs.declared.Mode.{Mode}
 use Rattle.fasta.specs.declared.Mode.TheVariants.{Start, Header, Sequence, FastqStart, FastqHeader, FastqSequence, FastqPlus, FastqQuality}
 use Rattle.fasta.specs.File.{is_letter, line_item, item}
 
-module _ (b : ℕ) (lf : Bool) where
-  letter : is_letter b ≡ true → 13 < b → Letter b ≡ line_item b lf
-  unfolding line_item
-  letter e h = rw (ne_eqb b 10 (λ z. omega arith), ne_eqb b 13 (λ z. omega arith), e)
-
-  stray : is_letter b ≡ false → (b ≡ 10 → ⊥) → (b ≡ 13 → ⊥) → Stray ≡ line_item b lf
-  unfolding line_item
-  stray e h g = rw (ne_eqb b 10 h, ne_eqb b 13 g, e)
-
-  pub capital : 65 ≤ b → b ≤ 90 → Letter b ≡ line_item b lf
-  unfolding is_letter
-  capital h g = letter (rw (le-leb 65 b h, le-leb b 90 g)) (omega arith)
-
-  pub small : 97 ≤ b → b ≤ 122 → Letter b ≡ line_item b lf
-  unfolding is_letter
-  small h g = letter (simp (le-leb 65 b (omega arith), lt-leb b 90 (omega arith), le-leb 97 b h, le-leb b 122 g)) (omega arith)
-
-  pub below : b < 65 → (b ≡ 10 → ⊥) → (b ≡ 13 → ⊥) → Stray ≡ line_item b lf
-  unfolding is_letter
-  below h = stray (rw (lt-leb 65 b h, lt-leb 97 b (omega arith)))
-
-  pub between : 90 < b → b < 97 → Stray ≡ line_item b lf
-  unfolding is_letter
-  between h g = stray (rw (le-leb 65 b (omega arith), lt-leb b 90 h, lt-leb 97 b g)) (λ z. omega arith) (λ z. omega arith)
-
-  pub above : 122 < b → Stray ≡ line_item b lf
-  unfolding is_letter
-  above h =
-      stray (rw (le-leb 65 b (omega arith), lt-leb b 90 (omega arith), le-leb 97 b (omega arith), lt-leb b 122 h)) (λ z. omega arith) (λ z. omega arith)
+-- A capital is a letter in a sequence line, whatever stands behind it.
+pub capital : (b : ℕ) (lf : Bool) → 65 ≤ b → b ≤ 90 → Letter b ≡ line_item b lf
+unfolding line_item is_letter
+capital b lf h g = rw (ne_eqb b 10 (λ z. omega arith), ne_eqb b 13 (λ z. omega arith), le-leb 65 b h, le-leb b 90 g)
 
 -- A byte of a line is skipped or stray or, where it is one of A to Z and a to z, a letter.
 pub line_cases : (P : Item → Type 0) (b : ℕ) (lf : Bool) → P Skip → P Stray → (is_letter b ≡ true → P (Letter b)) → P (line_item b lf)

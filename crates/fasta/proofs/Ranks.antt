@@ -6,7 +6,8 @@ use mathlib.Core.Bool.{Bool, true}
 use Rattle.std.specs.Prelude.{Option}
 use mathlib.Core.List.{List, [], ◌∷◌}
 use Rattle.settings.specs.Settings.{rank_in}
-use Rattle.settings.specs.RankTables.{rank_by_table, RankTable}
+use Rattle.settings.specs.RankTables.{rank_by_table, RanksOf}
+use Rattle.settings.specs.declared.RankTable.{RankTable}
 use Rattle.fasta.specs.declared.Item.{Item}
 use Rattle.fasta.specs.declared.Mode.{Mode}
 use Rattle.fasta.specs.Items.{foreign_in, marks, runs, windows_of, windows_in, numbers_in}
@@ -34,7 +35,7 @@ module _ (rank rank' : ℕ → Option ℕ) (same : (b : ℕ) → is_letter b ≡
   alike m [] = record { marks_alike = refl; foreign_alike = refl }
   alike m (b ∷ file) = alike_item m b (lf_next file) (items_from (next m b) file) (alike (next m b) file)
 
-module _ (letters table : List ℕ) (t : RankTable letters table) (k : ℕ) (m : Mode) (file : List ℕ) where
+module _ (letters : List ℕ) (table : RankTable) (t : RanksOf letters table) (k : ℕ) (m : Mode) (file : List ℕ) where
   by_table : Alike (rank_by_table table) (rank_in letters) (items_from m file)
   by_table = alike (rank_by_table table) (rank_in letters) (λ b e. t.same b (omega (arith, letter_below b e))) m file
 

@@ -12,39 +12,38 @@ use lib.Seq.{drop-cons}
 use lib.Dec.{eqb, leb, ltb}
 use borrow.Author.Rules.{rules}
 use borrow.Author.Tests.{eqb-true, eqb-false, lt-ltb, le-ltb}
-use Rattle.settings.specs.Grounds.{Outcome, given, refused, outcome}
+use Rattle.settings.specs.Grounds.{Ground, Outcome, given, refused, outcome}
 use Rattle.fasta.specs.declared.Item.{Item}
 use Rattle.fasta.specs.declared.Item.TheVariants.{Opens, Skip, Stray, Letter}
 use Rattle.fasta.specs.declared.Mode.{Mode}
 use Rattle.fasta.specs.declared.Numbers.{Numbers}
 use Rattle.fasta.specs.declared.Scanned.{Scanned}
-use Rattle.fasta.specs.declared.Step.{Step}
-use Rattle.fasta.specs.declared.Step.TheVariants.{On, AtStray, AtEarly}
 use Rattle.fasta.specs.Items.{records_in, letters_in, one_if_foreign, foreign_in, marks, numbers_in}
 use Rattle.fasta.specs.File.{lf_next, item, next, items_from, fault_from}
-use Rattle.fasta.specs.Needs.{with_header, with_letter, took, Small, numbers_of, skips, Skips}
+use Rattle.fasta.specs.Needs.{with_header, with_letter, took, Small, skips, Skips}
 use Rattle.fasta.proofs.Stream.{closes, windows_from, windows-stream, edges_from, edges_stream}
 
 -- ---- the machine and the definitions
 
--- The answer after one step at the offset `at`: the rest's, where the step goes on.
-abbrev pub after_step : Step → ℕ → (Scanned → Outcome Numbers) → Outcome Numbers
-after_step (On t) at rest = rest t
-after_step AtStray at rest = refused (10, at)
-after_step AtEarly at rest = refused (11, at)
+-- The answer after one step: the rest's, where the step goes on.
+abbrev pub after_step : Outcome Scanned → (Scanned → Outcome Numbers) → Outcome Numbers
+after_step (given t) rest = rest t
+after_step (refused g) rest = refused g
 
 -- The answer of a scan of all items that are left, the first of them at the offset `at`.
 unfoldable pub scan_from : (ℕ → Option ℕ) → ℕ → ℕ → Scanned → List Item → Outcome Numbers
-scan_from rank k at t [] = given (numbers_of t)
-scan_from rank k at t (i ∷ is) = after_step (took rank k t i) at (λ (u : Scanned). scan_from rank k (suc at) u is)
+scan_from rank k at t [] = given t.numbers
+scan_from rank k at t (i ∷ is) = after_step (took rank k at t i) (λ (u : Scanned). scan_from rank k (suc at) u is)
 
 -- What a scan begins with.
 abbrev pub nothing_yet : Scanned
-nothing_yet = record { records = 0; letters = 0; foreign = 0; edge = 0; windows = 0; run = 0 }
+nothing_yet = record { numbers = record { records = 0; letters = 0; foreign = 0; edge = 0; windows = 0 }; run = 0 }
 
 -- The numbers of what was scanned, with so much more of each.
 abbrev plus : Scanned → ℕ → ℕ → ℕ → ℕ → ℕ → Numbers
-plus t a b c d e = record { records = t.records + a; letters = t.letters + b; foreign = t.foreign + c; edge = t.edge + d; windows = t.windows + e }
+plus t a b c d e =
+    let n = t.numbers in
+    record { records = n.records + a; letters = n.letters + b; foreign = n.foreign + c; edge = n.edge + d; windows = n.windows + e }
 
 -- What is still to come, after a run of the letters r.
 abbrev rest : (ℕ → Option ℕ) → ℕ → Scanned → List ℕ → List Item → Numbers
@@ -73,16 +72,16 @@ closes_one k r x ms =
 module _ (rank : ℕ → Option ℕ) (k : ℕ) where
   Told : List Item → Type 0
   Told is = (at : ℕ) (t : Scanned) (r : List ℕ) → t.run ≡ length r
-      → scan_from rank k at t is ≡ outcome (fault_from (ltb 0 t.records) at is) (rest rank k t r is)
+      → scan_from rank k at t is ≡ outcome (fault_from (ltb 0 t.numbers.records) at is) (rest rank k t r is)
 
   opened : (is : List Item) → Told is → Told (Opens ∷ is)
   unfolding Told scan_from fault_from records_in letters_in foreign_in marks edges_from windows_from
   opened is ih at t r e =
       ih (suc at) (with_header t) [] refl
-      ∙ rw (lt-ltb 0 (t.records + 1) (omega arith)) (ap (outcome (fault_from true (suc at) is)) (same_numbers (omega arith) refl refl refl refl))
+      ∙ rw (lt-ltb 0 (t.numbers.records + 1) (omega arith)) (ap (outcome (fault_from true (suc at) is)) (same_numbers (omega arith) refl refl refl refl))
 
   -- A letter after a header, by its rank.
-  ranked : (is : List Item) → Told is → (o : Option ℕ) (at : ℕ) (t : Scanned) (r : List ℕ) → t.run ≡ length r → ltb 0 t.records ≡ true
+  ranked : (is : List Item) → Told is → (o : Option ℕ) (at : ℕ) (t : Scanned) (r : List ℕ) → t.run ≡ length r → ltb 0 t.numbers.records ≡ true
       → scan_from rank k (suc at) (with_letter k t o) is
       ≡ outcome (fault_from true (suc at) is)
       (plus t (records_in is) (suc (letters_in is)) (one_if_foreign o + foreign_in rank is) (edges_from k (length r) (o ∷ marks rank is))
@@ -99,15 +98,15 @@ module _ (rank : ℕ → Option ℕ) (k : ℕ) where
 
   lettered : (b : ℕ) (is : List Item) → Told is → Told (Letter b ∷ is)
   unfolding Told scan_from fault_from records_in letters_in foreign_in marks
-  lettered b is ih at t r e = go (eqb t.records 0) refl
+  lettered b is ih at t r e = go (eqb t.numbers.records 0) refl
     where
-      go : (c : Bool) → eqb t.records 0 ≡ c
-          → after_step (cond c AtEarly (On (with_letter k t (rank b)))) at (λ (u : Scanned). scan_from rank k (suc at) u is)
-          ≡ outcome (cond (ltb 0 t.records) (fault_from (ltb 0 t.records) (suc at) is) (Some (11, at))) (rest rank k t r (Letter b ∷ is))
-      go true f = rw (le-ltb 0 t.records (omega (arith, eqb-true t.records 0 f)))
+      go : (c : Bool) → eqb t.numbers.records 0 ≡ c
+          → after_step (cond c (refused (11, at)) (given (with_letter k t (rank b)))) (λ (u : Scanned). scan_from rank k (suc at) u is)
+          ≡ outcome (cond (ltb 0 t.numbers.records) (fault_from (ltb 0 t.numbers.records) (suc at) is) (Some (11, at))) (rest rank k t r (Letter b ∷ is))
+      go true f = rw (le-ltb 0 t.numbers.records (omega (arith, eqb-true t.numbers.records 0 f)))
       go false f =
-          let ne = eqb-false t.records 0 f in
-          let h = lt-ltb 0 t.records (omega arith) in
+          let ne = eqb-false t.numbers.records 0 f in
+          let h = lt-ltb 0 t.numbers.records (omega arith) in
           rw h (ranked is ih (rank b) at t r e h)
 
   told : (is : List Item) → Told is
@@ -141,10 +140,9 @@ module _ (file : List ℕ) (i : ℕ) (m : Mode) where
   items_end h = rw (drop_of_length-le file h)
 
 -- One item makes each number larger by one at most.
-SmallStep : ℕ → Step → Type 0
-SmallStep n (On t) = Small n t
-SmallStep n AtStray = Unit {0}
-SmallStep n AtEarly = Unit {0}
+SmallStep : ℕ → Outcome Scanned → Type 0
+SmallStep n (given t) = Small n t
+SmallStep n (refused g) = Unit {0}
 
 -- What a settings letter adds to the edge letters and to the windows.
 at_most_one : (c : Bool) → (cond c 0 1 ≤ 1) × (cond c 1 0 ≤ 1)
@@ -156,14 +154,14 @@ unfolding with_letter
 small_letter k n t None s = search rules
 small_letter k n t (Some x) s = let h = at_most_one (leb k (t.run + 1)) in search rules
 
-small_step : (rank : ℕ → Option ℕ) (k n : ℕ) (t : Scanned) (it : Item) → Small n t → SmallStep (n + 1) (took rank k t it)
+small_step : (rank : ℕ → Option ℕ) (k n at : ℕ) (t : Scanned) (it : Item) → Small n t → SmallStep (n + 1) (took rank k at t it)
 unfolding SmallStep
-small_step rank k n t Opens s = search rules
-small_step rank k n t Skip s = search rules
-small_step rank k n t Stray s = tt
-small_step rank k n t (Letter b) s = go (eqb t.records 0)
+small_step rank k n at t Opens s = search rules
+small_step rank k n at t Skip s = search rules
+small_step rank k n at t Stray s = tt
+small_step rank k n at t (Letter b) s = go (eqb t.numbers.records 0)
   where
-    go : (c : Bool) → SmallStep (n + 1) (cond c AtEarly (On (with_letter k t (rank b))))
+    go : (c : Bool) → SmallStep (n + 1) (cond c (refused (11, at)) (given (with_letter k t (rank b))))
     go true = tt
     go false = small_letter k n t (rank b) s
 
@@ -174,17 +172,17 @@ pub record Scanning (file : List ℕ) (from : Mode) (rank : ℕ → Option ℕ) 
   pub answer : outcome (fault_from false 0 (items_from from file)) (numbers_in rank k (items_from from file)) ≡ scan_from rank k i t (items_from m (drop i file))
 
 -- It holds where nothing is scanned yet.
-pub start : (file : List ℕ) (from : Mode) (rank : ℕ → Option ℕ) (k : ℕ) → 1 ≤ k → Scanning file from rank k from nothing_yet 0
-start file from rank k h =
-    record {
+pub start : (file : List ℕ) (from : Mode) (rank : ℕ → Option ℕ) (k : ℕ) (t : Scanned) → 1 ≤ k → t ≡ nothing_yet → Scanning file from rank k from t 0
+start file from rank k t h e =
+    rw e (record {
       inside = omega arith;
       small = search rules;
       answer = sym (scan_is rank k (items_from from file) h);
-    }
+    })
 
 -- Where nothing is left, the numbers of what was scanned are the answer.
 pub done : {file : List ℕ} {from : Mode} {rank : ℕ → Option ℕ} {k : ℕ} {m : Mode} {t : Scanned} {i : ℕ} → Scanning file from rank k m t i → length file ≤ i
-    → given (numbers_of t) ≡ outcome (fault_from false 0 (items_from from file)) (numbers_in rank k (items_from from file))
+    → given t.numbers ≡ outcome (fault_from false 0 (items_from from file)) (numbers_in rank k (items_from from file))
 unfolding scan_from
 done {file} {m = m} {i = i} S h = sym (S.answer ∙ rw (items_end file i m h))
 
@@ -217,29 +215,26 @@ skip_on {file} {from} {rank} {k} {m} {t} {i} {e} S J =
           ∙ ap (λ (x : ℕ). scan_from rank k x t (items_from m (drop e file))) n;
     }
 
--- A turn: the item of the byte at i, and the step on it.
-pub record Turn (file : List ℕ) (from : Mode) (rank : ℕ → Option ℕ) (k : ℕ) (m : Mode) (t : Scanned) (i : ℕ) (it : Item) (st : Step) : Type 0 where
-  pub scanning : Scanning file from rank k m t i
-  pub more : i < length file
-  pub it_is : it ≡ item m (get_or file i 0) (lf_next (drop (i + 1) file))
-  pub st_is : st ≡ took rank k t it
+-- A turn: the bytes up to e are skipped, and the item of the byte at e is taken.
+module _ {file : List ℕ} {from : Mode} {rank : ℕ → Option ℕ} {k : ℕ} {m : Mode} {t : Scanned} {i e : ℕ} (S : Scanning file from rank k m t i)
+    (J : Skips file m i e) (more : e ≡ length file → ⊥) {it : Item} (it_is : it ≡ item m (get_or file e 0) (lf_next (drop (e + 1) file))) where
+  here : Scanning file from rank k m t e
+  here = skip_on S J
 
-module _ {file : List ℕ} {from : Mode} {rank : ℕ → Option ℕ} {k : ℕ} {m : Mode} {t : Scanned} {i : ℕ} {it : Item} {st : Step}
-    (T : Turn file from rank k m t i it st) where
+  inside : e < length file
+  inside = omega (arith, J.inside, more)
+
   after : outcome (fault_from false 0 (items_from from file)) (numbers_in rank k (items_from from file))
-      ≡ after_step st i (λ (u : Scanned). scan_from rank k (suc i) u (items_from (next m (get_or file i 0)) (drop (i + 1) file)))
+      ≡ after_step (took rank k e t it) (λ (u : Scanned). scan_from rank k (suc e) u (items_from (next m (get_or file e 0)) (drop (e + 1) file)))
   unfolding scan_from
-  after = T.scanning.answer ∙ rw (items_step file i m T.more, T.st_is, T.it_is)
+  after = here.answer ∙ rw (items_step file e m inside, it_is)
 
-  pub at_stray : st ≡ AtStray → refused (10, i) ≡ outcome (fault_from false 0 (items_from from file)) (numbers_in rank k (items_from from file))
-  at_stray e = sym (after ∙ rw e)
-
-  pub at_early : st ≡ AtEarly → refused (11, i) ≡ outcome (fault_from false 0 (items_from from file)) (numbers_in rank k (items_from from file))
-  at_early e = sym (after ∙ rw e)
+  pub at_fault : {g : Ground} → refused g ≡ took rank k e t it → refused g ≡ outcome (fault_from false 0 (items_from from file)) (numbers_in rank k (items_from from file))
+  at_fault h = sym (after ∙ rw (← h))
 
   -- A turn that goes on keeps what holds at the head.
-  pub goes_on : (m' : Mode) (u : Scanned) → st ≡ On u → m' ≡ next m (get_or file i 0) → Scanning file from rank k m' u (i + 1)
+  pub goes_on : {u : Scanned} (m' : Mode) → given u ≡ took rank k e t it → m' ≡ next m (get_or file e 0) → Scanning file from rank k m' u (e + 1)
   unfolding SmallStep
-  goes_on m' u e m-is =
-      let s : SmallStep (i + 1) st = rw T.st_is (small_step rank k i t it T.scanning.small) in
-      rw m-is (record { inside = omega (arith, T.more); small = rw e at s; answer = after ∙ rw (e, add-one i) })
+  goes_on m' h m-is =
+      let s : SmallStep (e + 1) (took rank k e t it) = small_step rank k e e t it here.small in
+      rw m-is (record { inside = omega (arith, inside); small = rw (← h) at s; answer = after ∙ rw (← h, add-one e) })

@@ -1,15 +1,13 @@
 -- What functions below the calls ask of each other and promise each other: the scan takes item by item. No claim and no call of document 01 rests on it.
 use Rattle.std.specs.Prelude.{ℕ, zero, suc, ◌+◌, ◌-◌, ◌≤◌, ◌≡◌, List, ◌∷◌, length, drop, Bool, true, false, cond, leb, eqb}
 use Rattle.std.specs.Prelude.{Option, None, Some}
+use Rattle.settings.specs.Grounds.{Outcome, given, refused}
 use Rattle.fasta.specs.declared.Item.{Item}
 use Rattle.fasta.specs.declared.Item.TheVariants.{Opens, Skip, Stray, Letter}
 use Rattle.fasta.specs.declared.Mode.{Mode}
 use Rattle.fasta.specs.declared.Mode.TheVariants.{Start, Header, Sequence, FastqStart, FastqHeader, FastqSequence, FastqPlus, FastqQuality}
-use Rattle.fasta.specs.declared.Numbers.{Numbers}
 use Rattle.fasta.specs.declared.Scanned.{Scanned}
 use Rattle.fasta.specs.File.{items_from}
-use Rattle.fasta.specs.declared.Step.{Step}
-use Rattle.fasta.specs.declared.Step.TheVariants.{On, AtStray, AtEarly}
 
 -- Whether the bytes of a mode are passed over, up to the line's LF.
 abbrev pub is_passed_over : Mode → Bool
@@ -24,42 +22,36 @@ is_passed_over FastqQuality = true
 
 -- A new record: the run ends.
 abbrev pub with_header : Scanned → Scanned
-with_header t = record { records = t.records + 1; letters = t.letters; foreign = t.foreign; edge = t.edge; windows = t.windows; run = 0 }
+with_header t = record { numbers = record t.numbers { records = t.numbers.records + 1 }; run = 0 }
 
 -- A letter with its rank: a foreign one ends the run; a settings letter either closes a window or is one of the run's edge letters.
 unfoldable pub with_letter : ℕ → Scanned → Option ℕ → Scanned
 with_letter k t None =
-    record { records = t.records; letters = t.letters + 1; foreign = t.foreign + 1; edge = t.edge; windows = t.windows; run = 0 }
+    let n = t.numbers in
+    record { numbers = record n { letters = n.letters + 1; foreign = n.foreign + 1 }; run = 0 }
 with_letter k t (Some x) =
+    let n = t.numbers in
     let closes = leb k (t.run + 1) in
     record {
-      records = t.records;
-      letters = t.letters + 1;
-      foreign = t.foreign;
-      edge = t.edge + cond closes 0 1;
-      windows = t.windows + cond closes 1 0;
+      numbers = record n { letters = n.letters + 1; edge = n.edge + cond closes 0 1; windows = n.windows + cond closes 1 0 };
       run = t.run + 1;
     }
 
--- One item.
-abbrev pub took : (ℕ → Option ℕ) → ℕ → Scanned → Item → Step
-took rank k t Opens = On (with_header t)
-took rank k t Skip = On t
-took rank k t Stray = AtStray
-took rank k t (Letter b) = cond (eqb t.records 0) AtEarly (On (with_letter k t (rank b)))
+-- One item, that of the byte at an offset; or the ground that it is.
+abbrev pub took : (ℕ → Option ℕ) → ℕ → ℕ → Scanned → Item → Outcome Scanned
+took rank k at t Opens = given (with_header t)
+took rank k at t Skip = given t
+took rank k at t Stray = refused (10, at)
+took rank k at t (Letter b) = cond (eqb t.numbers.records 0) (refused (11, at)) (given (with_letter k t (rank b)))
 
 -- No number is above n, so that one more fits.
 pub record Small (n : ℕ) (t : Scanned) : Type 0 where
-  pub records : ◌≤◌ t.records n
-  pub letters : ◌≤◌ t.letters n
-  pub foreign : ◌≤◌ t.foreign n
-  pub edge : ◌≤◌ t.edge n
-  pub windows : ◌≤◌ t.windows n
-  pub run : ◌≤◌ t.run n
-
--- The numbers that a scan answers with where nothing is left.
-abbrev pub numbers_of : Scanned → Numbers
-numbers_of t = record { records = t.records; letters = t.letters; foreign = t.foreign; edge = t.edge; windows = t.windows }
+  pub records : t.numbers.records ≤ n
+  pub letters : t.numbers.letters ≤ n
+  pub foreign : t.numbers.foreign ≤ n
+  pub edge : t.numbers.edge ≤ n
+  pub windows : t.numbers.windows ≤ n
+  pub run : t.run ≤ n
 
 -- So many skipped bytes in front of other items.
 unfoldable pub skips : ℕ → List Item → List Item

@@ -3,40 +3,28 @@
 use mathlib.Core.Path.{◌∙◌}
 use native.Mathlib.Omega.{arith}
 use borrow.Author.Rules.{rules}
-use Rattle.settings.specs.RankTables.{rank_by_table}
-use Rattle.fasta.proofs.Scans.{start, done, Turn, skip_on, at_stray, at_early, goes_on}
+use Rattle.settings.proofs.Outcomes.{passed_on}
+use Rattle.fasta.proofs.Scans.{start, done, skip_on, at_fault, goes_on}
 use Rattle.fasta.proofs.scan_items.Goals as goal
+use Rattle.fasta.proofs.scan_items.Goals.{else-loop-i-test, then-loop-i-test+then-e-file}
 
 pub loop-i-init : goal.loop-i-init
-loop-i-init c = (c.requires.0, start _ _ _ _ c.requires.1)
+loop-i-init c = (c.requires.0, start _ _ _ _ _ c.requires.1 (search rules))
 
-pub returns-then-e-file : goal.returns-then-e-file
-returns-then-e-file c =
-    c.taken.ensures ∙ done (skip_on c.loop-i.invariant.1 c.pass_over-e.ensures) c.if-e-file.true
-
-pub enum_told-1 : goal.enum_told-1
-enum_told-1 c = search rules
-
-pub returns-in-AtStray : goal.returns-in-AtStray
-returns-in-AtStray c =
-    let TurnFrom : Type 0 = let a = c.args in Turn a.file.now a.start (rank_by_table a.ranks.now) a.k c.loop-i.mode c.loop-i.t c.pass_over-e.result c.item_at-it.result c.take_item.result in
-    let turn : TurnFrom = record { scanning = skip_on c.loop-i.invariant.1 c.pass_over-e.ensures; more = c.if-e-file.false; it_is = c.item_at-it.ensures; st_is = c.take_item.ensures } in
-    at_stray turn c.in-AtStray.is
-
-pub returns-in-AtEarly : goal.returns-in-AtEarly
-returns-in-AtEarly c =
-    let TurnFrom : Type 0 = let a = c.args in Turn a.file.now a.start (rank_by_table a.ranks.now) a.k c.loop-i.mode c.loop-i.t c.pass_over-e.result c.item_at-it.result c.take_item.result in
-    let turn : TurnFrom = record { scanning = skip_on c.loop-i.invariant.1 c.pass_over-e.ensures; more = c.if-e-file.false; it_is = c.item_at-it.ensures; st_is = c.take_item.ensures } in
-    at_early turn c.in-AtEarly.is
+pub returns-in_err-scanned : goal.returns-in_err-scanned
+returns-in_err-scanned c =
+    passed_on _ _ c.from_residual.ensures.1 ∙ at_fault c.loop-i.invariant.1 c.pass_over-e.ensures c.if-e-file.false c.item_at.ensures c.in_err-scanned.ensures
 
 pub loop-i-smaller : goal.loop-i-smaller
 loop-i-smaller c = omega (arith, c.pass_over-e.ensures.on)
 
 pub loop-i-preserved : goal.loop-i-preserved
 loop-i-preserved c =
-    let TurnFrom : Type 0 = let a = c.args in Turn a.file.now a.start (rank_by_table a.ranks.now) a.k c.loop-i.mode c.loop-i.t c.pass_over-e.result c.item_at-it.result c.take_item.result in
-    let turn : TurnFrom = record { scanning = skip_on c.loop-i.invariant.1 c.pass_over-e.ensures; more = c.if-e-file.false; it_is = c.item_at-it.ensures; st_is = c.take_item.ensures } in
-    (c.loop-i.invariant.0, goes_on turn _ _ c.in-On.is c.next_mode-mode.ensures)
+    (c.requires.0, goes_on c.loop-i.invariant.1 c.pass_over-e.ensures c.if-e-file.false c.item_at.ensures _ c.in_ok-scanned.ensures c.next-mode.ensures)
 
 pub returns : goal.returns
-returns c = c.taken-2.ensures ∙ done c.loop-i.invariant.1 c.loop-i-test.false
+returns c =
+    elim c.loop-i-test.branch [
+      | else-loop-i-test w ↦ done c.loop-i.invariant.1 w.loop-i-test.false
+      | then-loop-i-test+then-e-file w ↦ done (skip_on c.loop-i.invariant.1 w.pass_over-e.ensures) (omega (arith, w.if-e-file.true))
+    ]

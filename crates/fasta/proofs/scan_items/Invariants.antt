@@ -6,7 +6,7 @@ use Rattle.fasta.proofs.Scans.{Scanning}
 use Rattle.fasta.proofs.scan_items.Given as goal
 
 abbrev pub invariant-loop-i : goal.invariant-loop-i
-invariant-loop-i l = (length l.file ≤ 16777216) × Scanning l.file l.initial.mode (rank_by_table l.ranks) l.k l.mode l.t l.i
+invariant-loop-i l = (length l.file ≤ 16777216) × Scanning l.file l.initial.mode (rank_by_table l.ranks) l.k l.mode l.scanned l.i
 
 abbrev pub decreases-loop-i : goal.decreases-loop-i
 decreases-loop-i l = length l.file - l.i
