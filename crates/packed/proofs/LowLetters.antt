@@ -1,14 +1,10 @@
 -- The mirror of the n lowest letters of a number (`low_mirror`). Of four it is the table's entry (`by_lookup`, from the table's rule); of n + m letters
 -- it is that of the last n, then that of the m before them (`two_parts`); of a word of k letters it is that of n, where n is at least k, without the letters of
 -- rank 0 that stand before the word (`padded`). So one law each serves every k.
-use mathlib.Core.Path.{◌≡◌, refl, sym, ap, ◌∙◌}
-use mathlib.Core.List.{List, [], ◌∷◌, ◌++◌}
-use Prim.Native.Nat.{ℕ, zero, suc, ◌+◌, ◌-◌, ◌*◌, ◌/◌, ◌%◌, ◌^◌, ◌<◌, ◌≤◌}
-use native.Mathlib.Nat.{mod-lt, mod-eq_of_lt, lt_of_lt_of_le, pow-le-pow_right}
-use native.Mathlib.Omega.{arith}
+use Rattle.std.proofs.Common.{◌≡◌, refl, sym, ap, ◌∙◌, List, [], ◌∷◌, ◌++◌, ℕ, zero, suc, ◌+◌, ◌-◌, ◌*◌, ◌/◌, ◌%◌, ◌^◌, ◌<◌, ◌≤◌, mod-lt, mod-eq_of_lt, lt_of_lt_of_le, arith, length, get_or, replicate, length-append, pow-add}
+use native.Mathlib.Nat.{pow-le-pow_right, div-div-eq-div-mul}
 use lib.Arith.{digits_div, mod-mul}
-use lib.ListN.{length, get_or, replicate, length-append, length-replicate}
-use lib.Pow.{pow-add}
+use lib.ListN.{length-replicate}
 use Rattle.laws.proofs.Each.{each_append}
 use Rattle.laws.proofs.Powers.{pow_pos, four_pow}
 use Rattle.encoding.specs.Words.{Complement, Ranks, mirror, plain}
@@ -86,9 +82,33 @@ joined n m x =
     ∙ plain-append 4 (mirror 4 Complement v) (mirror 4 Complement u)
     ∙ ap (λ (i : ℕ). plain 4 (mirror 4 Complement v) * 4 ^ i + plain 4 (mirror 4 Complement u)) (length-mirror 4 Complement u ∙ lu))
 
--- The same of two parts that were looked up.
-pub two_parts : (n m x : ℕ) {last before : ℕ} → last ≡ low_mirror n x → before ≡ low_mirror m (x / 4 ^ n) → last * 4 ^ m + before ≡ low_mirror (n + m) x
-two_parts n m x last-is before-is = rw (last-is, before-is) (joined n m x)
+-- ---- a lookup for each four letters
+
+pub no_lookup : (x : ℕ) → 0 ≡ low_mirror 0 x
+unfolding low_mirror mirror plain word_of_plain
+no_lookup x = refl
+
+-- After i lookups: the mirror of the 4i lowest letters of x, and x without them.
+pub record LookedUp (x i mirror rest : ℕ) : Type 0 where
+  pub mirror_is : mirror ≡ low_mirror (4 * i) x
+  pub rest_is : rest ≡ x / 4 ^ (4 * i)
+
+pub lookup_next : {table : List ℕ} → MirrorTable table → {x i mirror rest before : ℕ} → LookedUp x i mirror rest → before ≡ get_or table (rest % 256) 0
+    → LookedUp x (i + 1) (mirror * 256 + before) (rest / 256)
+lookup_next T {x} {i} {mirror} {rest} {before} L before_is =
+    let four_more : 4 * (i + 1) ≡ 4 * i + 4 = omega arith in
+    let looked_up : before ≡ low_mirror 4 (x / 4 ^ (4 * i)) = before_is ∙ by_lookup T rest ∙ ap (low_mirror 4) L.rest_is in
+    record {
+      mirror_is = rw (four_more, L.mirror_is, looked_up) (joined (4 * i) 4 x);
+      rest_is = rw (four_more, L.rest_is, pow-add 4 (4 * i) 4) (div-div-eq-div-mul x (4 ^ (4 * i)) 256);
+    }
+
+-- Of at most 32 letters it fits.
+pub lookups_fit : {x i mirror rest : ℕ} → LookedUp x i mirror rest → i ≤ 8 → mirror < 2 ^ 64
+lookups_fit {x} {i} L few =
+    let letters : 4 * i ≤ 32 = omega arith in
+    let most : 4 ^ (4 * i) ≤ 4 ^ 32 = pow-le-pow_right (omega arith) letters in
+    rw L.mirror_is (lt_of_lt_of_le (low_mirror_lt (4 * i) x) most)
 
 -- ---- a word of k letters
 

@@ -1,15 +1,7 @@
 -- The rule of the mirror table. One test, computed over the whole table, is the rule at each entry (`table_by_test`); the rule is document 01's mirror of
 -- four letters (`entry_mirror`); and it leaves no choice at any entry, so that no other list has it (`one_table`).
-use mathlib.Core.Path.{◌≡◌, sym, ap, ◌∙◌}
-use mathlib.Core.Bool.{Bool, true, ◌&&◌, and-eq-true_iff}
-use mathlib.Core.List.{List, [], ◌∷◌}
-use Prim.Native.Nat.{ℕ, zero, suc, ◌+◌, ◌-◌, ◌*◌, ◌/◌, ◌%◌, ◌<◌}
-use native.Mathlib.Nat.{zero-add}
-use native.Mathlib.Omega.{arith}
-use borrow.Author.Tests.{eqb-true}
-use lib.Dec.{eqb}
-use lib.ListN.{length, get_or}
-use lib.Seq.{ext_get_or}
+use Rattle.std.proofs.Common.{◌≡◌, sym, ap, ◌∙◌, Bool, true, ◌&&◌, List, [], ◌∷◌, ℕ, zero, suc, ◌+◌, ◌-◌, ◌*◌, ◌/◌, ◌%◌, ◌<◌, zero-add, arith, eqb-true, eqb, length, get_or, ext_get_or}
+use mathlib.Core.Bool.{and-eq-true_iff}
 use Rattle.encoding.specs.Words.{Complement, mirror_rank, mirror, plain}
 use Rattle.packed.specs.Mirrors.{packed, MirrorTable}
 

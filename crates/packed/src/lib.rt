@@ -3,7 +3,7 @@
 
 #![tactic(auto)]
 
-ghost use Rattle.std.specs.Prelude.{◌≡◌, ◌%◌, ◌^◌, ◌<◌, ◌≤◌, get_or};
+ghost use Rattle.std.specs.Prelude.{◌≡◌, ◌*◌, ◌%◌, ◌^◌, ◌<◌, ◌≤◌, get_or};
 ghost use Rattle.encoding.specs.Words.{Complement, mirror, plain};
 ghost use Rattle.encoding.specs.WordsOfCodes.{word_of_plain};
 ghost use Rattle.packed.specs.Mirrors.{MirrorTable};
@@ -25,42 +25,21 @@ fn mirror_of_four(x: u64, mirrors: &[u8; 256]) -> u64
     mirrors[byte] as u64
 }
 
-// The plain rank of the mirror of the eight lowest letters of x: the mirror of the last four, then that of the four before them. The next three are
-// made likewise of two parts.
-fn mirror_of_eight(x: u64, mirrors: &[u8; 256]) -> u64
-    requires { MirrorTable mirrors.now }
-    ensures { result ≡ low_mirror 8 x }
+// The plain rank of the mirror of the lowest letters of x, of which there are four to a byte: the mirror of the last four, then that of the four before them, and
+// so on. That is a constant number of lookups, so that the compiler writes them out one after the other.
+fn mirror_of_bytes<const BYTES: usize>(x: u64, mirrors: &[u8; 256]) -> u64
+    requires mirror_table { MirrorTable mirrors.now }
+    requires bytes_bound { BYTES ≤ 8 }
+    ensures { result ≡ low_mirror (4 * BYTES) x }
 {
-    let last = mirror_of_four(x, mirrors);
-    let before = mirror_of_four(x / 256, mirrors);
-    last * 256 + before
-}
-
-fn mirror_of_twelve(x: u64, mirrors: &[u8; 256]) -> u64
-    requires { MirrorTable mirrors.now }
-    ensures { result ≡ low_mirror 12 x }
-{
-    let last = mirror_of_eight(x, mirrors);
-    let before = mirror_of_four(x / 65536, mirrors);
-    last * 256 + before
-}
-
-fn mirror_of_sixteen(x: u64, mirrors: &[u8; 256]) -> u64
-    requires { MirrorTable mirrors.now }
-    ensures { result ≡ low_mirror 16 x }
-{
-    let last = mirror_of_eight(x, mirrors);
-    let before = mirror_of_eight(x / 65536, mirrors);
-    last * 65536 + before
-}
-
-fn mirror_of_thirty_two(x: u64, mirrors: &[u8; 256]) -> u64
-    requires { MirrorTable mirrors.now }
-    ensures { result ≡ low_mirror 32 x }
-{
-    let last = mirror_of_sixteen(x, mirrors);
-    let before = mirror_of_sixteen(x / 4294967296, mirrors);
-    last * 4294967296 + before
+    let mut mirror: u64 = 0;
+    let mut rest = x;
+    for _ in 0..BYTES {
+        let before = mirror_of_four(rest, mirrors);
+        mirror = mirror * 256 + before;
+        rest /= 256;
+    }
+    mirror
 }
 
 // The plain rank of the mirror of the word of k letters with the plain rank x. It is looked up with letters of rank 0 before the word; in the mirror
@@ -72,16 +51,16 @@ pub fn window_mirror(x: u64, k: u64, mirrors: &[u8; 256]) -> u64
     ensures { result ≡ plain 4 (mirror 4 Complement (word_of_plain 4 k x)) }
 {
     if 16 < k {
-        return mirror_of_thirty_two(x, mirrors) >> (64 - 2 * k);
+        return mirror_of_bytes::<8>(x, mirrors) >> (64 - 2 * k);
     }
     if 12 < k {
-        return mirror_of_sixteen(x, mirrors) >> (32 - 2 * k);
+        return mirror_of_bytes::<4>(x, mirrors) >> (32 - 2 * k);
     }
     if 8 < k {
-        return mirror_of_twelve(x, mirrors) >> (24 - 2 * k);
+        return mirror_of_bytes::<3>(x, mirrors) >> (24 - 2 * k);
     }
     if 4 < k {
-        return mirror_of_eight(x, mirrors) >> (16 - 2 * k);
+        return mirror_of_bytes::<2>(x, mirrors) >> (16 - 2 * k);
     }
     mirror_of_four(x, mirrors) >> (8 - 2 * k)
 }

@@ -1,5 +1,5 @@
 -- `packed::mirror_of_four` meets its contract: one lookup.
-use native.Mathlib.Omega.{arith}
+use Rattle.std.proofs.Common.{arith}
 use Rattle.packed.proofs.LowLetters.{low_mirror_lt, by_lookup}
 use Rattle.packed.proofs.mirror_of_four.Goals as goal
 

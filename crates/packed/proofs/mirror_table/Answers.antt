@@ -1,5 +1,5 @@
 -- `packed::mirror_table` meets its contract: one test, computed over the whole table (Tables).
-use mathlib.Core.Path.{refl}
+use Rattle.std.proofs.Common.{refl}
 use Rattle.packed.specs.Mirrors.{packed}
 use Rattle.packed.proofs.Tables.{mirrored_byte, all_mirrored, table_by_test}
 use Rattle.packed.proofs.mirror_table.Goals as goal
