@@ -50,8 +50,8 @@ puts_then {a} {b} {c} {at} {next} {r} {p} {q} P Q =
     }
 
 -- No text.
-pub nothing : (w : Writer) → w.at ≤ top → length w.out.now ≤ top → Writes w w []
-nothing w h l = record { buffer = refl; puts = record { place = omega arith; leaves = refl; bounded = l } }
+pub nothing : (w : Writer) → Writes w w []
+nothing w = record { buffer = refl; puts = record { place = omega (arith, w.counted); leaves = refl; bounded = w.bounded } }
 
 -- One text, and then another right behind it.
 pub then : {u v w : Writer} {p q : List ℕ} → Writes u v p → Writes v w q → Writes u w (p ++ q)
@@ -67,8 +67,8 @@ pub record Lacks (u w : Writer) (text left : List ℕ) : Type 0 where
   pub writes : Writes u w written
   pub parts : written ++ left ≡ text
 
-pub lacks_all : (w : Writer) (text : List ℕ) → w.at ≤ top → length w.out.now ≤ top → Lacks w w text text
-lacks_all w text h l = record { written = []; writes = nothing w h l; parts = refl }
+pub lacks_all : (w : Writer) (text : List ℕ) → Lacks w w text text
+lacks_all w text = record { written = []; writes = nothing w; parts = refl }
 
 -- A part more.
 pub lacks_less : {u v w : Writer} {text : List ℕ} (p : List ℕ) {q : List ℕ} → Lacks u v text (p ++ q) → Writes v w p → Lacks u w text q

@@ -2,18 +2,21 @@
 
 #![tactic(auto)]
 
-ghost use Rattle.std.specs.Prelude.{◌≡◌, ◌%◌, ◌+◌, [], ◌∷◌, ◌++◌, length};
+ghost use Rattle.std.specs.Prelude.{◌≡◌, ◌%◌, ◌+◌, ◌≤◌, [], ◌∷◌, ◌++◌, length};
 ghost use Rattle.texts.specs.Decimals.{decimal};
-ghost use Rattle.texts.specs.Needs.{Writes};
 
-// A lent buffer and the place reached in it. Bytes that the buffer has no place for are counted and not written.
+// A lent buffer and the place reached in it, both of which fit 64 bits. Bytes that the buffer has no place for are counted and not written.
 #[derive(Drop)]
 pub struct Writer<'a> {
     out: &'a mut [u8],
     at: usize,
+    ghost counted: { at ≤ 18446744073709551615 },
+    ghost bounded: { length out.now ≤ 18446744073709551615 },
 }
 
 impl<'a> Writer<'a> {
+    ghost use Rattle.texts.specs.Needs.{Writes};
+
     // A writer at the buffer's start.
     pub fn new(out: &'a mut [u8]) -> Writer<'a>
         ensures buffer { result.out.ghost_name ≡ out.entry.ghost_name }
@@ -35,8 +38,7 @@ impl<'a> Writer<'a> {
     pub fn put_byte(&mut self, b: u8)
         ensures { Writes self.old self.new (b ∷ []) }
     {
-        let len = self.out.len();
-        if self.at < len {
+        if self.at < self.out.len() {
             self.out[self.at] = b;
         }
         self.at = self.at.saturating_add(1);

@@ -1,12 +1,11 @@
 -- `texts::Writer::put_text` meets its contract: each byte leaves one less to write.
-use native.Mathlib.Omega.{arith}
 use mathlib.Core.List.{[], ◌∷◌}
 use Rattle.std.proofs.lemmas.List.{drop_more, drop_all}
 use Rattle.texts.proofs.Writing.{lacks_all, lacks_less, lacks_none}
 use Rattle.texts.proofs.Writer.put_text.Goals as goal
 
 pub loop-b-init : goal.loop-b-init
-loop-b-init c = lacks_all _ _ (omega arith) (omega arith)
+loop-b-init c = lacks_all _ _
 
 pub loop-b-preserved : goal.loop-b-preserved
 loop-b-preserved c =
