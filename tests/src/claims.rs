@@ -16,6 +16,9 @@ const INDEX: &str = "\n## Index of names\n";
 /// Words of the language that the page speaks of.
 const WORDS: [&str; 2] = ["requires", "returns"];
 
+/// The specs files of what functions below the calls ask of each other.
+const APART: [&str; 4] = ["/Needs.antt", "/RankTables.antt", "/Kernels.antt", "/Coders.antt"];
+
 /// What stands between backticks in a text, in order.
 fn quoted(text: &str) -> Vec<&str> {
     text.split('`').skip(1).step_by(2).collect()
@@ -177,7 +180,7 @@ fn with_counts(page: &str) -> Result<String, String> {
     let (tied, rest) = rest.split_once(heads[2]).expect("and what stands apart");
     let (list, believed) = definitions.counted(list)?;
     let (tied, tied_lines) = definitions.counted(tied)?;
-    let is_apart = |path: &String| path.ends_with("/Needs.antt") || path.ends_with("/RankTables.antt");
+    let is_apart = |path: &String| APART.iter().any(|name| path.ends_with(name));
     if let Some(file) = definitions.0.keys().find(|path| !is_apart(path)) {
         return Err(format!("{file} is in neither list of what must be believed: put it in one by hand"));
     }
