@@ -163,6 +163,7 @@ pub fn rank_of(letters: &[u8], b: u8) -> Option<usize>
 
 // The ranks of all bytes, made once a call so that no byte of a file or sequence is searched for among the letters: at a byte's place its rank, or 255 for
 // a byte that is no letter. A table of `Option`s would be twice as long.
+#[derive(Drop)]
 pub struct RankTable {
     pub bytes: [u8; 256],
 }
