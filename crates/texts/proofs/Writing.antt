@@ -77,6 +77,10 @@ lacks_less p {q} L P = record { written = L.written ++ p; writes = then L.writes
 pub lacks_none : {u w : Writer} {text : List ℕ} → Lacks u w text [] → Writes u w text
 lacks_none L = rw (← L.parts, append-nil L.written) L.writes
 
+-- What a new writer wrote of a text stands from its buffer's start on; the buffer ends as the writer leaves it.
+pub started : {v w : Writer} {out new text : List ℕ} → v.out.now ≡ out → v.at ≡ 0 → Writes v w text → new ≡ w.out.now → Puts out new 0 w.at text
+started unwritten start P left = rw (left, ← unwritten, ← start) P.puts
+
 -- A text that fits, written from the start.
 pub from_start : {a b : List ℕ} {r : ℕ} {p : List ℕ} → Puts a b 0 r p → length p ≤ length a → b ≡ p ++ drop (length p) a
 from_start {a} {b} {r} {p} P h = P.leaves ∙ sets-eq p a 0 (omega arith) ∙ (rw (zero-add (length p)))
