@@ -264,35 +264,17 @@ module _ (letters : List ℕ) (k : ℕ) (m : Mirror) (q : ℕ) (f : Limits (leng
   word_ranks = ranks_word_of (length letters) m f.two k q g
 
 -- The places w that `fill_word` wrote over the first k zeros.
-pub record FilledWord (letters : List ℕ) (k : ℕ) (m : Mirror) (q : ℕ) (w : List ℕ) : Type 0 where
-  pub within : Limits (length letters) k
-  pub below : q < classes (length letters) m k
-  pub holds : w ≡ word_of (length letters) m (length (take k zeros)) q
-
-module _ {letters : List ℕ} {k : ℕ} {m : Mirror} {q : ℕ} {w : List ℕ} (W : FilledWord letters k m q w) where
+module _ (letters : List ℕ) (k : ℕ) (m : Mirror) (q : ℕ) {w : List ℕ} (f : Limits (length letters) k) (g : q < classes (length letters) m k)
+    (holds : w ≡ word_of (length letters) m (length (take k zeros)) q) where
   filled_is : w ≡ word_of (length letters) m k q
-  filled_is = W.holds ∙ ap (λ (n : ℕ). word_of (length letters) m n q) (zeros_length W.within)
+  filled_is = holds ∙ ap (λ (n : ℕ). word_of (length letters) m n q) (zeros_length f)
 
-  own_length : length (word_of (length letters) m k q) ≡ k
-  own_length = word_length letters k m q W.within W.below
+  pub filled_length : length w ≡ k
+  filled_length = ap length filled_is ∙ word_length letters k m q f g
 
-  filled_length : length w ≡ k
-  filled_length = ap length filled_is ∙ own_length
+  pub filled_ranks : Ranks (length letters) w
+  filled_ranks = subst⁻¹ (Ranks (length letters)) filled_is (word_ranks letters k m q f g)
 
-  -- An array of which these are the first places.
-  module _ (d : List ℕ) where
-    front : take k (w ++ d) ≡ word_of (length letters) m k q
-    front = front_is w d refl filled_length ∙ filled_is
-
-    pub filled_fits : k ≤ length (w ++ d)
-    filled_fits = front_fits w d refl filled_length
-
-    pub filled_front : length (take k (w ++ d)) ≡ k
-    filled_front = front_length w d refl filled_length
-
-    pub filled_ranks : Ranks (length letters) (take k (w ++ d))
-    filled_ranks = subst⁻¹ (Ranks (length letters)) front (word_ranks letters k m q W.within W.below)
-
-    pub filled_written : (old new : List ℕ) → new ≡ in_capitals letters (take k (w ++ d)) ++ drop (length (take k (w ++ d))) old
-        → new ≡ in_capitals letters (word_of (length letters) m k q) ++ drop k old
-    filled_written old new x = x ∙ rw (front, own_length)
+  pub filled_written : (old new : List ℕ) → new ≡ in_capitals letters w ++ drop (length w) old
+      → new ≡ in_capitals letters (word_of (length letters) m k q) ++ drop k old
+  filled_written old new x = x ∙ rw (filled_length, filled_is)

@@ -111,12 +111,12 @@ pub fn ranks_code(w: &[u64], s: u64, m: Mirror) -> WordCode
 {
     // Stays: no heap, and a mirror must lie somewhere: a word within the limits has at most 62 letters.
     let mut places = [0u64; 64];
-    ranks::fill_mirror(w, s, m, &mut places);
-    let mirror = &places[..w.len()];
+    let mirror = ranks::mirrored(w, s, m, &mut places);
     let canonical = ranks::plain_rank(w, s).0 <= ranks::plain_rank(mirror, s).0;
-    let lower = if canonical { w } else { mirror };
-    WordCode {
-        code: canonical_code(lower, s, m),
-        canonical,
-    }
+    let code = if canonical {
+        canonical_code(w, s, m)
+    } else {
+        canonical_code(mirror, s, m)
+    };
+    WordCode { code, canonical }
 }

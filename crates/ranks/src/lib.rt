@@ -59,6 +59,15 @@ pub fn fill_mirror(w: &[u64], s: u64, m: Mirror, out: &mut [u64])
     }
 }
 
+// The mirror of a word, in lent places.
+pub fn mirrored<'a>(w: &[u64], s: u64, m: Mirror, places: &'a mut [u64]) -> &'a [u64]
+    requires { Ranks s w.now × (length w.now ≤ length places.old) }
+    ensures { result.now ≡ mirror s m w.now }
+{
+    fill_mirror(w, s, m, places);
+    &places[..w.len()]
+}
+
 // The plain rank of a word: its ranks read as digits in base s.
 pub fn plain_rank(w: &[u64], s: u64) -> PlainRank
     requires { FitWord s w.now }

@@ -1,35 +1,41 @@
--- Which ground applies at each test of the word calls, once the settings have passed their check.
-use mathlib.Core.Path.{◌≡◌}
-use Rattle.std.specs.Prelude.{Option, None, Some}
-use mathlib.Core.List.{List}
-use Prim.Native.Nat.{ℕ, ◌<◌, ◌≤◌}
-use borrow.Author.Tests.{ne_eqb, eq-eqb, lt-ltb, le-ltb}
-use lib.ListN.{length}
-use Rattle.settings.specs.Grounds.{ground_at}
+-- The grounds of the word calls, test by test, once the settings have passed their check: the first that applies, or none.
+use Rattle.std.proofs.Common.{◌≡◌, sym, Option, None, Some, List, ℕ, ◌<◌, ◌≤◌, length, eqb-true, le-ltb, lt-ltb}
+use Rattle.std.proofs.lemmas.Bool.{not-false}
+use Rattle.settings.specs.Grounds.{Ground, ground, ground_at, too_short}
 use Rattle.settings.specs.Settings.{settings_ground, classes, mirror_of}
-use Rattle.encoding.specs.Calls.{code_ground, foreign_from, read_ground, mirror_ground}
+use Rattle.settings.proofs.Outcomes.{test_fails, nowhere_met, room_enough}
+use Rattle.encoding.specs.Calls.{code_ground, foreign_from, read_ground, mirror_ground, wrong_length}
+
+-- ---- what it means that one of them does not apply
+
+pub length_right : (k : ℕ) (word : List ℕ) → None ≡ ground 5 (wrong_length k word) → length word ≡ k
+length_right k word e = eqb-true (length word) k (not-false _ (test_fails 5 (wrong_length k word) (sym e)))
+
+pub room_there : (room k : ℕ) → None ≡ ground_at 7 (too_short room k) → k ≤ room
+room_there room k e = room_enough room k (nowhere_met 7 (too_short room k) (sym e))
 
 module _ (letters : List ℕ) (k m : ℕ) (passed : settings_ground letters k m ≡ None) where
   -- ---- coding
 
-  pub code_length : (word : List ℕ) → (length word ≡ k → ⊥) → code_ground letters k m word ≡ Some (5, 0)
-  unfolding code_ground
-  code_length word h = rw (passed, ne_eqb (length word) k h)
+  module _ (word : List ℕ) where
+    pub code_length : (f : Ground) → Some f ≡ ground 5 (wrong_length k word) → code_ground letters k m word ≡ Some f
+    unfolding code_ground
+    code_length f e = rw (passed, ← e)
 
-  -- Ground 9 where some byte is no letter, and else none.
-  pub code_foreign : (word : List ℕ) → length word ≡ k → (at : Option ℕ) → foreign_from letters 0 word ≡ at → code_ground letters k m word ≡ ground_at 9 at
-  unfolding code_ground
-  code_foreign word h at f = rw (passed, eq-eqb (length word) k h, f)
+    -- Ground 9, if it applies.
+    pub code_foreign : None ≡ ground 5 (wrong_length k word) → (g : Option Ground) → g ≡ ground_at 9 (foreign_from letters 0 word) → code_ground letters k m word ≡ g
+    unfolding code_ground
+    code_foreign right g e = rw (passed, ← right, ← e)
 
   -- ---- reading
 
-  pub read_short : (q room : ℕ) → room < k → read_ground letters k m q room ≡ Some (7, k)
+  pub read_short : (q room : ℕ) (f : Ground) → Some f ≡ ground_at 7 (too_short room k) → read_ground letters k m q room ≡ Some f
   unfolding read_ground
-  read_short q room h = rw (passed, lt-ltb room k h)
+  read_short q room f e = rw (passed, ← e)
 
-  pub read_no_code : (q room : ℕ) → k ≤ room → classes (length letters) (mirror_of m) k ≤ q → read_ground letters k m q room ≡ Some (8, 0)
+  pub read_no_code : (q room : ℕ) → None ≡ ground_at 7 (too_short room k) → classes (length letters) (mirror_of m) k ≤ q → read_ground letters k m q room ≡ Some (8, 0)
   unfolding read_ground
-  read_no_code q room h g = rw (passed, le-ltb room k h, le-ltb q (classes (length letters) (mirror_of m) k) g)
+  read_no_code q room there g = rw (passed, ← there, le-ltb q (classes (length letters) (mirror_of m) k) g)
 
   pub reading_none : (q room : ℕ) → k ≤ room → q < classes (length letters) (mirror_of m) k → read_ground letters k m q room ≡ None
   unfolding read_ground
@@ -37,16 +43,18 @@ module _ (letters : List ℕ) (k m : ℕ) (passed : settings_ground letters k m 
 
   -- ---- mirroring
 
-  pub mirror-length : (word : List ℕ) (room : ℕ) → (length word ≡ k → ⊥) → mirror_ground letters k m word room ≡ Some (5, 0)
-  unfolding mirror_ground
-  mirror-length word room h = rw (passed, ne_eqb (length word) k h)
+  module _ (word : List ℕ) (room : ℕ) where
+    pub mirror-length : (f : Ground) → Some f ≡ ground 5 (wrong_length k word) → mirror_ground letters k m word room ≡ Some f
+    unfolding mirror_ground
+    mirror-length f e = rw (passed, ← e)
 
-  pub mirror_short : (word : List ℕ) (room : ℕ) → length word ≡ k → room < k → mirror_ground letters k m word room ≡ Some (7, k)
-  unfolding mirror_ground
-  mirror_short word room h g = rw (passed, eq-eqb (length word) k h, lt-ltb room k g)
+    module _ (right : None ≡ ground 5 (wrong_length k word)) where
+      pub mirror_short : (f : Ground) → Some f ≡ ground_at 7 (too_short room k) → mirror_ground letters k m word room ≡ Some f
+      unfolding mirror_ground
+      mirror_short f e = rw (passed, ← right, ← e)
 
-  -- Ground 9 where some byte is no letter, and else none.
-  pub mirror_foreign : (word : List ℕ) (room : ℕ) → length word ≡ k → k ≤ room → (at : Option ℕ) → foreign_from letters 0 word ≡ at
-      → mirror_ground letters k m word room ≡ ground_at 9 at
-  unfolding mirror_ground
-  mirror_foreign word room h g at f = rw (passed, eq-eqb (length word) k h, le-ltb room k g, f)
+      -- Ground 9, if it applies.
+      pub mirror_foreign : None ≡ ground_at 7 (too_short room k) → (g : Option Ground) → g ≡ ground_at 9 (foreign_from letters 0 word)
+          → mirror_ground letters k m word room ≡ g
+      unfolding mirror_ground
+      mirror_foreign there g e = rw (passed, ← right, ← there, ← e)

@@ -1,19 +1,28 @@
 -- From bytes to ranks and back, a place at a time: the loops of `fill_ranks`, `foreign_at` and `write_letters`.
-use mathlib.Core.Path.{◌≡◌, refl, sym}
-use Rattle.std.specs.Prelude.{None, Some, Option}
-use mathlib.Core.List.{List, ◌∷◌, []}
-use Prim.Native.Nat.{ℕ, ◌<◌, ◌+◌, ◌≤◌}
-use native.Mathlib.Numerals.{add-one}
-use lib.ListN.{length, get_or, length-map, drop, drop_of_length-le}
-use lib.Seq.{drop-cons}
+use Rattle.std.proofs.Common.{◌≡◌, refl, sym, ap, ◌∙◌, None, Some, Option, Bool, cond, ltb, List, ◌∷◌, [], ◌++◌, ℕ, ◌<◌, ◌+◌, ◌≤◌, suc, add-one, arith, length, get_or, set, drop}
+use Rattle.std.proofs.lemmas.List.{length-map}
+use Rattle.std.specs.Option.{is_none}
+use Rattle.std.specs.List.{position_from, position_or_len}
+use Rattle.std.proofs.lemmas.Iterator.Adapters.{position_from-zero}
+use Rattle.laws.proofs.Buffers.{Written, written_none, written_next, written_all}
 use Rattle.settings.specs.Settings.{rank_in, mirror_of}
 use Rattle.settings.proofs.Ranks.{rank_below_count}
 use Rattle.laws.proofs.Lists.{get_d_map_in}
-use Rattle.encoding.specs.Calls.{ranks_of, rank_at, foreign_from, rank_or_zero, in_capitals, word_bytes, mirror_bytes}
+use Rattle.encoding.specs.Calls.{ranks_of, rank_at, foreign_from, here_or, rank_or_zero, in_capitals, word_bytes, mirror_bytes}
 use Rattle.encoding.specs.Words.{Ranks, Mirror, mirror}
 use Rattle.encoding.specs.WordsOfCodes.{word_of}
 
--- ---- what is written at each place
+-- ---- a list of as many numbers as xs has is written to the start of a buffer, one for each
+
+module _ (C xs o : List ℕ) (long : length C ≡ length xs) where
+  pub fill_start : length xs ≤ length o → Written C o 0 o
+  fill_start h = written_none C o (omega (arith, long))
+
+  pub fill_next : {i : ℕ} {out : List ℕ} → Written C o i out → i < length xs → (x : ℕ) → x ≡ get_or C i 0 → Written C o (i + 1) (set out i x)
+  fill_next W h x e = written_next W x (omega (arith, long)) e
+
+  pub fill_end : {i : ℕ} {out : List ℕ} → Written C o i out → length xs ≤ i → out ≡ C ++ drop (length xs) o
+  fill_end W h = written_all W (omega (arith, long)) ∙ ap (λ (n : ℕ). C ++ drop n o) long
 
 pub ranks_of-at : (letters word : List ℕ) (i : ℕ) → i < length word → get_or (ranks_of letters word) i 0 ≡ rank_at letters (get_or word i 0)
 unfolding ranks_of
@@ -25,18 +34,20 @@ in_capitals-at letters w i h = get_d_map_in (λ (j : ℕ). get_or letters j 0) w
 
 -- ---- the first byte that is no letter
 
-module _ (letters word : List ℕ) (i : ℕ) (h : i < length word) where
-  pub foreign_here : rank_in letters (get_or word i 0) ≡ None → foreign_from letters i (drop i word) ≡ Some i
-  unfolding foreign_from
-  foreign_here e = rw (drop-cons word i 0 h, e)
+-- It is where `position` finds the first byte without a rank.
+here : (o : Option ℕ) (n : ℕ) (later : Option ℕ) → cond (is_none o) (Some n) later ≡ here_or o n later
+here None n later = refl
+here (Some rank) n later = refl
 
-  pub foreign_next : (x : ℕ) → rank_in letters (get_or word i 0) ≡ Some x → foreign_from letters i (drop i word) ≡ foreign_from letters (i + 1) (drop (i + 1) word)
-  unfolding foreign_from
-  foreign_next x e = rw (add-one i, drop-cons word i 0 h, e)
-
-pub foreign_none : (letters word : List ℕ) (i : ℕ) → length word ≤ i → foreign_from letters i (drop i word) ≡ None
+foreign-position : (letters : List ℕ) (n : ℕ) (word : List ℕ) → position_from (λ b. is_none (rank_in letters b)) n word ≡ foreign_from letters n word
 unfolding foreign_from
-foreign_none letters word i h = rw (drop_of_length-le word h)
+foreign-position letters n [] = refl
+foreign-position letters n (b ∷ word) =
+    here (rank_in letters b) n _ ∙ rw add-one (ap (here_or (rank_in letters b) n) (foreign-position letters (suc n) word))
+
+pub foreign_found : (letters word : List ℕ) → let test : ℕ → Bool = λ b. is_none (rank_in letters b) in
+    cond (ltb (position_or_len test word) (length word)) (Some (position_or_len test word)) None ≡ foreign_from letters 0 word
+foreign_found letters word = position_from-zero (λ b. is_none (rank_in letters b)) word ∙ foreign-position letters 0 word
 
 -- ---- ranks are below s
 

@@ -1,15 +1,11 @@
 -- What `mirror_of` answers and leaves at each of its tests.
-use mathlib.Core.Path.{◌≡◌, ap, ◌∙◌, sym}
-use Rattle.std.specs.Prelude.{Some, None}
-use mathlib.Core.List.{List, ◌++◌}
-use Prim.Native.Nat.{ℕ, ◌<◌, ◌≤◌}
-use lib.ListN.{length, drop}
-use Rattle.settings.specs.Grounds.{Outcome, Overwrites, Ground, refused, outcome, given}
+use Rattle.std.proofs.Common.{◌≡◌, ap, ◌∙◌, sym, Some, None, List, ◌++◌, ℕ, length, drop}
+use Rattle.settings.specs.Grounds.{Outcome, Overwrites, Ground, ground, ground_at, too_short, refused, outcome, given}
 use Rattle.settings.specs.Settings.{settings_ground, settings_of}
 use Rattle.settings.proofs.Outcomes.{kept_by, kept_on, set_by}
 use Rattle.settings.proofs.SettingsGrounds.{Known, known}
 use Rattle.settings.specs.declared.Settings.{Settings}
-use Rattle.encoding.specs.Calls.{mirror_ground, mirror_bytes, foreign_from, in_capitals, ranks_of}
+use Rattle.encoding.specs.Calls.{mirror_ground, mirror_bytes, wrong_length, foreign_from, in_capitals, ranks_of}
 use Rattle.encoding.specs.Words.{mirror}
 use Rattle.words.proofs.CallGrounds.{mirror-length, mirror_short, mirror_foreign}
 use Rattle.encoding.proofs.Ends.{length-mirror}
@@ -31,20 +27,21 @@ module _ (letters : List ℕ) (k m : ℕ) (word old : List ℕ) where
     good : Known letters k m st
     good = known letters k m st e
 
-    pub mirror_bad_length : (length word ≡ k → ⊥) → Mirrors (refused (5, 0)) old
-    mirror_bad_length h = kept (5, 0) (mirror-length letters k m good.none_applies_lem word (length old) h)
+    pub mirror_bad_length : (f : Ground) → Some f ≡ ground 5 (wrong_length k word) → Mirrors (refused f) old
+    mirror_bad_length f h = kept f (mirror-length letters k m good.none_applies_lem word (length old) f h)
 
-    pub mirror_into_short : length word ≡ k → length old < k → Mirrors (refused (7, k)) old
-    mirror_into_short h g = kept (7, k) (mirror_short letters k m good.none_applies_lem word (length old) h g)
+    pub mirror_into_short : None ≡ ground 5 (wrong_length k word) → (f : Ground) → Some f ≡ ground_at 7 (too_short (length old) k) → Mirrors (refused f) old
+    mirror_into_short right f h = kept f (mirror_short letters k m good.none_applies_lem word (length old) right f h)
 
-    pub mirror_bad_byte : length word ≡ k → k ≤ length old → (i : ℕ) → foreign_from letters 0 word ≡ Some i → Mirrors (refused (9, i)) old
-    mirror_bad_byte h g i f = kept (9, i) (mirror_foreign letters k m good.none_applies_lem word (length old) h g (Some i) f)
+    pub mirror_bad_byte : None ≡ ground 5 (wrong_length k word) → None ≡ ground_at 7 (too_short (length old) k) → (f : Ground)
+        → Some f ≡ ground_at 9 (foreign_from letters 0 word) → Mirrors (refused f) old
+    mirror_bad_byte right there f h = kept f (mirror_foreign letters k m good.none_applies_lem word (length old) right there (Some f) h)
 
-    pub mirror_written_out : length word ≡ k → k ≤ length old → foreign_from letters 0 word ≡ None → (new : List ℕ)
-        → new ≡ in_capitals letters (mirror (length letters) st.mirror (ranks_of letters word)) ++ drop (length word) old → Mirrors (given k) new
-    mirror_written_out h g f new x =
+    pub mirror_written_out : None ≡ ground 5 (wrong_length k word) → None ≡ ground_at 7 (too_short (length old) k) → None ≡ ground_at 9 (foreign_from letters 0 word)
+        → (new : List ℕ) → new ≡ in_capitals letters (mirror (length letters) st.mirror (ranks_of letters word)) ++ drop (length word) old → Mirrors (given k) new
+    mirror_written_out right there h new x =
         set_by (mirror_ground letters k m word (length old)) k (mirror_bytes letters m word) old new
-        (mirror_foreign letters k m good.none_applies_lem word (length old) h g None f)
+        (mirror_foreign letters k m good.none_applies_lem word (length old) right there None h)
         (x ∙ ap (λ (w : List ℕ). w ++ drop (length word) old) bytes_are ∙ ap (λ (n : ℕ). mirror_bytes letters m word ++ drop n old) (sym bytes_length))
       where
         bytes_are : in_capitals letters (mirror (length letters) st.mirror (ranks_of letters word)) ≡ mirror_bytes letters m word

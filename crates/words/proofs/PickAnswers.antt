@@ -1,20 +1,14 @@
 -- What `pick` hands back at each of its tests.
-use mathlib.Core.Path.{◌≡◌, refl, ap, ◌∙◌}
-use mathlib.Core.Bool.{true, false}
-use Rattle.std.specs.Prelude.{None, Option, Some}
-use mathlib.Core.List.{List, []}
-use Prim.Native.Nat.{ℕ, ◌≤◌, ◌<◌}
-use native.Mathlib.Omega.{arith}
-use borrow.Author.Tests.{eqb-true, not-false, le-leb, lt-leb}
-use denote.Ref.{Bor}
-use lib.ListN.{length}
-use Rattle.settings.specs.Grounds.{given, Ground, refused, ◌or_else◌}
+use Rattle.std.proofs.Common.{sym, ◌≡◌, refl, ◌∙◌, Bool, true, false, None, Option, Some, List, [], ℕ, ◌≤◌, ◌<◌, arith, le-leb, Bor, length}
+use borrow.Author.Tests.{lt-leb}
+use Rattle.settings.specs.Grounds.{given, Ground, refused}
 use Rattle.settings.specs.Limits.{Limits}
 use Rattle.settings.specs.Settings.{settings_ground}
-use Rattle.settings.proofs.Outcomes.{passed, refused_is, test_fails, first_none, later_none}
+use Rattle.settings.proofs.Outcomes.{passed, refused_is, first_none, later_none}
 use Rattle.settings.proofs.SettingsGrounds.{limits}
+use Rattle.words.proofs.CallGrounds.{length_right}
 use Rattle.words.specs.Answers.{Picked}
-use Rattle.encoding.specs.Calls.{coding, code_ground, wrong_length, pick_ground, ranks_of, first_picked}
+use Rattle.encoding.specs.Calls.{coding, code_ground, pick_ground, ranks_of, first_picked}
 use Rattle.words.specs.Needs.{none_applies}
 use Rattle.encoding.specs.Words.{plain}
 
@@ -37,53 +31,54 @@ some_is : (g : Option Ground) → false ≡ none_applies g → (f : Ground) × (
 some_is None e = absurd (let z : ◌≡◌ {A = ℕ} 0 1 = cc in omega arith)
 some_is (Some f) e = (f, refl)
 
+-- Whether either of two words is refused: the second shows where the first is not.
+module _ (letters : List ℕ) (k m : ℕ) (first second : List ℕ) {x : Bool} where
+  pub second_tells : true ≡ none_applies (code_ground letters k m first) → x ≡ none_applies (code_ground letters k m second)
+      → x ≡ none_applies (pick_ground letters k m first second)
+  unfolding pick_ground
+  second_tells e f = f ∙ rw (none_is (code_ground letters k m first) e)
+
+  pub first_tells : false ≡ none_applies (code_ground letters k m first) → x ≡ none_applies (code_ground letters k m first)
+      → x ≡ none_applies (pick_ground letters k m first second)
+  unfolding pick_ground
+  first_tells e f = let (g, is) = some_is (code_ground letters k m first) e in f ∙ rw is
+
 -- A word that can be coded has a plain rank that fits.
-pub within_of : (letters : List ℕ) (k m : ℕ) (w : List ℕ) → true ≡ none_applies (code_ground letters k m w) → Limits (length letters) (length w)
+within_of : (letters : List ℕ) (k m : ℕ) (w : List ℕ) → code_ground letters k m w ≡ None → Limits (length letters) (length w)
 unfolding code_ground
-within_of letters k m w e =
-    let n = none_is _ e in
-    let long_enough = test_fails 5 (wrong_length k w) (first_none _ _ (later_none (settings_ground letters k m) _ n)) in
-    let l : length w ≡ k = eqb-true (length w) k (not-false _ long_enough) in
-    rw l (limits letters k m (first_none _ _ n))
+within_of letters k m w n =
+    rw (length_right k w (sym (first_none _ _ (later_none (settings_ground letters k m) _ n)))) (limits letters k m (first_none _ _ n))
 
 -- ---- the part that is handed back
 
-module _ (letters : List ℕ) (k m : ℕ) (a b r : Bor (List ℕ)) where
-  refuse : (f : Ground) → pick_ground letters k m a.now b.now ≡ Some f → r.ref_ptr ≡ a.ref_ptr → r.now ≡ [] → Picked letters k m a b r
-  refuse f e p n = rw e (record { origin = p; holds = n })
+module _ (letters : List ℕ) (k m : ℕ) (a b : Bor (List ℕ)) where
+  pub neither_picked : (r : Bor (List ℕ)) → false ≡ none_applies (pick_ground letters k m a.now b.now) → r.ref_ptr ≡ a.ref_ptr → r.now ≡ [] → Picked letters k m a b r
+  neither_picked r e p n = let (f, is) = some_is (pick_ground letters k m a.now b.now) e in rw is (record { origin = p; holds = n })
 
-  pub first_bad : false ≡ none_applies (code_ground letters k m a.now) → r.ref_ptr ≡ a.ref_ptr → r.now ≡ [] → Picked letters k m a b r
-  unfolding pick_ground
-  first_bad e p n =
-      let (f, g) = some_is (code_ground letters k m a.now) e in
-      refuse f (ap (λ (o : Option Ground). o or_else code_ground letters k m b.now) g) p n
+  module _ (e : true ≡ none_applies (pick_ground letters k m a.now b.now)) where
+    no_ground : pick_ground letters k m a.now b.now ≡ None
+    no_ground = none_is (pick_ground letters k m a.now b.now) e
 
-  pub second_bad : true ≡ none_applies (code_ground letters k m a.now) → false ≡ none_applies (code_ground letters k m b.now) → r.ref_ptr ≡ a.ref_ptr → r.now ≡ []
-      → Picked letters k m a b r
-  unfolding pick_ground
-  second_bad d e p n =
-      let (f, g) = some_is (code_ground letters k m b.now) e in
-      refuse f (ap (λ (o : Option Ground). o or_else code_ground letters k m b.now) (none_is (code_ground letters k m a.now) d) ∙ g) p n
+    pub first_within : Limits (length letters) (length a.now)
+    unfolding pick_ground
+    first_within = within_of letters k m a.now (first_none (code_ground letters k m a.now) (code_ground letters k m b.now) no_ground)
 
-  both : true ≡ none_applies (code_ground letters k m a.now) → true ≡ none_applies (code_ground letters k m b.now)
-      → pick_ground letters k m a.now b.now ≡ None
-  unfolding pick_ground
-  both d e =
-      ap (λ (o : Option Ground). o or_else code_ground letters k m b.now) (none_is (code_ground letters k m a.now) d)
-      ∙ none_is (code_ground letters k m b.now) e
+    pub second_within : Limits (length letters) (length b.now)
+    unfolding pick_ground
+    second_within = within_of letters k m b.now (later_none (code_ground letters k m a.now) (code_ground letters k m b.now) no_ground)
 
-  module _ (d : true ≡ none_applies (code_ground letters k m a.now)) (e : true ≡ none_applies (code_ground letters k m b.now)) (p q : ℕ)
-      (f : p ≡ plain (length letters) (ranks_of letters a.now)) (g : q ≡ plain (length letters) (ranks_of letters b.now)) where
-    lower : p ≤ q → first_picked letters a.now b.now ≡ true
-    unfolding first_picked
-    lower h = le-leb (plain (length letters) (ranks_of letters a.now)) (plain (length letters) (ranks_of letters b.now)) (omega arith)
+    -- With the plain ranks p and q of the two.
+    module _ (p q : ℕ) (f : p ≡ plain (length letters) (ranks_of letters a.now)) (g : q ≡ plain (length letters) (ranks_of letters b.now)) where
+      lower : p ≤ q → first_picked letters a.now b.now ≡ true
+      unfolding first_picked
+      lower h = le-leb (plain (length letters) (ranks_of letters a.now)) (plain (length letters) (ranks_of letters b.now)) (omega arith)
 
-    higher : q < p → first_picked letters a.now b.now ≡ false
-    unfolding first_picked
-    higher h = lt-leb (plain (length letters) (ranks_of letters a.now)) (plain (length letters) (ranks_of letters b.now)) (omega arith)
+      higher : q < p → first_picked letters a.now b.now ≡ false
+      unfolding first_picked
+      higher h = lt-leb (plain (length letters) (ranks_of letters a.now)) (plain (length letters) (ranks_of letters b.now)) (omega arith)
 
-    pub first_taken : p ≤ q → r.ref_ptr ≡ a.ref_ptr → r.now ≡ a.now → Picked letters k m a b r
-    first_taken h x y = rw (both d e, lower h) (record { origin = x; holds = y })
+      pub first_taken : p ≤ q → Picked letters k m a b a
+      first_taken h = rw (no_ground, lower h) (record { origin = refl; holds = refl })
 
-    pub second_taken : q < p → r.ref_ptr ≡ b.ref_ptr → r.now ≡ b.now → Picked letters k m a b r
-    second_taken h x y = rw (both d e, higher h) (record { origin = x; holds = y })
+      pub second_taken : q < p → Picked letters k m a b b
+      second_taken h = rw (no_ground, higher h) (record { origin = refl; holds = refl })

@@ -1,16 +1,12 @@
 -- Ranks that are looked up in a table of all bytes' ranks, for `fill_ranks_by` and, along sequences, for `read_ranks`: what stands for a byte, how many there are
 -- and what each is, bytes of parts of a text, and that such ranks are those of the letters (`ranks_by_table`). From the definitions of both.
-use mathlib.Core.Path.{◌≡◌, ap, refl, ap₂}
-use Rattle.std.specs.Prelude.{Option}
-use mathlib.Core.List.{List, [], ◌∷◌}
-use Prim.Native.Nat.{ℕ, ◌+◌, ◌<◌, suc}
-use native.Mathlib.Omega.{arith}
-use lib.ListN.{length, length-map, get_or, take, drop, length-take, length-drop}
-use lib.Seq.{get_or-take, get_or-drop}
+use Rattle.std.proofs.Common.{◌≡◌, ap, refl, ap₂, Option, List, [], ◌∷◌, ℕ, ◌+◌, ◌<◌, suc, arith, length, get_or, take, drop, length-take, length-drop, get_or-take, get_or-drop}
+use lib.ListN.{length-map}
 use Rattle.laws.proofs.Lists.{get_d_map_in}
-use Rattle.settings.specs.RankTables.{as_rank, RankTable, rank_by_table}
-use Rattle.settings.specs.Settings.{rank_in}
+use Rattle.settings.specs.RankTables.{as_rank, RanksOf, rank_by_table}
 use Rattle.settings.proofs.RankTables.{as_none, as_itself}
+use Rattle.settings.specs.declared.RankTable.{RankTable}
+use Rattle.settings.specs.Settings.{rank_in}
 use Rattle.encoding.specs.Calls.{rank_or_zero, ranks_of}
 use Rattle.words.specs.Needs.{ranks_by}
 
@@ -55,7 +51,7 @@ drop-bytes n w B = record { below = λ i h. rw (get_or-drop n w i 0) (B.below (n
 
 -- ---- by a table that has every byte's rank
 
-module _ {letters table : List ℕ} (T : RankTable letters table) where
+module _ {letters : List ℕ} {table : RankTable} (T : RanksOf letters table) where
   pub same_first : {b : ℕ} {bs : List ℕ} → Bytes (b ∷ bs) → rank_by_table table b ≡ rank_in letters b
   same_first {b} B = T.same b (B.below 0 (omega arith))
 

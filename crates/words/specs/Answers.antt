@@ -1,19 +1,16 @@
 -- How the answers of the word calls are read, the contracts of reading a code and mirroring, and what the pick hands back: document 01,
 -- "Word of a code, and the canonical pick".
-use Rattle.std.specs.Prelude.{ℕ, ◌≡◌, Bool, true, false, List, [], length}
-use Rattle.std.specs.Prelude.{Option, None, Some}
+use Rattle.std.specs.Prelude.{ℕ, ◌≡◌, Bool, true, false, List, [], length, Option, None, Some, Result, Ok, Err}
 use Rattle.std.specs.Borrow.{Bor}
 use Rattle.settings.specs.Grounds.{Ground, Outcome, given, refused, ground_of, Overwrites}
-use Rattle.words.specs.declared.Coding.{Coding}
-use Rattle.words.specs.declared.Coding.TheVariants.{Coded, Refused}
-use Rattle.words.specs.declared.letters.Place.{Place}
-use Rattle.words.specs.declared.letters.Place.TheVariants.{At, Nowhere}
+use Rattle.settings.specs.declared.Refusal.{Refusal}
+use Rattle.ranks.specs.declared.Code.{Code}
 use Rattle.encoding.specs.Calls.{read_ground, mirror_ground, word_bytes, mirror_bytes, pick_ground, first_picked}
 
 -- The answer of coding as document 01's value: the code, or the refusal's number and P.
-abbrev pub of_coding : Coding → Outcome ℕ
-of_coding (Coded q) = given q.0
-of_coding (Refused f) = refused (ground_of f)
+abbrev pub of_coding : Result Code Refusal → Outcome ℕ
+of_coding (Ok q) = given q.0
+of_coding (Err f) = refused (ground_of f)
 
 -- The contract of reading a code: "A code below the number of classes gives its canonical word, in capitals, in the first k bytes of the lent buffer."
 abbrev pub WritesWord : (letters : List ℕ) (k mirror q : ℕ) (old : List ℕ) (answer : Outcome ℕ) (new : List ℕ) → Type 0
@@ -22,11 +19,6 @@ WritesWord letters k m q old answer new = Overwrites (read_ground letters k m q 
 -- The contract of mirroring: "Mirroring writes a word's mirror in capitals to the first k bytes of a lent buffer."
 abbrev pub WritesMirror : (letters : List ℕ) (k mirror : ℕ) (word old : List ℕ) (answer : Outcome ℕ) (new : List ℕ) → Type 0
 WritesMirror letters k m word old answer new = Overwrites (mirror_ground letters k m word (length old)) k (mirror_bytes letters m word) old answer new
-
--- The place of a byte that is no letter, or none.
-abbrev pub of_place : Place → Option ℕ
-of_place (At n) = Some n
-of_place Nowhere = None
 
 -- A part of a lent slice: it starts where the slice starts, and holds these bytes.
 pub record PartOf (slice : Bor (List ℕ)) (bytes : List ℕ) (r : Bor (List ℕ)) : Type 0 where

@@ -1,7 +1,6 @@
 -- What functions below the calls ask of each other and laws speak of; no sentence of document 01 rests on it: ranks by a function of bytes, and whether a
 -- ground applies.
-use Rattle.std.specs.Prelude.{Bool, true, false, List, map, ℕ}
-use Rattle.std.specs.Prelude.{Option, None, Some}
+use Rattle.std.specs.Prelude.{Bool, true, false, List, map, ℕ, Option, None, Some}
 use Rattle.settings.specs.Grounds.{Ground}
 use Rattle.encoding.specs.Calls.{rank_or_zero}
 

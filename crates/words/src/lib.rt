@@ -6,94 +6,98 @@
 pub mod letters; // from bytes to ranks and back
 
 ghost use Rattle.std.specs.Prelude.{◌≡◌};
-ghost use Rattle.settings.specs.Grounds.{of_filling};
-ghost use Rattle.encoding.specs.Calls.{code_ground, coding};
+ghost use Rattle.settings.specs.Grounds.{ground, ground_at, too_short, outcome_of, fault_of};
+ghost use Rattle.encoding.specs.Calls.{coding, wrong_length, foreign_from, pick_ground};
 ghost use Rattle.words.specs.Answers.{of_coding, WritesWord, WritesMirror, Picked};
 ghost use Rattle.words.specs.Needs.{none_applies};
 
-use letters::Place;
 use ranks::Code;
-use settings::{Checked, Filling, Refusal};
+use settings::Refusal;
 
-// What coding a word answers: its code, or why it is refused.
-#[derive(Clone, Copy)]
-pub enum Coding {
-    Coded(Code),
-    Refused(Refusal),
+// Ground 5, where a word's length is not k.
+fn check_length(word: &[u8], k: usize) -> Result<(), Refusal>
+    ensures { fault_of result ≡ ground 5 (wrong_length k word.now) }
+{
+    if word.len() == k {
+        Ok(())
+    } else {
+        Err(Refusal::WrongLength)
+    }
+}
+
+// Ground 7, where a lent buffer has less room than k bytes.
+fn check_room(room: usize, k: usize) -> Result<(), Refusal>
+    ensures { fault_of result ≡ ground_at 7 (too_short room k) }
+{
+    if room < k {
+        Err(Refusal::ShortBuffer(k))
+    } else {
+        Ok(())
+    }
+}
+
+// Ground 9, where a byte of a word is no letter.
+fn check_letters(letters: &[u8], word: &[u8]) -> Result<(), Refusal>
+    ensures { fault_of result ≡ ground_at 9 (foreign_from letters.now 0 word.now) }
+{
+    match letters::foreign_at(letters, word) {
+        Some(i) => Err(Refusal::ForeignByte(i)),
+        None => Ok(()),
+    }
 }
 
 // The code of a word. Refused by the first of the grounds 1, 2, 4, 5 and 9.
-pub fn code_of(letters: &[u8], k: usize, mirror: u64, word: &[u8]) -> Coding
+pub fn code_of(letters: &[u8], k: usize, mirror: u64, word: &[u8]) -> Result<Code, Refusal>
     ensures { of_coding result ≡ coding letters.now k mirror word.now }
 {
-    match settings::check(letters, k, mirror) {
-        Checked::Bad(f) => Coding::Refused(f),
-        Checked::Good(st) => {
-            if word.len() != k {
-                return Coding::Refused(Refusal::WrongLength);
-            }
-            let m = st.mirror;
-            match letters::foreign_at(letters, word) {
-                Place::At(i) => Coding::Refused(Refusal::ForeignByte(i)),
-                Place::Nowhere => Coding::Coded(letters::word_code(letters, word, m)),
-            }
-        }
-    }
+    let st = settings::check(letters, k, mirror)?;
+    check_length(word, k)?;
+    check_letters(letters, word)?;
+    Ok(letters::word_code(letters, word, st.mirror))
 }
 
 // Writes the canonical word with a code, in capitals, to the first k bytes of out. Refused by the first of the grounds 1, 2, 4, 7 and 8.
-pub fn word_of(letters: &[u8], k: usize, mirror: u64, q: Code, out: &mut [u8]) -> Filling
-    ensures { WritesWord letters.now k mirror q.0 out.old (of_filling result) out.new }
+pub fn word_of(
+    letters: &[u8],
+    k: usize,
+    mirror: u64,
+    q: Code,
+    out: &mut [u8],
+) -> Result<usize, Refusal>
+    ensures { WritesWord letters.now k mirror q.0 out.old (outcome_of result) out.new }
 {
-    match settings::check(letters, k, mirror) {
-        Checked::Bad(f) => Filling::Unfilled(f),
-        Checked::Good(st) => {
-            if out.len() < k {
-                return Filling::Unfilled(Refusal::ShortBuffer(k));
-            }
-            if q.0 >= st.classes {
-                return Filling::Unfilled(Refusal::NoSuchCode);
-            }
-            let m = st.mirror;
-            letters::write_word(letters, k, m, q.0, out);
-            Filling::Filled(k)
-        }
+    let st = settings::check(letters, k, mirror)?;
+    check_room(out.len(), k)?;
+    if q.0 >= st.classes {
+        return Err(Refusal::NoSuchCode);
     }
+    letters::write_word(letters, k, st.mirror, q.0, out);
+    Ok(k)
 }
 
 // Writes a word's mirror, in capitals, to the first k bytes of out. Refused by the first of the grounds 1, 2, 4, 5, 7 and 9.
-pub fn mirror_of(letters: &[u8], k: usize, mirror: u64, word: &[u8], out: &mut [u8]) -> Filling
-    ensures { WritesMirror letters.now k mirror word.now out.old (of_filling result) out.new }
+pub fn mirror_of(
+    letters: &[u8],
+    k: usize,
+    mirror: u64,
+    word: &[u8],
+    out: &mut [u8],
+) -> Result<usize, Refusal>
+    ensures { WritesMirror letters.now k mirror word.now out.old (outcome_of result) out.new }
 {
-    match settings::check(letters, k, mirror) {
-        Checked::Bad(f) => Filling::Unfilled(f),
-        Checked::Good(st) => {
-            if word.len() != k {
-                return Filling::Unfilled(Refusal::WrongLength);
-            }
-            if out.len() < k {
-                return Filling::Unfilled(Refusal::ShortBuffer(k));
-            }
-            let m = st.mirror;
-            match letters::foreign_at(letters, word) {
-                Place::At(i) => Filling::Unfilled(Refusal::ForeignByte(i)),
-                Place::Nowhere => {
-                    letters::write_mirror(letters, word, m, out);
-                    Filling::Filled(k)
-                }
-            }
-        }
-    }
+    let st = settings::check(letters, k, mirror)?;
+    check_length(word, k)?;
+    check_room(out.len(), k)?;
+    check_letters(letters, word)?;
+    letters::write_mirror(letters, word, st.mirror, out);
+    Ok(k)
 }
 
-// Whether no ground applies to coding a word.
-fn can_code(letters: &[u8], k: usize, mirror: u64, word: &[u8]) -> bool
-    ensures { result ≡ none_applies (code_ground letters.now k mirror word.now) }
+// Whether no ground applies to coding either of two words.
+fn can_pick(letters: &[u8], k: usize, mirror: u64, first: &[u8], second: &[u8]) -> bool
+    ensures { result ≡ none_applies (pick_ground letters.now k mirror first.now second.now) }
 {
-    match code_of(letters, k, mirror, word) {
-        Coding::Coded(_) => true,
-        Coding::Refused(_) => false,
-    }
+    code_of(letters, k, mirror, first).is_ok() && code_of(letters, k, mirror, second).is_ok()
 }
 
 // The one of two words with the lower plain rank, the first if they are equal; an empty part of the first where coding either is refused.
@@ -106,10 +110,7 @@ pub fn pick<'a>(
 ) -> &'a [u8]
     ensures { Picked letters.now k mirror first.entry second.entry result }
 {
-    if !can_code(letters, k, mirror, first) {
-        return &first[..0];
-    }
-    if !can_code(letters, k, mirror, second) {
+    if !can_pick(letters, k, mirror, first, second) {
         return &first[..0];
     }
     if letters::plain_of(letters, first).0 <= letters::plain_of(letters, second).0 {

@@ -1,51 +1,37 @@
--- `words::mirror_of` meets its contract: a ground at each test, with the buffer as it was, and else the mirror.
-use mathlib.Core.Path.{◌≡◌, sym, ap, ◌∙◌}
-use native.Mathlib.Omega.{arith}
-use borrow.Author.Rules.{rules}
-use Rattle.settings.specs.Grounds.{given, outcome}
-use Rattle.settings.specs.Settings.{of_checked, settings_ground, settings_of}
-use Rattle.words.specs.Answers.{of_place}
+-- `words::mirror_of` meets its contract: a ground at each check, with the buffer as it was, and else the mirror (MirrorAnswers).
+use Rattle.std.proofs.Common.{arith}
+use Rattle.settings.proofs.Outcomes.{passed_on}
+use Rattle.words.proofs.CallGrounds.{length_right, room_there}
 use Rattle.words.proofs.CodeAnswers.{word_within}
-use Rattle.words.proofs.MirrorAnswers.{mirror_bad_length, mirror_into_short, mirror_bad_settings, mirror_bad_byte, mirror_written_out}
+use Rattle.words.proofs.MirrorAnswers.{mirror_bad_settings, mirror_bad_length, mirror_into_short, mirror_bad_byte, mirror_written_out}
 use Rattle.words.proofs.mirror_of.Goals as goal
 
-pub returns-then-word-k : goal.returns-then-word-k
-returns-then-word-k c =
-    let PassedFrom : Type 0 = let a = c.args in given c.in-Good.st ≡ outcome (settings_ground a.letters.now a.k a.mirror) (settings_of a.letters.now a.k a.mirror) in
-    let passed : PassedFrom = sym (ap of_checked c.in-Good.is) ∙ c.check.ensures in
-    mirror_bad_length _ _ _ _ _ _ passed c.if-word-k.true
+pub returns-in_err-st : goal.returns-in_err-st
+returns-in_err-st c = rw (passed_on _ _ c.from_residual.ensures.1) (mirror_bad_settings _ _ _ _ _ _ c.in_err-st.ensures)
 
-pub returns-then-out-k : goal.returns-then-out-k
-returns-then-out-k c =
-    let PassedFrom : Type 0 = let a = c.args in given c.in-Good.st ≡ outcome (settings_ground a.letters.now a.k a.mirror) (settings_of a.letters.now a.k a.mirror) in
-    let passed : PassedFrom = sym (ap of_checked c.in-Good.is) ∙ c.check.ensures in
-    mirror_into_short _ _ _ _ _ _ passed c.if-word-k.false c.if-out-k.true
+pub returns-in_err-check_length : goal.returns-in_err-check_length
+returns-in_err-check_length c =
+    rw (passed_on _ _ c.from_residual-in_err-check_length.ensures.1)
+    (mirror_bad_length _ _ _ _ _ _ c.in_ok-st.ensures _ c.in_err-check_length.ensures)
 
-pub enum_told-1 : goal.enum_told-1
-enum_told-1 c = search rules
+pub returns-in_err-check_room : goal.returns-in_err-check_room
+returns-in_err-check_room c =
+    rw (passed_on _ _ c.from_residual-in_err-check_room.ensures.1)
+    (mirror_into_short _ _ _ _ _ _ c.in_ok-st.ensures c.in_ok-check_length.ensures _ c.in_err-check_room.ensures)
+
+pub returns-in_err-check_letters : goal.returns-in_err-check_letters
+returns-in_err-check_letters c =
+    rw (passed_on _ _ c.from_residual-in_err-check_letters.ensures.1)
+    (mirror_bad_byte _ _ _ _ _ _ c.in_ok-st.ensures c.in_ok-check_length.ensures c.in_ok-check_room.ensures _ c.in_err-check_letters.ensures)
 
 pub write_mirror-requires : goal.write_mirror-requires
 write_mirror-requires c =
-    let PassedFrom : Type 0 = let a = c.args in given c.in-Good.st ≡ outcome (settings_ground a.letters.now a.k a.mirror) (settings_of a.letters.now a.k a.mirror) in
-    let passed : PassedFrom = sym (ap of_checked c.in-Good.is) ∙ c.check.ensures in
-    let a = c.args in
-    let within = word_within a.letters.now a.k a.mirror a.word.now _ passed c.if-word-k.false in
-    (within, omega (arith, c.if-word-k.false, c.if-out-k.false))
+    let a = c.args in (
+      word_within a.letters.now a.k a.mirror a.word.now _ c.in_ok-st.ensures c.in_ok-check_length.ensures,
+      omega (arith, length_right a.k a.word.now c.in_ok-check_length.ensures, room_there _ _ c.in_ok-check_room.ensures),
+    )
 
-pub returns-in-Bad : goal.returns-in-Bad
-returns-in-Bad c =
-    mirror_bad_settings _ _ _ _ _ _ (sym (ap of_checked c.in-Bad.is) ∙ c.check.ensures)
-
-pub returns-in-At : goal.returns-in-At
-returns-in-At c =
-    let PassedFrom : Type 0 = let a = c.args in given c.in-Good.st ≡ outcome (settings_ground a.letters.now a.k a.mirror) (settings_of a.letters.now a.k a.mirror) in
-    let passed : PassedFrom = sym (ap of_checked c.in-Good.is) ∙ c.check.ensures in
-    mirror_bad_byte _ _ _ _ _ _ passed c.if-word-k.false c.if-out-k.false _
-    (sym c.foreign_at.ensures ∙ ap of_place c.in-At.is)
-
-pub returns-in-Nowhere : goal.returns-in-Nowhere
-returns-in-Nowhere c =
-    let PassedFrom : Type 0 = let a = c.args in given c.in-Good.st ≡ outcome (settings_ground a.letters.now a.k a.mirror) (settings_of a.letters.now a.k a.mirror) in
-    let passed : PassedFrom = sym (ap of_checked c.in-Good.is) ∙ c.check.ensures in
-    mirror_written_out _ _ _ _ _ _ passed c.if-word-k.false c.if-out-k.false
-    (sym c.foreign_at.ensures ∙ ap of_place c.in-Nowhere.is) _ c.write_mirror.ensures
+pub returns : goal.returns
+returns c =
+    mirror_written_out _ _ _ _ _ _ c.in_ok-st.ensures c.in_ok-check_length.ensures c.in_ok-check_room.ensures c.in_ok-check_letters.ensures _
+    c.write_mirror.ensures
