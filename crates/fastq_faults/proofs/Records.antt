@@ -9,7 +9,7 @@ use native.Mathlib.Omega.{arith}
 use lib.ListN.{length, take, drop, length-drop}
 use borrow.Author.Tests.{eq-eqb, ne_eqb}
 use Rattle.lines.specs.Lines.{lines, text_of, first_byte_is}
-use Rattle.lines.proofs.Lines.{first_of, rest_of, first_of_lines, lines_behind, lines_next, lines_end, line_inside, first_some}
+use Rattle.lines.proofs.Lines.{first_of, rest_of, first_of_lines, lines_behind, lines_next, lines_end, line_inside, first_some, first_byte}
 use Rattle.lines.proofs.Texts.{text_is_part, text_short}
 use Rattle.settings.specs.Grounds.{Ground, ground_at, ◌or_else◌}
 use Rattle.settings.proofs.Outcomes.{or_none}
@@ -25,12 +25,12 @@ module _ (n at : ℕ) (text : List ℕ) where
   length_differs ne = rw (ne_eqb (length text) n ne)
 
   -- Where the lengths agree, the first byte outside.
-  pub length_agrees : (o : Option ℕ) → length text ≡ n → o ≡ first_failing is_quality at text → ground_at 17 o ≡ quality_ground n at text
+  pub length_agrees : (o : Option ℕ) → length text ≡ n → first_failing is_quality at text ≡ o → ground_at 17 o ≡ quality_ground n at text
   unfolding quality_ground unless_at
   length_agrees o e h = rw (h, eq-eqb (length text) n e)
 
 -- The first stray byte, and where there is none the grounds of the quality text.
-pub stray_or_quality : (from at : ℕ) (s q : List ℕ) (o : Option ℕ) → o ≡ first_failing is_letter from s
+pub stray_or_quality : (from at : ℕ) (s q : List ℕ) (o : Option ℕ) → first_failing is_letter from s ≡ o
     → ground_at 10 o or_else quality_ground (length s) at q ≡ text_ground from s at q
 unfolding text_ground
 stray_or_quality from at s q o e = rw e
@@ -49,20 +49,20 @@ not_there (b ∷ l) h = absurd (omega arith)
 
 -- Its header line starts at h, the other three at s, p and q, and what follows it at e.
 module _ {f : List ℕ} {h s p q e : ℕ} (L : LinesAt f h s p q e) where
-  pub first_lacks : false ≡ first_byte_is 64 (line_at f h) → Some (15, h) ≡ record_at f h s p q
+  pub first_lacks : false ≡ first_byte_is 64 (drop h f) → Some (15, h) ≡ record_at f h s p q
   unfolding record_fault unless_at
-  first_lacks x = rw (sym x)
+  first_lacks x = rw (sym (x ∙ first_byte 64 (drop h f)))
 
-  module _ (one : true ≡ first_byte_is 64 (line_at f h)) where
-    pub third_lacks : false ≡ first_byte_is 43 (line_at f p) → Some (15, p) ≡ record_at f h s p q
+  module _ (one : true ≡ first_byte_is 64 (drop h f)) where
+    pub third_lacks : false ≡ first_byte_is 43 (drop p f) → Some (15, p) ≡ record_at f h s p q
     unfolding record_fault unless_at
-    third_lacks x = rw (sym one, sym x, sym L.second, sym L.third)
+    third_lacks x = rw (sym (one ∙ first_byte 64 (drop h f)), sym (x ∙ first_byte 43 (drop p f)), sym L.second, sym L.third)
 
-    module _ (three : true ≡ first_byte_is 43 (line_at f p)) where
+    module _ (three : true ≡ first_byte_is 43 (drop p f)) where
       pub fourth_lacks : e ≤ q → Some (15, q) ≡ record_at f h s p q
       unfolding record_fault unless_at
       fourth_lacks x =
-          rw (sym one, sym three, not_there (line_at f q) (omega (arith, L.behind)), sym L.second, sym L.third, sym L.fourth)
+          rw (sym (one ∙ first_byte 64 (drop h f)), sym (three ∙ first_byte 43 (drop p f)), not_there (line_at f q) (omega (arith, L.behind)), sym L.second, sym L.third, sym L.fourth)
 
       -- Where all lines are there, the grounds of the texts.
       pub lines_there : q < e → (to end : ℕ) → to ≡ s + length (text_of (line_at f s)) → end ≡ q + length (text_of (line_at f q))
@@ -70,7 +70,7 @@ module _ {f : List ℕ} {h s p q e : ℕ} (L : LinesAt f h s p q e) where
       unfolding record_fault unless_at text_ground quality_ground
       lines_there x to end y z =
           let fourth = is_there_lem (line_at f q) (omega (arith, L.behind)) in
-          rw (sym (text_is_part f s to y), sym (text_is_part f q end z), sym one, sym three, fourth, sym L.second, sym L.third, sym L.fourth)
+          rw (sym (text_is_part f s to y), sym (text_is_part f q end z), sym (one ∙ first_byte 64 (drop h f)), sym (three ∙ first_byte 43 (drop p f)), fourth, sym L.second, sym L.third, sym L.fourth)
 
   -- The texts of the sequence line and of the quality line lie inside the file.
   pub texts_inside : (to end : ℕ) → to ≡ s + length (text_of (line_at f s)) → end ≡ q + length (text_of (line_at f q))
@@ -118,13 +118,20 @@ module _ {f : List ℕ} {h s p q e : ℕ} (L : LinesAt f h s p q e) where
       ap (fastq_fault h) (lines_next f h s L.second L.there) ∙ four_lines h (line_at f h) (lines (drop s f))
       ∙ rw (behind_q, ap first_of behind_p ∙ first_of_lines (drop q f), ap first_of behind_s ∙ first_of_lines (drop p f), first_of_lines (drop s f), total)
 
-  -- The same with what was found of the record.
-  pub found_step : (g : Option Ground) → g ≡ record_at f h s p q → fastq_fault h (lines (drop h f)) ≡ g or_else fastq_fault e (lines (drop e f))
-  found_step g x = record_step ∙ ap (λ (y : Option Ground). y or_else fastq_fault e (lines (drop e f))) (sym x)
-
   -- Each record has a byte.
-  pub goes_on : h < e
+  goes_on : h < e
   goes_on = omega (arith, first_some (drop h f) (omega (arith, length-drop h f, L.there)), L.second, L.third, L.fourth, L.behind)
+
+-- The same of a record of a file that starts at a place, where its own file and place are known by equations.
+module _ {f f' : List ℕ} {h h' s p q e : ℕ} (file : f' ≡ f) (start : h' ≡ h) (L : LinesAt f' h' s p q e) where
+  pub faulty_record : {g : Ground} → Some g ≡ record_at f' h' s p q → Some g ≡ fastq_fault h (lines (drop h f))
+  faulty_record x = rw (← file, ← start) (sym (record_step L ∙ rw (← x)))
+
+  pub clean_record : None ≡ record_at f' h' s p q → fastq_fault h (lines (drop h f)) ≡ fastq_fault e (lines (drop e f))
+  clean_record x = rw (← file, ← start) (record_step L ∙ rw (← x))
+
+  pub later_record : h < e
+  later_record = rw (← start) (goes_on L)
 
 -- No record is left.
 pub no_record : (f : List ℕ) (at : ℕ) → length f ≤ at → fastq_fault at (lines (drop at f)) ≡ None

@@ -1,28 +1,16 @@
--- How answers of functions below the calls are read, and what these functions ask of each other; no sentence of the documents rests on it.
-use Rattle.std.specs.Prelude.{◌≡◌, Bool, true, ◌&&◌, ◌||◌, List, ℕ, ◌+◌, ◌<◌, ◌≤◌, length, drop, get_or, eqb, leb}
-use Rattle.std.specs.Prelude.{Option, None, Some}
+-- What functions below the calls ask of each other; no sentence of the documents rests on it.
+use Rattle.std.specs.Prelude.{◌≡◌, Bool, true, List, ℕ, ◌+◌, ◌<◌, length, drop, get_or, eqb}
+use Rattle.std.specs.Prelude.{Option}
 use Rattle.lines.specs.Needs.{first_line}
 use Rattle.settings.specs.Grounds.{Ground, ground_at, ◌or_else◌}
 use Rattle.fasta.specs.File.{is_letter}
 use Rattle.fastq.specs.Fastq.{unless_at, first_failing, is_quality, record_fault}
-use Rattle.fastq_faults.specs.declared.Place.{Place}
-use Rattle.fastq_faults.specs.declared.Place.TheVariants.{Nowhere, At}
-use Rattle.fastq_faults.specs.declared.Ranges.{Ranges}
 
--- ---- bytes between two places
+-- ---- bytes that pass a test
 
--- A place, where there is one.
-abbrev pub of_place : Place → Option ℕ
-of_place Nowhere = None
-of_place (At p) = Some p
-
--- Whether a byte is in one of two ranges.
-abbrev pub in_ranges : Ranges → ℕ → Bool
-in_ranges r b = (leb r.low b && leb b r.high) || (leb r.low2 b && leb b r.high2)
-
--- Each byte from i up to e passes a test.
-pub record All (test : ℕ → Bool) (file : List ℕ) (i e : ℕ) : Type 0 where
-  pub bytes : (j : ℕ) → i ≤ j → j < e → test (get_or file j 0) ≡ true
+-- Each byte below a place passes, by what a test may answer.
+abbrev pub AllPass : (ℕ → Bool → Type 0) → List ℕ → ℕ → Type 0
+AllPass test text e = (k : ℕ) → k < e → test (get_or text k 0) true
 
 -- ---- records
 

@@ -3,160 +3,134 @@
 
 #![tactic(auto)]
 
-ghost use Rattle.std.specs.Prelude.{◌≡◌, true, ◌+◌, ◌-◌, ◌≤◌, length, take, drop};
-ghost use Rattle.settings.specs.Needs.{of_finding};
+ghost use Rattle.std.specs.Prelude.{◌≡◌, ℕ, true, false, ◌+◌, ◌^◌, ◌<◌, ◌≤◌, length, slice_index, MatchOption};
+ghost use Rattle.settings.specs.Grounds.{fault_of};
 ghost use Rattle.lines.specs.Lines.{lines};
-ghost use Rattle.fastq.specs.Fastq.{first_failing, fastq_fault};
-ghost use Rattle.fastq_faults.specs.Needs.{of_place, in_ranges, All, text_ground, quality_ground, LinesAt, record_at};
+ghost use Rattle.fastq.specs.Fastq.{fastq_fault};
+ghost use Rattle.fastq_faults.specs.Needs.{AllPass, quality_ground, text_ground, LinesAt, record_at};
 
-use settings::{Finding, Refusal};
+use settings::Refusal;
 
-// The first place where a test of bytes fails, if there is one.
-#[derive(Clone, Copy)]
-enum Place {
-    Nowhere,
-    At(usize),
-}
-
-// Two ranges of bytes, their ends included.
-#[derive(Clone, Copy)]
-struct Ranges {
-    low: u8,
-    high: u8,
-    low2: u8,
-    high2: u8,
-}
-
-// Whether a byte is in one of two ranges. No branch, so that the bytes of a block are judged at once.
-fn in_ranges(b: u8, ranges: Ranges) -> bool
-    ensures { result ≡ in_ranges ranges b }
+// Whether the bytes of a block all pass a test. No branch in the loop, so that they are judged at once.
+fn all_pass<F: Fn(u8) -> bool>(block: &[u8; 16], passes: &F) -> bool
+    requires { F.IsAlwaysCallable passes.now }
+    ensures { result ≡ true → AllPass (F.post passes.now) block.now 16 }
 {
-    ((ranges.low <= b) & (b <= ranges.high)) | ((ranges.low2 <= b) & (b <= ranges.high2))
-}
-
-// Whether the 16 bytes from i on are all in the ranges.
-fn all_in(file: &[u8], i: usize, ranges: Ranges) -> bool
-    requires { i + 16 ≤ length file.now }
-    ensures { result ≡ true → All (in_ranges ranges) file.now i (i + 16) }
-{
-    let mut good = true;
-    let mut j: usize = 0;
-    while j < 16 {
-        good = good & in_ranges(file[i + j], ranges);
-        j += 1;
+    let mut all = true;
+    for b in block {
+        all &= passes(*b);
     }
-    good
+    all
 }
 
-// The first byte between two places that is not in the ranges, byte by byte.
-fn outside_from(file: &[u8], from: usize, to: usize, ranges: Ranges) -> Place
-    requires { to ≤ length file.now }
-    ensures { of_place result ≡ first_failing (in_ranges ranges) from (take (to - from) (drop from file.now)) }
+// The first place of a text whose byte fails a test, if there is one: past the blocks of 16 bytes that all pass, and then byte by byte.
+fn first_failing<F: Fn(u8) -> bool>(text: &[u8], passes: F) -> Option<usize>
+    requires { F.IsAlwaysCallable passes }
+    ensures { MatchOption result (AllPass (F.post passes) text.now (length text.now))
+        (λ p. (p < length text.now) × F.post passes (slice_index text.now p) false × AllPass (F.post passes) text.now p) }
 {
-    let mut i = from;
-    while i < to {
-        if !in_ranges(file[i], ranges) {
-            return Place::At(i);
-        }
-        i += 1;
-    }
-    Place::Nowhere
-}
-
-// The same, 16 bytes at a time where all are in the ranges.
-fn outside(file: &[u8], from: usize, to: usize, ranges: Ranges) -> Place
-    requires { (from ≤ to) × (to ≤ length file.now) }
-    ensures { of_place result ≡ first_failing (in_ranges ranges) from (take (to - from) (drop from file.now)) }
-{
-    let mut i = from;
-    while 16 <= to - i {
-        if !all_in(file, i, ranges) {
-            return outside_from(file, i, to, ranges);
+    let mut i = 0;
+    while let Some(block) = text[i..].first_chunk::<16>() {
+        if !all_pass(block, &passes) {
+            break;
         }
         i += 16;
     }
-    outside_from(file, i, to, ranges)
+    for (j, b) in text[i..].iter().enumerate() {
+        if !passes(*b) {
+            return Some(i + j);
+        }
+    }
+    None
 }
 
-// Grounds 16 and 17 of a record whose sequence text has `count` bytes and whose quality text goes from `at` up to `end`.
-fn quality_fault(file: &[u8], count: usize, at: usize, end: usize) -> Finding
-    requires { (at ≤ end) × (end ≤ length file.now) }
-    ensures { of_finding result ≡ quality_ground count at (take (end - at) (drop at file.now)) }
+// Grounds 16 and 17 of a record whose sequence text has `count` bytes, of its quality text, which stands at `at`.
+fn quality_fault(count: usize, quality: &[u8], at: usize) -> Result<(), Refusal>
+    requires { at + length quality.now < 2 ^ 64 }
+    ensures { fault_of result ≡ quality_ground count at quality.now }
 {
-    if end - at != count {
-        return Finding::Faulty(Refusal::QualityLength(at));
+    if quality.len() != count {
+        return Err(Refusal::QualityLength(at));
     }
-    // one range, twice
-    let qualities = Ranges {
-        low: 33,
-        high: 126,
-        low2: 33,
-        high2: 126,
-    };
-    match outside(file, at, end, qualities) {
-        Place::At(i) => Finding::Faulty(Refusal::QualityByte(i)),
-        Place::Nowhere => Finding::Clean,
+    match first_failing(quality, |b| (33..=126).contains(&b)) {
+        Some(p) => Err(Refusal::QualityByte(at + p)),
+        None => Ok(()),
     }
 }
 
-// Grounds 10, 16 and 17 of a record, of its sequence text from `from` up to `to` and its quality text from `at` up to `end`.
-fn text_fault(file: &[u8], from: usize, to: usize, at: usize, end: usize) -> Finding
-    requires { (from ≤ to) × (to ≤ length file.now) × (at ≤ end) × (end ≤ length file.now) }
-    ensures { of_finding result
-        ≡ text_ground from (take (to - from) (drop from file.now)) at (take (end - at) (drop at file.now)) }
+// Grounds 10, 16 and 17 of a record, of its sequence text, which stands at `from`, and its quality text, which stands at `at`.
+fn text_fault(sequence: &[u8], from: usize, quality: &[u8], at: usize) -> Result<(), Refusal>
+    requires { (from + length sequence.now < 2 ^ 64) × (at + length quality.now < 2 ^ 64) }
+    ensures { fault_of result ≡ text_ground from sequence.now at quality.now }
 {
-    let letters = Ranges {
-        low: b'A',
-        high: b'Z',
-        low2: b'a',
-        high2: b'z',
-    };
-    match outside(file, from, to, letters) {
-        Place::At(i) => Finding::Faulty(Refusal::StrayByte(i)),
-        Place::Nowhere => quality_fault(file, to - from, at, end),
+    match first_failing(sequence, |b| b.is_ascii_alphabetic()) {
+        Some(p) => Err(Refusal::StrayByte(from + p)),
+        None => quality_fault(sequence.len(), quality, at),
     }
 }
 
-// The first fault of a record, given the places of its four lines and the place behind it. A line that the file lacks starts at the file's end.
-fn record_fault(
-    file: &[u8],
+// A record of a file: the places of its four lines and the place behind it. A line that the file lacks starts at the file's end.
+#[derive(Drop)]
+struct Record<'a> {
+    file: &'a [u8],
     header: usize,
     sequence: usize,
     plus: usize,
     quality: usize,
     after: usize,
-) -> Finding
-    requires { LinesAt file.now header sequence plus quality after }
-    ensures { of_finding result ≡ record_at file.now header sequence plus quality }
-{
-    if !lines::byte_is(file, header, b'@') {
-        return Finding::Faulty(Refusal::BadRecord(header));
-    }
-    if !lines::byte_is(file, plus, b'+') {
-        return Finding::Faulty(Refusal::BadRecord(plus));
-    }
-    if after <= quality {
-        return Finding::Faulty(Refusal::BadRecord(quality));
-    }
-    let to = lines::text_end(file, sequence, plus);
-    let end = lines::text_end(file, quality, after);
-    text_fault(file, sequence, to, quality, end)
+    ghost lines: { LinesAt file.now header sequence plus quality after },
 }
 
-// The first fault of a FASTQ file, record by record.
-pub fn fastq_fault(file: &[u8]) -> Finding
-    ensures { of_finding result ≡ fastq_fault 0 (lines file.now) }
-{
-    let mut header: usize = 0;
-    while header < file.len() {
+impl<'a> Record<'a> {
+    fn at(file: &'a [u8], header: usize) -> Record<'a>
+        requires { header < length file.now }
+        ensures file { result.file.now ≡ file.now }
+        ensures header { result.header ≡ header }
+    {
         let sequence = lines::after_line(file, header);
         let plus = lines::after_line(file, sequence);
         let quality = lines::after_line(file, plus);
         let after = lines::after_line(file, quality);
-        match record_fault(file, header, sequence, plus, quality, after) {
-            Finding::Faulty(f) => return Finding::Faulty(f),
-            Finding::Clean => header = after,
+        Record {
+            file,
+            header,
+            sequence,
+            plus,
+            quality,
+            after,
         }
     }
-    Finding::Clean
+
+    // Its first fault.
+    fn fault(&self) -> Result<(), Refusal>
+        ensures { fault_of result ≡ record_at self.now.file.now self.now.header self.now.sequence self.now.plus self.now.quality }
+    {
+        if !lines::byte_is(self.file, self.header, b'@') {
+            return Err(Refusal::BadRecord(self.header));
+        }
+        if !lines::byte_is(self.file, self.plus, b'+') {
+            return Err(Refusal::BadRecord(self.plus));
+        }
+        if self.after <= self.quality {
+            return Err(Refusal::BadRecord(self.quality));
+        }
+        let to = lines::text_end(self.file, self.sequence, self.plus);
+        let end = lines::text_end(self.file, self.quality, self.after);
+        let sequence = &self.file[self.sequence..to];
+        let quality = &self.file[self.quality..end];
+        text_fault(sequence, self.sequence, quality, self.quality)
+    }
+}
+
+// The first fault of a FASTQ file, record by record.
+pub fn fastq_fault(file: &[u8]) -> Result<(), Refusal>
+    ensures { fault_of result ≡ fastq_fault 0 (lines file.now) }
+{
+    let mut header: usize = 0;
+    while header < file.len() {
+        let record = Record::at(file, header);
+        record.fault()?;
+        header = record.after;
+    }
+    Ok(())
 }

@@ -1,43 +1,30 @@
 -- `fastq_faults::fastq_fault` meets its contract. The invariant: the file's first fault is the first from the record at `header` on.
-use mathlib.Core.Path.{refl, sym, ap, ◌∙◌}
+use mathlib.Core.Path.{◌≡◌, sym, ◌∙◌}
+use Rattle.std.specs.Prelude.{Some, Result}
+use Rattle.std.specs.Result.{IsErrAnd}
+use Rattle.std.proofs.lemmas.Result.{err_from_is_err_and}
+use Rattle.settings.specs.declared.Refusal.{Refusal}
+use Rattle.settings.specs.Grounds.{fault_of, ground_of}
 use native.Mathlib.Omega.{arith}
-use borrow.Author.Rules.{rules}
-use Rattle.settings.specs.Needs.{of_finding}
-use Rattle.fastq_faults.specs.Needs.{LinesAt}
-use Rattle.fastq_faults.proofs.Records.{found_step, goes_on, no_record}
+use Rattle.fastq_faults.proofs.Records.{faulty_record, clean_record, later_record, no_record}
 use Rattle.fastq_faults.proofs.fastq_fault.Goals as goal
 
-pub loop-header-init : goal.loop-header-init
-loop-header-init c = refl
+-- What the `?` returns where a record is at fault: that fault.
+passed_on : (r : Result (Unit {0}) Refusal) (f : Refusal) → IsErrAnd r (λ x. x ≡ f) → fault_of r ≡ Some (ground_of f)
+passed_on r f e = let (x, is, same) = err_from_is_err_and r e in rw (is, same)
 
-pub record_fault-requires : goal.record_fault-requires
-record_fault-requires c =
-    let PlacesFrom : Type 0 = LinesAt c.args.file.now c.loop-header.header c.after_line-sequence.result c.after_line-plus.result c.after_line-quality.result c.after_line-after.result in
-    let places : PlacesFrom = record { there = c.loop-header-test.true; second = c.after_line-sequence.ensures; third = c.after_line-plus.ensures; fourth = c.after_line-quality.ensures; behind = c.after_line-after.ensures } in
-    places
-
-pub returns-in-Faulty : goal.returns-in-Faulty
-returns-in-Faulty c =
-    let PlacesFrom : Type 0 = LinesAt c.args.file.now c.loop-header.header c.after_line-sequence.result c.after_line-plus.result c.after_line-quality.result c.after_line-after.result in
-    let places : PlacesFrom = record { there = c.loop-header-test.true; second = c.after_line-sequence.ensures; third = c.after_line-plus.ensures; fourth = c.after_line-quality.ensures; behind = c.after_line-after.ensures } in
-    let finding = sym (ap of_finding c.in-Faulty.is) ∙ c.record_fault.ensures in
-    sym (c.loop-header.invariant ∙ found_step places _ finding)
-
-pub enum_told-1 : goal.enum_told-1
-enum_told-1 c = search rules
+pub returns-in_err-fault : goal.returns-in_err-fault
+returns-in_err-fault c =
+    let r = c.at-record in
+    passed_on _ _ c.from_residual.ensures.1 ∙ faulty_record r.ensures.file r.ensures.header r.result.lines c.in_err-fault.ensures ∙ sym c.loop-header.invariant
 
 pub loop-header-smaller : goal.loop-header-smaller
-loop-header-smaller c =
-    let PlacesFrom : Type 0 = LinesAt c.args.file.now c.loop-header.header c.after_line-sequence.result c.after_line-plus.result c.after_line-quality.result c.after_line-after.result in
-    let places : PlacesFrom = record { there = c.loop-header-test.true; second = c.after_line-sequence.ensures; third = c.after_line-plus.ensures; fourth = c.after_line-quality.ensures; behind = c.after_line-after.ensures } in
-    omega (arith, goes_on places)
+loop-header-smaller c = omega (arith, later_record c.at-record.ensures.file c.at-record.ensures.header c.at-record.result.lines)
 
 pub loop-header-preserved : goal.loop-header-preserved
 loop-header-preserved c =
-    let PlacesFrom : Type 0 = LinesAt c.args.file.now c.loop-header.header c.after_line-sequence.result c.after_line-plus.result c.after_line-quality.result c.after_line-after.result in
-    let places : PlacesFrom = record { there = c.loop-header-test.true; second = c.after_line-sequence.ensures; third = c.after_line-plus.ensures; fourth = c.after_line-quality.ensures; behind = c.after_line-after.ensures } in
-    let finding = sym (ap of_finding c.in-Clean.is) ∙ c.record_fault.ensures in
-    c.loop-header.invariant ∙ found_step places _ finding
+    let r = c.at-record in
+    c.loop-header.invariant ∙ clean_record r.ensures.file r.ensures.header r.result.lines c.in_ok-fault.ensures
 
 pub returns : goal.returns
 returns c = sym (c.loop-header.invariant ∙ no_record _ _ c.loop-header-test.false)

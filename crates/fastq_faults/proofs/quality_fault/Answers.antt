@@ -1,29 +1,26 @@
 -- `fastq_faults::quality_fault` meets its contract: the lengths first, then the bytes.
-use mathlib.Core.Path.{◌≡◌, sym, ap, ◌∙◌}
-use Prim.Native.Nat.{◌-◌}
-use lib.ListN.{length, take, drop}
-use Rattle.fastq_faults.specs.Needs.{of_place}
-use Rattle.fastq_faults.proofs.Searching.{part_length, outside_quality}
-use Rattle.fastq_faults.proofs.Records.{length_differs, length_agrees}
 use borrow.Author.Rules.{rules}
+use Rattle.std.specs.Prelude.{None}
+use Rattle.fastq.specs.Fastq.{is_quality}
+use Rattle.fastq_faults.proofs.Searching.{fails_at, fails_nowhere}
+use Rattle.fastq_faults.proofs.Records.{length_differs, length_agrees}
 use Rattle.fastq_faults.proofs.quality_fault.Goals as goal
 
-pub returns-then-end-at : goal.returns-then-end-at
-returns-then-end-at c =
-    let text-length : length (take (c.args.end - c.args.at) (drop c.args.at c.args.file.now)) ≡ c.args.end - c.args.at = part_length c.args.file.now c.args.at c.args.end c.requires.1 in
-    length_differs c.args.count c.args.at _ (λ e. c.if-end-at.true (sym text-length ∙ e))
+pub returns-then-quality-count : goal.returns-then-quality-count
+returns-then-quality-count c = length_differs c.args.count c.args.at c.args.quality.now c.if-quality-count.true
 
-pub enum_told-1 : goal.enum_told-1
-enum_told-1 c = search rules
+pub returns-in-Some : goal.returns-in-Some
+unfolding is_quality
+returns-in-Some c =
+    let a = c.args in
+    let found = c.in-Some.ensures in
+    let first = fails_at is_quality a.at a.quality.now c.in-Some.p found.0 (search rules) (λ k h. let passes = found.2 k h in search rules) in
+    length_agrees a.count a.at a.quality.now _ c.if-quality-count.false first
 
-pub returns-in-At : goal.returns-in-At
-returns-in-At c =
-    let text-length : length (take (c.args.end - c.args.at) (drop c.args.at c.args.file.now)) ≡ c.args.end - c.args.at = part_length c.args.file.now c.args.at c.args.end c.requires.1 in
-    let found = sym (ap of_place c.in-At.is) ∙ c.outside.ensures ∙ outside_quality _ _ in
-    length_agrees c.args.count c.args.at _ _ (text-length ∙ c.if-end-at.false) found
-
-pub returns-in-Nowhere : goal.returns-in-Nowhere
-returns-in-Nowhere c =
-    let text-length : length (take (c.args.end - c.args.at) (drop c.args.at c.args.file.now)) ≡ c.args.end - c.args.at = part_length c.args.file.now c.args.at c.args.end c.requires.1 in
-    let found = sym (ap of_place c.in-Nowhere.is) ∙ c.outside.ensures ∙ outside_quality _ _ in
-    length_agrees c.args.count c.args.at _ _ (text-length ∙ c.if-end-at.false) found
+pub returns-in-None : goal.returns-in-None
+unfolding is_quality
+returns-in-None c =
+    let a = c.args in
+    let all = c.in-None.ensures in
+    let none = fails_nowhere is_quality a.at a.quality.now (λ k h. let passes = all k h in search rules) in
+    length_agrees a.count a.at a.quality.now None c.if-quality-count.false none
