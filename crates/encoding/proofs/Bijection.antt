@@ -1,14 +1,10 @@
 -- The code by recursion is a bijection from the canonical words of n letters onto the numbers below the number of classes, and `word_of` its inverse:
 -- `coded` goes from the word to the code and back, `worded` from the code to the word and back, each by induction in steps of two letters.
-use mathlib.Core.Path.{◌≡◌, refl, sym, ap, ◌∙◌, subst}
-use mathlib.Core.List.{List, [], ◌∷◌, ◌++◌}
-use Prim.Native.Nat.{ℕ, zero, suc, ◌+◌, ◌-◌, ◌*◌, ◌/◌, ◌%◌, ◌^◌, ◌<◌, ◌≤◌}
-use native.Mathlib.Nat.{pow-zero, div-add-mod', div-add-mod, mod-lt, div-lt_iff_lt-mul, mul_comm}
+use Rattle.std.proofs.Common.{◌≡◌, refl, sym, ap, ◌∙◌, subst, List, [], ◌∷◌, ◌++◌, ℕ, zero, suc, ◌+◌, ◌-◌, ◌*◌, ◌/◌, ◌%◌, ◌^◌, ◌<◌, ◌≤◌, div-add-mod', mod-lt, div-lt_iff_lt-mul, mul_comm, arith, le-leb, length}
+use native.Mathlib.Nat.{pow-zero, div-add-mod}
 use native.Mathlib.Decide.{ℕ_discrete, dec_lt}
-use native.Mathlib.Omega.{arith}
-use borrow.Author.Tests.{le-leb, lt-leb}
+use borrow.Author.Tests.{lt-leb}
 use lib.Arith.{digits_div, digits_mod, digits_lt}
-use lib.ListN.{length}
 use Rattle.settings.specs.Settings.{half_up, is_odd, classes}
 use Rattle.laws.proofs.Powers.{pair_count, pow_pos}
 use Rattle.encoding.specs.Words.{Mirror, Reversal, Complement, Ranks, mirror_rank, plain}

@@ -1,13 +1,7 @@
 -- No value on the way to a code reaches s^k: the digits of a canonical word of k letters, read in base s, are below it.
-use mathlib.Core.Path.{◌≡◌}
-use mathlib.Core.List.{List, [], ◌∷◌, ◌++◌}
-use Prim.Native.Nat.{ℕ, suc, ◌+◌, ◌*◌, ◌^◌, ◌<◌, ◌≤◌}
-use native.Mathlib.Nat.{pow-zero, pow-suc, mul-le-mul_right, mul-le-mul_left}
+use Rattle.std.proofs.Common.{◌≡◌, List, [], ◌∷◌, ◌++◌, ℕ, suc, ◌+◌, ◌*◌, ◌^◌, ◌<◌, ◌≤◌, pow-suc, mul-le-mul_right, mul-le-mul_left, arith, eq-eqb, ne_eqb, eqb, length}
+use native.Mathlib.Nat.{pow-zero}
 use native.Mathlib.Decide.{ℕ_discrete}
-use native.Mathlib.Omega.{arith}
-use borrow.Author.Tests.{eq-eqb, ne_eqb}
-use lib.Dec.{eqb}
-use lib.ListN.{length}
 use Rattle.laws.proofs.Powers.{pair_count, square, pow-one, pow-two_more}
 use Rattle.encoding.specs.Words.{Mirror, Ranks, mirror_rank, plain}
 use Rattle.encoding.specs.Codes.{digits, pair_rank}

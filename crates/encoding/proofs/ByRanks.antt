@@ -1,15 +1,8 @@
 -- The code from numbers alone: the plain rank X of the canonical word, Y of its mirror, and the number p of equal outer pairs, by powers,
 -- quotients and remainders. By induction over the word from both ends.
-use mathlib.Core.Path.{◌≡◌, refl, sym, ap, ◌∙◌}
-use mathlib.Core.Bool.{Bool, true, false, cond}
-use mathlib.Core.List.{List, [], ◌∷◌, ◌++◌}
-use Prim.Native.Nat.{ℕ, zero, suc, ◌+◌, ◌-◌, ◌*◌, ◌%◌, ◌^◌, ◌<◌, ◌≤◌}
-use native.Mathlib.Nat.{pow-zero, pow-suc, div-one, mod-one, mod-lt, mod-eq_of_lt}
+use Rattle.std.proofs.Common.{◌≡◌, refl, sym, ap, ◌∙◌, Bool, true, false, cond, List, [], ◌∷◌, ◌++◌, ℕ, zero, suc, ◌+◌, ◌-◌, ◌*◌, ◌%◌, ◌^◌, ◌<◌, ◌≤◌, pow-suc, div-one, mod-lt, mod-eq_of_lt, arith, eq-eqb, ne_eqb, eqb, length, get_or, take, drop}
+use native.Mathlib.Nat.{pow-zero, mod-one}
 use native.Mathlib.Decide.{ℕ_discrete}
-use native.Mathlib.Omega.{arith}
-use borrow.Author.Tests.{eq-eqb, ne_eqb}
-use lib.Dec.{eqb}
-use lib.ListN.{length, get_or, take, drop}
 use Rattle.settings.specs.Settings.{classes}
 use Rattle.laws.proofs.Powers.{pow_pos, pow-one}
 use Rattle.laws.proofs.DigitWindows.{window, window_ends, window_first, window_inner, low_ends}

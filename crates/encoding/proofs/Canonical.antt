@@ -1,13 +1,9 @@
 -- The mirror and the canonical word by their ends: the mirror of a word is a word, a word is its mirror's mirror, and a word is canonical
 -- when its first letter is below the last one as the mirror shows it, or equal to it with a canonical word within.
-use mathlib.Core.Path.{◌≡◌, refl, ap, ◌∙◌}
-use mathlib.Core.List.{List, [], ◌∷◌, ◌++◌}
-use Prim.Native.Nat.{ℕ, suc, ◌+◌, ◌*◌, ◌^◌, ◌<◌, ◌≤◌}
-use native.Mathlib.Nat.{pow-zero, pow-suc, mul-le-mul_right, le_of_mul-le-mul_right}
+use Rattle.std.proofs.Common.{◌≡◌, refl, ap, ◌∙◌, List, [], ◌∷◌, ◌++◌, ℕ, suc, ◌+◌, ◌*◌, ◌^◌, ◌<◌, ◌≤◌, pow-suc, mul-le-mul_right, le_of_mul-le-mul_right, arith, length}
+use native.Mathlib.Nat.{pow-zero}
 use native.Mathlib.Decide.{dec_le}
-use native.Mathlib.Omega.{arith}
 use lib.Arith.{digits_lt}
-use lib.ListN.{length}
 use Rattle.encoding.specs.Words.{Mirror, Reversal, Complement, Ranks, mirror_rank, mirror, plain}
 use Rattle.encoding.proofs.Ends.{ends, Ranks-left, Ranks-right, Ranks-ends, plain-one, plain-ends, mirror-ends, length-mirror}
 

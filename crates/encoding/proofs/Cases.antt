@@ -1,12 +1,6 @@
 -- The starred cases of document 01, all of them, and the cases of document 02, K10 and K2, with more of their kind, as one check of the definitions by computing;
 -- the order of the word calls' grounds; the pick.
-use mathlib.Core.Path.{◌≡◌, refl}
-use mathlib.Core.Bool.{true, false}
-use Rattle.std.specs.Prelude.{Some}
-use mathlib.Core.List.{List, [], ◌∷◌, map}
-use Prim.Native.Nat.{ℕ, zero, suc}
-use native.Mathlib.Omega.{arith}
-use borrow.Author.Rules.{rules}
+use Rattle.std.proofs.Common.{◌≡◌, refl, true, false, Some, List, [], ◌∷◌, map, ℕ, zero, suc, arith, rules}
 use Prim.Native.String.{String}
 use Rattle.laws.specs.Text.{bytes}
 use Rattle.settings.specs.Grounds.{Outcome, given, refused}

@@ -1,12 +1,9 @@
 -- The number of classes, the number of palindromes and the shift, each from those of the word two letters shorter. With s^n written out,
 -- classes(n + 2) = s * classes(n) + s(s - 1)/2 * s^n: the words with equal outer letters, and those with a pair l < r. And those
 -- of one letter. In this crate proofs split on odd and even s only here: save those on palindromes, the laws that others cite hold for both.
-use mathlib.Core.Path.{◌≡◌, refl, ap}
-use mathlib.Core.Bool.{Bool, true, false, not, cond, ◌&&◌, false≢true}
-use Prim.Native.Nat.{ℕ, zero, suc, ◌+◌, ◌-◌, ◌*◌, ◌/◌, ◌%◌, ◌^◌, ◌<◌, ◌≤◌}
-use native.Mathlib.Nat.{pow-zero, pow-suc, pow-le-pow_right, div-eq_of_eq-mul_right}
-use native.Mathlib.Omega.{arith}
-use lib.Dec.{eqb}
+use Rattle.std.proofs.Common.{◌≡◌, refl, ap, Bool, true, false, not, cond, ◌&&◌, ℕ, zero, suc, ◌+◌, ◌-◌, ◌*◌, ◌/◌, ◌%◌, ◌^◌, ◌<◌, ◌≤◌, pow-suc, arith, eqb}
+use mathlib.Core.Bool.{false≢true}
+use native.Mathlib.Nat.{pow-zero, pow-le-pow_right, div-eq_of_eq-mul_right}
 use Rattle.settings.specs.Settings.{half_up, is_odd, classes}
 use Rattle.settings.proofs.Parity.{odd_is, even_is}
 use Rattle.laws.proofs.Powers.{pair_count, square, parity, even_pow, odd_pow, gap, pow-one, pow-two_more}

@@ -1,13 +1,8 @@
 -- The code of any word of k letters: its canonical word is one of the two, a word and its mirror have one code, two words have one code only
 -- when they are equal or mirrors, and the word of a code is the canonical word.
-use mathlib.Core.Path.{◌≡◌, refl, sym, ap, ◌∙◌}
-use mathlib.Core.List.{List}
-use mathlib.Core.Logic.{◌⊎◌, inl, inr, ⊎_elim}
-use Prim.Native.Nat.{ℕ, ◌<◌}
+use Rattle.std.proofs.Common.{◌≡◌, refl, sym, ap, ◌∙◌, List, ◌⊎◌, inl, inr, ⊎_elim, ℕ, ◌<◌, arith, le-leb, length}
 use native.Mathlib.Decide.{dec_le}
-use native.Mathlib.Omega.{arith}
-use borrow.Author.Tests.{le-leb, lt-leb}
-use lib.ListN.{length}
+use borrow.Author.Tests.{lt-leb}
 use Rattle.settings.specs.Settings.{classes}
 use Rattle.encoding.specs.Words.{Mirror, Ranks, mirror, plain, canonical}
 use Rattle.encoding.specs.Codes.{code_of_canonical, code}

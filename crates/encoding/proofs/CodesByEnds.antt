@@ -1,11 +1,7 @@
 -- The code of any word, canonical or not, from its ends: a ∷ (u ++ (b ∷ [])) with r the last letter as the mirror shows it. Where a = r, s times the
 -- code within plus a; where a < r or a > r, what the pair and the plain rank of u, or of its mirror, give. No whole words are compared.
-use mathlib.Core.Path.{◌≡◌, refl, sym, ap, ◌∙◌}
-use mathlib.Core.List.{List, [], ◌∷◌, ◌++◌}
-use Prim.Native.Nat.{ℕ, suc, ◌+◌, ◌-◌, ◌*◌, ◌/◌, ◌^◌, ◌<◌, ◌≤◌, min}
+use Rattle.std.proofs.Common.{◌≡◌, refl, sym, ap, ◌∙◌, List, [], ◌∷◌, ◌++◌, ℕ, suc, ◌+◌, ◌-◌, ◌*◌, ◌/◌, ◌^◌, ◌<◌, ◌≤◌, min, arith, length}
 use native.Mathlib.Decide.{dec_le}
-use native.Mathlib.Omega.{arith}
-use lib.ListN.{length}
 use Rattle.settings.specs.Settings.{classes}
 use Rattle.encoding.specs.Words.{Mirror, Reversal, Complement, Ranks, mirror_rank, mirror, plain}
 use Rattle.encoding.specs.Codes.{pair_rank, code}

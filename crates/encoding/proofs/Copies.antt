@@ -1,9 +1,6 @@
 -- Copies with T for U (document 02, K2) of words: where the settings have T and no U, a word and its copy are coded, mirrored and picked alike, refusals and
 -- their P included (`same_coding`, `same_mirroring`, `same_pick`), since their ranks are the same (`same_ranks`). Byte by byte.
-use mathlib.Core.Path.{◌≡◌, refl}
-use mathlib.Core.Bool.{true}
-use mathlib.Core.List.{List, [], ◌∷◌, map}
-use Prim.Native.Nat.{ℕ, suc}
+use Rattle.std.proofs.Common.{◌≡◌, refl, true, List, [], ◌∷◌, map, ℕ, suc}
 use Rattle.settings.specs.Settings.{reads_u_as_t}
 use Rattle.settings.specs.Copies.{t_for_u, CopyWithT}
 use Rattle.settings.proofs.Copies.{same_rank, same_of_copies, same_length}

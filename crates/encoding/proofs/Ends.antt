@@ -1,14 +1,11 @@
 -- A word from both ends: a ∷ (u ++ (b ∷ [])), where u is two letters shorter. The induction by it, and what each definition is at such a word,
 -- so that the laws of codes do without take, drop and get_or.
-use mathlib.Core.Path.{◌≡◌, sym, ap, ◌∙◌, subst, subst⁻¹}
-use mathlib.Core.Bool.{Bool, cond}
-use mathlib.Core.List.{List, [], ◌∷◌, ◌++◌, map, map-append, reverse, reverse-append, reverse-cons}
-use Prim.Native.Nat.{ℕ, zero, suc, ◌+◌, ◌*◌, ◌/◌, ◌%◌, ◌^◌, ◌<◌}
+use Rattle.std.proofs.Common.{◌≡◌, sym, ap, ◌∙◌, subst, Bool, cond, List, [], ◌∷◌, ◌++◌, map, reverse, ℕ, zero, suc, ◌+◌, ◌*◌, ◌/◌, ◌%◌, ◌^◌, ◌<◌, arith, eqb, length, get_or, take, drop, take-append-drop, length-append, take_at, take-suc, take_all, length-take-le}
+use mathlib.Core.Path.{subst⁻¹}
+use mathlib.Core.List.{map-append, reverse-append, reverse-cons}
 use native.Mathlib.Nat.{pow-zero}
-use native.Mathlib.Omega.{arith}
-use lib.Dec.{eqb}
-use lib.ListN.{length, get_or, take, drop, take-append-drop, length-append, length-map, length-reverse}
-use lib.Seq.{take_at, get_or_at, take-suc, take_all, length-take-le}
+use lib.ListN.{length-map, length-reverse}
+use lib.Seq.{get_or_at}
 use Rattle.laws.proofs.Each.{each_append}
 use Rattle.laws.proofs.Powers.{pow-one}
 use Rattle.encoding.specs.Words.{Mirror, Ranks, mirror_rank, mirror, plain}

@@ -1,14 +1,6 @@
 -- The number of equal outer pairs, found from the two plain ranks X and Y: their first p digits agree and the next ones differ.
-use mathlib.Core.Path.{◌≡◌, sym, ap, ◌∙◌}
-use mathlib.Core.Bool.{cond}
-use mathlib.Core.List.{List, [], ◌∷◌, ◌++◌}
-use mathlib.Core.Logic.{◌≢◌}
-use Prim.Native.Nat.{ℕ, zero, suc, ◌+◌, ◌-◌, ◌*◌, ◌/◌, ◌^◌, ◌<◌, ◌≤◌}
-use native.Mathlib.Omega.{arith}
-use borrow.Author.Tests.{eq-eqb, ne_eqb}
+use Rattle.std.proofs.Common.{◌≡◌, sym, ap, ◌∙◌, cond, List, [], ◌∷◌, ◌++◌, ◌≢◌, ℕ, zero, suc, ◌+◌, ◌-◌, ◌*◌, ◌/◌, ◌^◌, ◌<◌, ◌≤◌, arith, eq-eqb, ne_eqb, eqb, length}
 use lib.Arith.{digits_div}
-use lib.Dec.{eqb}
-use lib.ListN.{length}
 use Rattle.laws.proofs.DigitWindows.{prefix_ends, prefix_lt, digits-first, digits-rest}
 use Rattle.encoding.specs.Words.{Mirror, Ranks, mirror_rank, mirror, plain}
 use Rattle.encoding.specs.Needs.{equal_pairs}

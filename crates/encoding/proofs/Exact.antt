@@ -1,13 +1,9 @@
 -- No subtraction in the formulas of the encoding is cut off at 0, and each division by 2 in them is exact, as specs/Exact.antt states it: for R (`exact_rank`, in
 -- Pairs), for the shift, from two powers of s that differ by an even number, and for the number of classes and the odd-k subtraction, from `twice_classes` and
 -- `odd_palindromes`. The code of a word needs no others, since at each pair of a canonical word that is reached l ≤ r.
-use mathlib.Core.Path.{◌≡◌, ap}
-use mathlib.Core.Bool.{true, false, not, ◌&&◌, and-false}
-use mathlib.Core.List.{List, [], ◌∷◌, ◌++◌}
-use Prim.Native.Nat.{ℕ, zero, suc, ◌+◌, ◌-◌, ◌*◌, ◌/◌, ◌^◌, ◌<◌, ◌≤◌}
-use native.Mathlib.Omega.{arith}
-use lib.ListN.{length}
-use lib.Seq.{take_at, get_or_at}
+use Rattle.std.proofs.Common.{◌≡◌, ap, true, false, not, ◌&&◌, List, [], ◌∷◌, ◌++◌, ℕ, zero, suc, ◌+◌, ◌-◌, ◌*◌, ◌/◌, ◌^◌, ◌<◌, ◌≤◌, arith, length, take_at}
+use mathlib.Core.Bool.{and-false}
+use lib.Seq.{get_or_at}
 use Rattle.settings.specs.Settings.{half_up, is_odd, classes}
 use Rattle.settings.specs.Limits.{Limits}
 use Rattle.settings.proofs.Parity.{odd_is, even_is}

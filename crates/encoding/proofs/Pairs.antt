@@ -1,10 +1,7 @@
 -- The rank of a pair l < r < s is a bijection onto the numbers below s(s - 1)/2, and `pair_of_rank` its inverse.
-use mathlib.Core.Path.{◌≡◌, ap, ◌∙◌, subst⁻¹}
-use Prim.Native.Nat.{ℕ, zero, suc, ◌+◌, ◌-◌, ◌*◌, ◌<◌, ◌≤◌}
-use native.Mathlib.Nat.{mul-le-mul_right}
+use Rattle.std.proofs.Common.{◌≡◌, ap, ◌∙◌, ℕ, zero, suc, ◌+◌, ◌-◌, ◌*◌, ◌<◌, ◌≤◌, mul-le-mul_right, arith, lt-ltb, le-ltb}
+use mathlib.Core.Path.{subst⁻¹}
 use native.Mathlib.Decide.{dec_le}
-use native.Mathlib.Omega.{arith}
-use borrow.Author.Tests.{lt-ltb, le-ltb}
 use Rattle.laws.proofs.Powers.{pair_count, square}
 use Rattle.encoding.specs.Codes.{pair_rank}
 use Rattle.encoding.specs.Exact.{ExactRank}

@@ -1,15 +1,9 @@
 -- Palindromes have the lowest codes: a word of n letters is a palindrome exactly when its code is below the number of palindromes. First for
 -- canonical words, by induction from both ends; then for any word, whose canonical word is a palindrome with it.
-use mathlib.Core.Path.{◌≡◌, refl, sym, ap, ◌∙◌}
-use mathlib.Core.Logic.{⊎_elim, ◌↔◌}
-use mathlib.Core.List.{List, [], ◌∷◌, ◌++◌}
-use Prim.Native.Nat.{ℕ, suc, ◌-◌, ◌/◌, ◌<◌, ◌≤◌}
-use native.Mathlib.Nat.{pow-zero, mul-le-mul_left, lt_of_mul-lt-mul_left}
+use Rattle.std.proofs.Common.{◌≡◌, refl, sym, ap, ◌∙◌, ⊎_elim, ◌↔◌, List, [], ◌∷◌, ◌++◌, ℕ, suc, ◌-◌, ◌/◌, ◌<◌, ◌≤◌, mul-le-mul_left, arith, length, take, take_at}
+use native.Mathlib.Nat.{pow-zero, lt_of_mul-lt-mul_left}
 use native.Mathlib.Decide.{ℕ_discrete}
-use native.Mathlib.Omega.{arith}
 use lib.Arith.{digits_lt}
-use lib.ListN.{length, take}
-use lib.Seq.{take_at}
 use Rattle.settings.specs.Settings.{half_up, is_odd}
 use Rattle.laws.proofs.Powers.{pow-one}
 use Rattle.encoding.specs.Words.{Mirror, Reversal, Complement, Ranks, mirror_rank, mirror, canonical, Palindrome}

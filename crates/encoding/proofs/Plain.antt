@@ -1,11 +1,7 @@
 -- The word of a plain rank: it has the letters, the ranks and the plain rank asked, and gives back each word. So plain ranks tell words apart.
-use mathlib.Core.Path.{◌≡◌, refl, sym, ap, ◌∙◌, subst}
-use mathlib.Core.List.{List, [], ◌∷◌}
-use Prim.Native.Nat.{ℕ, zero, suc, ◌%◌, ◌^◌, ◌<◌}
-use native.Mathlib.Nat.{pow-zero, pow-succ', div-add-mod', mod-lt, div-lt_iff_lt-mul}
-use native.Mathlib.Omega.{arith}
+use Rattle.std.proofs.Common.{◌≡◌, refl, sym, ap, ◌∙◌, subst, List, [], ◌∷◌, ℕ, zero, suc, ◌%◌, ◌^◌, ◌<◌, div-add-mod', mod-lt, div-lt_iff_lt-mul, arith, length}
+use native.Mathlib.Nat.{pow-zero, pow-succ'}
 use lib.Arith.{digits_div, digits_mod}
-use lib.ListN.{length}
 use Rattle.laws.proofs.Powers.{pow_pos}
 use Rattle.encoding.specs.Words.{Ranks, plain}
 use Rattle.encoding.specs.WordsOfCodes.{word_of_plain}

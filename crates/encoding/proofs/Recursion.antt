@@ -1,16 +1,8 @@
 -- The code of a canonical word by recursion on the word two letters shorter. It is shown by addition: the value of the digits is that code with
 -- the shift and the odd-k subtraction added, so that natural subtraction enters once, at the end.
-use mathlib.Core.Path.{◌≡◌, refl, ap, ◌∙◌}
-use mathlib.Core.Bool.{Bool, true, false, cond}
-use mathlib.Core.List.{List, [], ◌∷◌, ◌++◌}
-use mathlib.Core.Logic.{◌≢◌}
-use Prim.Native.Nat.{ℕ, zero, suc, ◌+◌, ◌*◌, ◌/◌, ◌%◌, ◌^◌, ◌<◌, ◌≤◌}
-use native.Mathlib.Nat.{pow-suc, div-add-mod'}
-use native.Mathlib.Omega.{arith}
-use borrow.Author.Tests.{eqb-true, eq-eqb, ne_eqb}
-use lib.Dec.{eqb, eqb-suc-zero}
-use lib.ListN.{length, get_or, take, drop}
-use lib.Seq.{take_at, get_or_at}
+use Rattle.std.proofs.Common.{◌≡◌, refl, ap, ◌∙◌, Bool, true, false, cond, List, [], ◌∷◌, ◌++◌, ◌≢◌, ℕ, zero, suc, ◌+◌, ◌*◌, ◌/◌, ◌%◌, ◌^◌, ◌<◌, ◌≤◌, pow-suc, div-add-mod', arith, eqb-true, eq-eqb, ne_eqb, eqb, length, get_or, take, drop, take_at}
+use lib.Dec.{eqb-suc-zero}
+use lib.Seq.{get_or_at}
 use Rattle.settings.specs.Settings.{is_odd, classes}
 use Rattle.encoding.specs.Words.{Mirror, Reversal, Complement, Ranks, mirror_rank, plain}
 use Rattle.encoding.specs.Codes.{digits, differing_pair, pair_rank, shift, odd_shift, code_of_canonical}

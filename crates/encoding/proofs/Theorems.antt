@@ -1,11 +1,6 @@
 -- What is claimed of the encoding, for both mirrors and every number of letters and every k within the limits (`Limits`: 2 to 16 letters, s^k at
 -- most 2^62). Each theorem stands below its statement in words; docs/CLAIMS.md cites them by name.
-use mathlib.Core.Path.{◌≡◌, sym, ap, ◌∙◌}
-use mathlib.Core.Bool.{true, false, not, ◌&&◌}
-use mathlib.Core.List.{List, [], ◌∷◌}
-use mathlib.Core.Logic.{◌↔◌, ◌⊎◌, ⊎_elim}
-use Prim.Native.Nat.{ℕ, ◌+◌, ◌/◌, ◌^◌, ◌<◌, ◌≤◌}
-use native.Mathlib.Omega.{arith}
+use Rattle.std.proofs.Common.{◌≡◌, sym, ap, ◌∙◌, true, false, not, ◌&&◌, List, [], ◌∷◌, ◌↔◌, ◌⊎◌, ⊎_elim, ℕ, ◌+◌, ◌/◌, ◌^◌, ◌<◌, ◌≤◌, arith}
 use Rattle.settings.specs.Settings.{half_up, is_odd, classes}
 use Rattle.settings.specs.Limits.{Limits}
 use Rattle.encoding.specs.Words.{Mirror, Reversal, Complement, IsWord, mirror_rank, mirror, plain, canonical, Palindrome}

@@ -1,7 +1,6 @@
 -- Document 01, "Code of a word", "Word of a code, and the canonical pick" and "Grounds for refusing": words and codes as the calls take and give
 -- them, a byte for a letter and 0 or 1 for the mirror. Each call's grounds stand in number order.
-use Rattle.std.specs.Prelude.{ℕ, suc, Bool, not, List, [], ◌∷◌, map, length, get_or, eqb, leb, ltb}
-use Rattle.std.specs.Prelude.{Option, None, Some}
+use Rattle.std.specs.Prelude.{ℕ, suc, Bool, not, List, [], ◌∷◌, map, length, get_or, eqb, leb, ltb, Option, None, Some}
 use Rattle.settings.specs.Grounds.{Ground, Outcome, ground, ground_at, too_short, outcome, ◌or_else◌}
 use Rattle.settings.specs.Settings.{rank_in, mirror_of, classes, settings_ground}
 use Rattle.encoding.specs.Words.{mirror, plain}
