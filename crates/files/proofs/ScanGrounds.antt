@@ -9,8 +9,10 @@ use lib.ListN.{length}
 use borrow.Author.Tests.{lt-ltb, le-ltb}
 use Rattle.lines.specs.Lines.{lines}
 use Rattle.settings.specs.Grounds.{Ground, Outcome, given, refused, outcome}
+use Rattle.settings.specs.declared.Settings.{Settings}
 use Rattle.settings.specs.Settings.{rank_in, settings_ground, settings_of}
-use Rattle.settings.specs.RankTables.{rank_by_table, RankTable}
+use Rattle.settings.specs.RankTables.{rank_by_table, RanksOf}
+use Rattle.settings.specs.declared.RankTable.{RankTable}
 use Rattle.settings.proofs.Outcomes.{refused_on, passed, first_none}
 use Rattle.settings.proofs.SettingsGrounds.{good_settings}
 use Rattle.fasta.specs.declared.Mode.TheVariants.{FastqStart}
@@ -33,6 +35,17 @@ scan_clean f n e = rw (clean_items f (sym e), sym e)
 
 -- ---- both kinds
 
+-- Where the settings' check answers settings, so that no ground of theirs applies.
+module _ (letters : List ℕ) (k mirror : ℕ) {st : Settings} (checked : given st ≡ outcome (settings_ground letters k mirror) (settings_of letters k mirror)) where
+  none_applies : settings_ground letters k mirror ≡ None
+  none_applies = (passed (settings_of letters k mirror) (settings_ground letters k mirror) checked).none_applies_lem
+
+  pub few_letters : length letters ≤ 16
+  few_letters = (good_settings letters k mirror none_applies).few
+
+  pub some_k : 1 ≤ k
+  some_k = (good_settings letters k mirror none_applies).some_k
+
 module _ (letters : List ℕ) (k mirror : ℕ) (file : File) where
   abbrev answer : Outcome Numbers
   answer = outcome (scan_ground letters k mirror file) (file_numbers (rank_in letters) k file)
@@ -42,17 +55,21 @@ module _ (letters : List ℕ) (k mirror : ℕ) (file : File) where
   unfolding scan_ground
   bad_settings f e = refused_on f (settings_of letters k mirror) (file_numbers (rank_in letters) k file) (settings_ground letters k mirror) _ e
 
-  -- Where no ground of the settings applies.
-  module _ (good : settings_ground letters k mirror ≡ None) where
+  module _ {st : Settings} (checked : given st ≡ outcome (settings_ground letters k mirror) (settings_of letters k mirror)) where
     pub long_file : 16777216 < length file.bytes → refused (6, 0) ≡ answer
     unfolding scan_ground too_long
-    long_file h = rw (good, lt-ltb 16777216 (length file.bytes) h)
+    long_file h = rw (none_applies letters k mirror checked, lt-ltb 16777216 (length file.bytes) h)
 
     -- Past the length it is the file's first fault, or its numbers by a table of ranks.
-    pub scanned : (table : List ℕ) → RankTable letters table → length file.bytes ≤ 16777216
+    pub scanned : (table : RankTable) → RanksOf letters table → length file.bytes ≤ 16777216
         → outcome (file_fault file) (file_numbers (rank_by_table table) k file) ≡ answer
     unfolding scan_ground too_long
-    scanned table t h = rw (good, le-ltb 16777216 (length file.bytes) h, numbers_by_table letters table t k (start_of file.kind) file.bytes)
+    scanned table t h =
+        rw (
+          none_applies letters k mirror checked,
+          le-ltb 16777216 (length file.bytes) h,
+          numbers_by_table letters table t k (start_of file.kind) file.bytes,
+        )
 
 -- What a scan takes in adds up: letters = windows + foreign + edge, for every answer that is no refusal.
 pub taken_adds : (letters : List ℕ) (k mirror : ℕ) (file : File) (n : Numbers)

@@ -4,19 +4,18 @@
 
 ghost use Rattle.std.specs.Prelude.{◌≡◌, ◌≤◌, length};
 ghost use Rattle.lines.specs.Lines.{lines};
-ghost use Rattle.settings.specs.Grounds.{outcome};
+ghost use Rattle.settings.specs.Grounds.{outcome, outcome_of};
 ghost use Rattle.settings.specs.Settings.{rank_in};
 ghost use Rattle.settings.specs.RankTables.{rank_by_table};
 ghost use Rattle.fasta.specs.declared.Mode.TheVariants.{FastqStart};
 ghost use Rattle.fasta.specs.Items.{numbers_in};
 ghost use Rattle.fasta.specs.File.{items_from};
-ghost use Rattle.fasta.specs.Scan.{of_answer};
 ghost use Rattle.fastq.specs.Fastq.{fastq_fault};
 ghost use Rattle.files.specs.File.{file_of, start_of, file_fault, file_numbers};
 ghost use Rattle.files.specs.Scan.{scan_ground};
 
-use fasta::{Answer, Mode};
-use settings::{Checked, Finding, Refusal};
+use fasta::{Mode, Numbers};
+use settings::{RankTable, Refusal};
 
 // The kinds of sequence file.
 #[derive(Clone, Copy)]
@@ -26,15 +25,13 @@ pub enum Kind {
 }
 
 // A FASTQ file that is not too long, for settings that were checked: its numbers, or its first fault.
-fn scan_fastq(file: &[u8], ranks: &[u8; 256], k: usize) -> Answer
+fn scan_fastq(file: &[u8], ranks: &RankTable, k: usize) -> Result<Numbers, Refusal>
     requires { (length file.now ≤ 16777216) × (1 ≤ k) }
-    ensures { of_answer result
+    ensures { outcome_of result
         ≡ outcome (fastq_fault 0 (lines file.now)) (numbers_in (rank_by_table ranks.now) k (items_from FastqStart file.now)) }
 {
-    match fastq_faults::fastq_fault(file) {
-        Finding::Faulty(f) => Answer::Refused(f),
-        Finding::Clean => fasta::scan_items(file, Mode::FastqStart, ranks, k),
-    }
+    fastq_faults::fastq_fault(file)?;
+    fasta::scan_items(file, Mode::FastqStart, ranks, k)
 }
 
 // Where the first byte of a file stands.
@@ -48,9 +45,9 @@ pub fn start_of(kind: Kind) -> Mode
 }
 
 // A file of either kind that is not too long, for settings that were checked: its numbers, or its first fault.
-pub fn scan_file(kind: Kind, file: &[u8], ranks: &[u8; 256], k: usize) -> Answer
+pub fn scan_file(kind: Kind, file: &[u8], ranks: &RankTable, k: usize) -> Result<Numbers, Refusal>
     requires { (length file.now ≤ 16777216) × (1 ≤ k) }
-    ensures { of_answer result
+    ensures { outcome_of result
         ≡ outcome (file_fault (file_of kind file.now)) (file_numbers (rank_by_table ranks.now) k (file_of kind file.now)) }
 {
     match kind {
@@ -60,19 +57,21 @@ pub fn scan_file(kind: Kind, file: &[u8], ranks: &[u8; 256], k: usize) -> Answer
 }
 
 // A file's five numbers, or the first ground that applies: 1, 2, 4, then 6, then 10 or 11, of FASTQ 15, 10, 16 or 17.
-pub fn scan(kind: Kind, file: &[u8], letters: &[u8], k: usize, mirror: u64) -> Answer
-    ensures { of_answer result
+pub fn scan(
+    kind: Kind,
+    file: &[u8],
+    letters: &[u8],
+    k: usize,
+    mirror: u64,
+) -> Result<Numbers, Refusal>
+    ensures { outcome_of result
         ≡ outcome (scan_ground letters.now k mirror (file_of kind file.now))
         (file_numbers (rank_in letters.now) k (file_of kind file.now)) }
 {
-    match settings::check(letters, k, mirror) {
-        Checked::Bad(f) => Answer::Refused(f),
-        Checked::Good(_) => {
-            if file.len() > settings::MOST_BYTES {
-                return Answer::Refused(Refusal::TooLarge);
-            }
-            let ranks = settings::rank_table(letters);
-            scan_file(kind, file, &ranks, k)
-        }
+    settings::check(letters, k, mirror)?;
+    if file.len() > settings::MOST_BYTES {
+        return Err(Refusal::TooLarge);
     }
+    let ranks = RankTable::new(letters);
+    scan_file(kind, file, &ranks, k)
 }
