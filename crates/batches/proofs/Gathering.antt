@@ -8,6 +8,8 @@ use mathlib.Core.Bool.{Bool, true, false, cond, true≢false}
 use Rattle.std.specs.Prelude.{Option, None, Some}
 use mathlib.Core.List.{List, [], ◌∷◌, ◌++◌, append-nil}
 use lib.ListN.{length, get_or, take, drop, set, length-set}
+use lib.Dec.{eqb}
+use borrow.Author.Tests.{eq-eqb, ne_eqb}
 use lib.Seq.{take-set-le, take-suc-set}
 use Rattle.encoding.specs.Words.{Ranks}
 use Rattle.laws.proofs.Each.{each_append}
@@ -16,6 +18,7 @@ use Rattle.fasta.specs.declared.Item.TheVariants.{Opens, Skip, Stray, Letter}
 use Rattle.fasta.specs.declared.Mode.{Mode}
 use Rattle.fasta.specs.Items.{marks}
 use Rattle.fasta.specs.File.{lf_next, item, next, items_from}
+use Rattle.settings.specs.declared.RankTable.{RankTable}
 use Rattle.settings.specs.RankTables.{rank_by_table, RanksBelow}
 use Rattle.fasta.proofs.Bytes.{item-cases}
 use Rattle.fasta.specs.Needs.{Skips}
@@ -42,7 +45,7 @@ one_letter rank (Letter b) = by_rank (rank b)
 abbrev added : (ℕ → Option ℕ) → Item → List ℕ
 added rank it = take (mark_of rank it).letters ((mark_of rank it).rank ∷ [])
 
-module _ {s : ℕ} {table : List ℕ} (T : RanksBelow s table) (b : ℕ) (byte : b < 256) where
+module _ {s : ℕ} {table : RankTable} (T : RanksBelow s table) (b : ℕ) (byte : b < 256) where
   letter_rank : (o : Option ℕ) → rank_by_table table b ≡ o → Ranks s (take (mark_of_rank o).letters ((mark_of_rank o).rank ∷ []))
   letter_rank None e = tt
   letter_rank (Some x) e = (T.below b x byte e, tt)
@@ -63,12 +66,19 @@ put array n x (suc (suc l)) h g = absurd (omega arith)
 -- ---- the loop
 
 -- The byte of the file at a place was read in a mode: what it does to the run, and the mode after it.
-pub record ByteRead (table file : List ℕ) (at : ℕ) (mode : Mode) (mark : Mark) (mode' : Mode) : Type 0 where
+pub record ByteRead (table : RankTable) (file : List ℕ) (at : ℕ) (mode : Mode) (mark : Mark) (mode' : Mode) : Type 0 where
   pub more : at < length file
   pub mark_is : mark ≡ mark_of (rank_by_table table) (item mode (get_or file at 0) (lf_next (drop (at + 1) file)))
   pub mode_is : mode' ≡ next mode (get_or file at 0)
 
-pub record Gathering (table r file : List ℕ) (start : Mode) (from letters : ℕ) (array : List ℕ) (at : ℕ) (mode : Mode) (n : ℕ) : Type 0 where
+pub byte_read : {table : RankTable} {file : List ℕ} {at : ℕ} {mode : Mode} {it : Item} {mark : Mark} {mode' : Mode} → at < length file
+    → it ≡ item mode (get_or file at 0) (lf_next (drop (at + 1) file))
+    → mark ≡ mark_of (rank_by_table table) it
+    → mode' ≡ next mode (get_or file at 0)
+    → ByteRead table file at mode mark mode'
+byte_read {table} h i m n = record { more = h; mark_is = m ∙ ap (mark_of (rank_by_table table)) i; mode_is = n }
+
+pub record Gathering (table : RankTable) (r file : List ℕ) (start : Mode) (from letters : ℕ) (array : List ℕ) (at : ℕ) (mode : Mode) (n : ℕ) : Type 0 where
   pub begun : from ≤ at
   pub untouched : at ≡ from → n ≡ letters
   pub inside : at ≤ length file
@@ -76,15 +86,10 @@ pub record Gathering (table r file : List ℕ) (start : Mode) (from letters : �
   pub ranks : (s : ℕ) → RanksBelow s table → Ranks s r → Ranks s (take n array)
   pub left : (k : ℕ) → cut_from (rank_by_table table) k r file start from ≡ cut_from (rank_by_table table) k (take n array) file mode at
 
-pub gathering_none : {table file : List ℕ} {mode : Mode} {from letters : ℕ} {array : List ℕ} → from < length file → letters < length array
-    → Gathering table (take letters array) file mode from letters array from mode letters
-gathering_none h g =
-    record { begun = omega arith; untouched = λ _. refl; inside = omega arith; fits = omega arith; ranks = λ s T R. R; left = λ k. refl }
-
 -- Bytes that are skipped add nothing.
-pub skip_on : {table r file : List ℕ} {start : Mode} {from letters : ℕ} {array : List ℕ} {at e : ℕ} {mode : Mode} {n : ℕ}
+pub skip_on : {table : RankTable} {r file : List ℕ} {start : Mode} {from letters : ℕ} {array : List ℕ} {at e : ℕ} {mode : Mode} {n : ℕ}
     → Gathering table r file start from letters array at mode n → Skips file mode at e → Gathering table r file start from letters array e mode n
-skip_on {table} {r} {file} {start} {from} {letters} {array} {at} {e} {mode} {n} G J =
+skip_on {table = table} {file = file} {array = array} {at = at} {e = e} {mode = mode} {n = n} G J =
     record {
       begun = omega (arith, G.begun, J.on);
       untouched = λ f. G.untouched (omega (arith, G.begun, J.on));
@@ -95,10 +100,9 @@ skip_on {table} {r} {file} {start} {from} {letters} {array} {at} {e} {mode} {n} 
           ∙ ap (cut k (take n array)) (ap (marks (rank_by_table table)) J.skipped ∙ marks-skips (rank_by_table table) (e - at) (items_from mode (drop e file)));
     }
 
-module _ {table r file : List ℕ} {start : Mode} {from letters : ℕ} {array : List ℕ} {at : ℕ} {mode : Mode} {n : ℕ}
+module _ {table : RankTable} {r file : List ℕ} {start : Mode} {from letters : ℕ} {array : List ℕ} {at : ℕ} {mode : Mode} {n : ℕ}
     (G : Gathering table r file start from letters array at mode n) where
-  -- The array is full.
-  pub gathered_full : letters < length array → n ≡ length array
+  gathered_full : letters < length array → length array ≤ n
       → Gathers table r file start from (record { at = at; mode = mode; letters = n; ended = false }) array
   gathered_full room full =
       record {
@@ -111,11 +115,10 @@ module _ {table r file : List ℕ} {start : Mode} {from letters : ℕ} {array : 
         fits = G.fits;
         ranks = G.ranks;
         windows_are = G.left;
-        whole = λ _. full;
+        whole = λ _. omega (arith, G.fits);
       }
 
-  -- The file ended.
-  pub gathered_all : from < length file → length file ≤ at
+  gathered_all : from < length file → at ≡ length file
       → Gathers table r file start from (record { at = at; mode = mode; letters = n; ended = true }) array
   unfolding cut windows marks
   gathered_all more end =
@@ -124,9 +127,19 @@ module _ {table r file : List ℕ} {start : Mode} {from letters : ℕ} {array : 
         inside = G.inside;
         fits = G.fits;
         ranks = G.ranks;
-        windows_are = λ k. G.left k ∙ rw (items_end file at mode end, append-nil (windows k (take n array)));
+        windows_are = λ k. G.left k ∙ rw (items_end file at mode (omega arith), append-nil (windows k (take n array)));
         whole = λ e. absurd (true≢false e);
       }
+
+  -- The file ended, or the array is full and the run goes on.
+  pub gathered_end : letters < length array → from < length file → {at' : ℕ} → at' ≡ at → (at < length file → length array ≤ n)
+      → Gathers table r file start from (record { at = at'; mode = mode; letters = n; ended = eqb at' (length file) }) array
+  gathered_end room more {at'} e full =
+      elim (ℕ_discrete at (length file)) as
+      (λ _. Gathers table r file start from (record { at = at'; mode = mode; letters = n; ended = eqb at' (length file) }) array) [
+        | yes end ↦ rw (e, eq-eqb at (length file) end) (gathered_all more end)
+        | no ne ↦ rw (e, ne_eqb at (length file) ne) (gathered_full room (full (omega (arith, G.inside))))
+      ]
 
   module _ {mark : Mark} {mode' : Mode} (R : ByteRead table file at mode mark mode') where
     after : (k : ℕ) → cut_from (rank_by_table table) k r file start from

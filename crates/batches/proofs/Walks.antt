@@ -13,49 +13,46 @@ use Rattle.encoding.proofs.Ends.{ranks_drop}
 use Rattle.fasta.specs.declared.Mode.{Mode}
 use Rattle.fasta.specs.Items.{marks}
 use Rattle.fasta.specs.File.{items_from}
-use Rattle.settings.specs.RankTables.{rank_by_table, RanksBelow}
+use Rattle.settings.specs.RankTables.{rank_by_table}
 use Rattle.fasta.proofs.Scans.{items_end}
 use Rattle.kernels.specs.declared.Coder.{Coder}
 use Rattle.laws.specs.Windows.{windows}
-use Rattle.kernels.specs.Needs.{ReadyCoder}
 use Rattle.windows.proofs.Windows.{length_codes}
+use Rattle.laws.proofs.Lists.{length-take}
 use Rattle.laws.proofs.Windows.{windows-none}
 use Rattle.batches.specs.declared.Gathered.{Gathered}
 use Rattle.batches.specs.Needs.{codes_by, codes_of_file, cut, cut_from, cut_after, Gathers, Carries}
 use Rattle.batches.proofs.Cuts.{cut_all, cut_batch}
 
-pub record Walking (c : Coder) (table file all array : List ℕ) (at : ℕ) (mode : Mode) (n done : ℕ) : Type 0 where
-  pub size : length array ≡ 1024
+pub record Walking (c : Coder) (file all array : List ℕ) (at : ℕ) (mode : Mode) (n done : ℕ) : Type 0 where
   pub few : n < c.k
   pub ranks : Ranks c.s (take n array)
   pub upto : done ≤ length all
-  pub left : drop done all ≡ codes_by c (cut_from (rank_by_table table) c.k (take n array) file mode at)
+  pub left : drop done all ≡ codes_by c (cut_from (rank_by_table c.ranks) c.k (take n array) file mode at)
 
-module _ {c : Coder} {powers mirrors : List ℕ} (C : ReadyCoder c powers mirrors) where
+module _ (c : Coder) where
   pub short_words : c.k ≤ 62
-  short_words = k_at_most C.limits
+  short_words = k_at_most c.limits
 
-  pub walking_none : (table file : List ℕ) (start : Mode) (array : List ℕ) → length array ≡ 1024
-      → Walking c table file (codes_of_file c table file start) array 0 start 0 0
-  walking_none table file start array size =
+  pub walking_none : (file : List ℕ) (start : Mode) (array : List ℕ) → Walking c file (codes_of_file c file start) array 0 start 0 0
+  walking_none file start array =
       record {
-        size = size;
-        few = omega (arith, C.some);
+        few = omega (arith, c.some);
         ranks = tt;
         upto = omega arith;
-        left = rw (cut_all c.k (marks (rank_by_table table) (items_from start file)) C.some);
+        left = rw (cut_all c.k (marks (rank_by_table c.ranks) (items_from start file)) c.some);
       }
 
-  module _ {table file all array : List ℕ} {at : ℕ} {mode : Mode} {n done : ℕ} (W : Walking c table file all array at mode n done) where
+  module _ {file all array : List ℕ} {at : ℕ} {mode : Mode} {n done : ℕ} (W : Walking c file all array at mode n done) where
     -- Nothing is left at the file's end.
     pub walked_all : length file ≤ at → done ≡ length all
     unfolding cut marks
     walked_all end =
-        let l : length (take n array) < c.k = omega (arith, length-take-le n array (omega (arith, W.few, W.size, k_at_most C.limits)), W.few) in
+        let l : length (take n array) < c.k = omega (arith, length-take n array, W.few) in
         let none_left : drop done all ≡ [] = W.left ∙ rw (items_end file at mode end, windows-none c.k (take n array) l) in
         omega (arith, ap length none_left, length-drop done all, W.upto)
 
-    module _ {g : Gathered} {array₁ : List ℕ} (G : Gathers table (take n array) file mode at g array₁) (size₁ : length array₁ ≡ length array) where
+    module _ {g : Gathered} {array₁ : List ℕ} (G : Gathers c.ranks (take n array) file mode at g array₁) (size₁ : length array₁ ≡ 1024) where
       abbrev batch : List ℕ
       batch = take g.letters array₁
 
@@ -66,36 +63,30 @@ module _ {c : Coder} {powers mirrors : List ℕ} (C : ReadyCoder c powers mirror
       kept ended = cond ended [] (drop (g.letters + 1 - c.k) batch)
 
       abbrev later : List (List ℕ)
-      later = cut_from (rank_by_table table) c.k (kept g.ended) file g.mode g.at
+      later = cut_from (rank_by_table c.ranks) c.k (kept g.ended) file g.mode g.at
 
       letters_length : length batch ≡ g.letters
       letters_length = length-take-le g.letters array₁ G.fits
 
-      pub few_letters : g.letters ≤ 1024
-      few_letters = omega (arith, G.fits, size₁, W.size)
-
-      pub few_ranks : length batch ≤ 1024
-      few_ranks = omega (arith, letters_length, few_letters)
-
       pub long_enough : g.ended ≡ false → c.k ≤ g.letters + 1
-      long_enough e = omega (arith, G.whole e, size₁, W.size, short_words)
+      long_enough e = omega (arith, G.whole e, size₁, short_words)
 
-      pub batch_ranks : RanksBelow c.s table → Ranks c.s batch
-      batch_ranks T = G.ranks c.s T W.ranks
+      batch_ranks : Ranks c.s batch
+      batch_ranks = G.ranks c.s c.ranks_below W.ranks
 
       -- How many codes the batch has.
       pub batch_count : length codes ≡ g.letters + 1 - c.k
-      batch_count = length_codes c.k C.some (code c.s c.mirror c.k) batch ∙ ap (λ (i : ℕ). i + 1 - c.k) letters_length
+      batch_count = length_codes c.k c.some (code c.s c.mirror c.k) batch ∙ ap (λ (i : ℕ). i + 1 - c.k) letters_length
 
       after_batch : (ended : Bool) → (ended ≡ false → c.k ≤ g.letters + 1)
-          → cut_after ended (rank_by_table table) c.k batch file g.mode g.at
-          ≡ windows c.k batch ++ cut_from (rank_by_table table) c.k (kept ended) file g.mode g.at
+          → cut_after ended (rank_by_table c.ranks) c.k batch file g.mode g.at
+          ≡ windows c.k batch ++ cut_from (rank_by_table c.ranks) c.k (kept ended) file g.mode g.at
       after_batch true h = refl
       after_batch false h =
           let l = letters_length in
           let some_left = h refl in
-          cut_batch c.k C.some (marks (rank_by_table table) (items_from g.mode (drop g.at file))) batch (omega arith)
-          ∙ ap (λ (i : ℕ). windows c.k batch ++ cut_from (rank_by_table table) c.k (drop (i + 1 - c.k) batch) file g.mode g.at) l
+          cut_batch c.k c.some (marks (rank_by_table c.ranks) (items_from g.mode (drop g.at file))) batch (omega arith)
+          ∙ ap (λ (i : ℕ). windows c.k batch ++ cut_from (rank_by_table c.ranks) c.k (drop (i + 1 - c.k) batch) file g.mode g.at) l
 
       -- What is left is the codes of the batch and those that come after it.
       left_is : drop done all ≡ codes ++ codes_by c later
@@ -120,11 +111,10 @@ module _ {c : Coder} {powers mirrors : List ℕ} (C : ReadyCoder c powers mirror
           ∙ ap (λ (x : List ℕ). take done all ++ take r x) left_is
           ∙ ap (λ (x : List ℕ). take done all ++ x) (take-append-le r codes (codes_by c later) h)
 
-      pub walks_on : {array₂ : List ℕ} {n₂ : ℕ} → RanksBelow c.s table → Carries array₁ g.letters c.k g.ended n₂ array₂
-          → length array₂ ≡ length array₁ → Walking c table file all array₂ g.at g.mode n₂ (done + length codes)
-      walks_on T Y size₂ =
+      pub walks_on : {array₂ : List ℕ} {n₂ : ℕ} → Carries array₁ g.letters c.k g.ended n₂ array₂
+          → Walking c file all array₂ g.at g.mode n₂ (done + length codes)
+      walks_on Y =
           record {
-            size = size₂ ∙ size₁ ∙ W.size;
             few = Y.few;
             ranks = rw Y.letters (kept_ranks g.ended);
             upto = batch_fits;
@@ -133,7 +123,7 @@ module _ {c : Coder} {powers mirrors : List ℕ} (C : ReadyCoder c powers mirror
         where
           kept_ranks : (ended : Bool) → Ranks c.s (kept ended)
           kept_ranks true = tt
-          kept_ranks false = ranks_drop c.s (g.letters + 1 - c.k) batch (batch_ranks T)
+          kept_ranks false = ranks_drop c.s (g.letters + 1 - c.k) batch batch_ranks
 
           step : drop (done + length codes) all ≡ codes_by c later
           step =

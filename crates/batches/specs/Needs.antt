@@ -8,6 +8,7 @@ use Rattle.fasta.specs.declared.Item.TheVariants.{Opens, Skip, Stray, Letter}
 use Rattle.fasta.specs.declared.Mode.{Mode}
 use Rattle.fasta.specs.Items.{marks, windows_in}
 use Rattle.fasta.specs.File.{items_from}
+use Rattle.settings.specs.declared.RankTable.{RankTable}
 use Rattle.settings.specs.RankTables.{rank_by_table, RanksBelow}
 use Rattle.kernels.specs.declared.Coder.{Coder}
 use Rattle.laws.specs.Windows.{windows}
@@ -47,12 +48,12 @@ cut_after false rank k r file mode i = cut_from rank k r file mode i
 abbrev pub codes_by : Coder → List (List ℕ) → List ℕ
 codes_by c ws = map (code c.s c.mirror c.k) ws
 
--- The codes of all windows of a file, whose first byte stands in a mode, by a coder and a rank table.
-abbrev pub codes_of_file : Coder → (table file : List ℕ) → Mode → List ℕ
-codes_of_file c table file start = codes_by c (windows_in (rank_by_table table) c.k (items_from start file))
+-- The codes of all windows of a file, whose first byte stands in a mode, by a coder.
+abbrev pub codes_of_file : Coder → (file : List ℕ) → Mode → List ℕ
+codes_of_file c file start = codes_by c (windows_in (rank_by_table c.ranks) c.k (items_from start file))
 
 -- Letters were gathered, from the place i on behind the letters r: to the end of their run or of the file, or to the end of the array.
-pub record Gathers (table r file : List ℕ) (mode : Mode) (i : ℕ) (g : Gathered) (array : List ℕ) : Type 0 where
+pub record Gathers (table : RankTable) (r file : List ℕ) (mode : Mode) (i : ℕ) (g : Gathered) (array : List ℕ) : Type 0 where
   pub on : i < g.at
   pub inside : g.at ≤ length file
   pub fits : g.letters ≤ length array

@@ -1,27 +1,26 @@
 -- The second pass over a file, as its functions meet it: what is left of the counts where ground 12 or 18 applies and where neither does, and from the counts of the
 -- classes to the whole table.
-use mathlib.Core.Path.{◌≡◌, refl, sym, ap, ◌∙◌, subst, subst⁻¹}
+use mathlib.Core.Path.{◌≡◌, refl, sym, ap, ◌∙◌}
 use Prim.Native.Nat.{ℕ, ◌≤◌}
 use native.Mathlib.Omega.{arith}
-use mathlib.Core.Bool.{Bool, true, false}
+use mathlib.Core.Bool.{false}
 use Rattle.std.specs.Prelude.{Option, None, Some}
 use mathlib.Core.List.{List, ◌++◌, map}
 use lib.ListN.{length, take, drop, length-map, take-append-drop}
 use lib.Seq.{take_all}
 use Rattle.settings.specs.declared.Settings.{Settings}
-use Rattle.settings.specs.Grounds.{Ground, Outcome, given, refused, ground, outcome, unless_refused}
-use Rattle.settings.specs.Settings.{rank_in, mirror_of, classes, settings_ground, settings_of}
+use Rattle.settings.specs.Grounds.{Ground, Outcome, ground, outcome, unless_refused}
+use Rattle.settings.specs.Settings.{rank_in, classes, settings_ground, settings_of}
 use Rattle.settings.proofs.SettingsGrounds.{good_settings}
 use Rattle.encoding.specs.Codes.{code}
 use Rattle.fasta.specs.declared.Numbers.{Numbers}
 use Rattle.files.specs.File.{File, start_of, file_numbers, file_windows}
-use Rattle.settings.specs.RankTables.{rank_by_table, RankTable}
+use Rattle.settings.specs.declared.RankTable.{RankTable}
+use Rattle.settings.specs.RankTables.{rank_by_table, RanksOf}
 use Rattle.fasta.proofs.Ranks.{windows_by_table}
 use Rattle.fasta.proofs.Runs.{windows-fit}
-use Rattle.kernels.specs.declared.Kernel.{Kernel}
-use Rattle.kernels.specs.Needs.{Takes}
-use Rattle.tally_book.specs.Table.{class_count, place_of, windows_of_file, places, changes, one_more, one_less, full, lacks, call_file, last_ground, table_after}
-use Rattle.counts.specs.Needs.{by_way, Fits, TakenUnlessLacking}
+use Rattle.tally_book.specs.Table.{class_count, place_of, windows_of_file, places, changes, one_more, one_less, full, call_file, last_ground, table_after}
+use Rattle.counts.specs.Needs.{by_way, Fits}
 use Rattle.counts.proofs.CountLoops.{room_fits}
 use Rattle.counts.specs.declared.Way.{Way}
 use Rattle.counts.specs.declared.Way.TheVariants.{In, Out}
@@ -31,36 +30,10 @@ use Rattle.tally_book.proofs.Changes.{changes_front}
 use Rattle.tally_book.proofs.Full.{not_full}
 use Rattle.tally_book.proofs.Classes.{places_below}
 
--- ---- counting, unless ground 12 applies, and taking away, unless ground 18 does
-
 -- Where ground 12 does not apply, there is room for all the windows.
 pub counts-free : (n : ℕ) (codes counts : List ℕ) → false ≡ full n counts → n ≤ 16777216 → n ≡ length codes → Fits (take n codes) counts
 counts-free n codes counts e h l =
     rw (take_all n codes (omega arith)) (room_fits n counts codes (λ q g. omega (arith, not_full n counts q (sym e) g)) (omega arith))
-
-module _ (n : Numbers) (ps counts : List ℕ) where
-  module _ (as_many : n.windows ≡ length ps) where
-    pub counts_full : true ≡ full n.windows counts → ChangedUnlessRefused In n ps counts (refused (12, 0)) counts
-    counts_full e = record { answers = rw (← as_many, ← e); leaves = rw (← as_many, ← e) }
-
-    pub counts_grown : (counts' : List ℕ) → false ≡ full n.windows counts → counts' ≡ changes one_more counts (take n.windows ps)
-        → ChangedUnlessRefused In n ps counts (given n) counts'
-    counts_grown counts' e c =
-        let all : counts' ≡ changes one_more counts ps = c ∙ ap (changes one_more counts) (take_all n.windows ps (omega arith)) in
-        record { answers = rw (← as_many, ← e); leaves = rw (← as_many, ← e) all }
-
-  module _ {b : Bool} {counts' : List ℕ} (L : TakenUnlessLacking counts ps b counts') where
-    pub counts_lack : b ≡ true → ChangedUnlessRefused Out n ps counts (refused (18, 0)) counts'
-    counts_lack e = let f : lacks counts ps ≡ true = sym L.answers ∙ e in record { answers = rw f; leaves = L.leaves ∙ rw f }
-
-    pub counts_fallen : b ≡ false → ChangedUnlessRefused Out n ps counts (given n) counts'
-    counts_fallen e = let f : lacks counts ps ≡ false = sym L.answers ∙ e in record { answers = rw f; leaves = L.leaves ∙ rw f }
-
--- What holds of a way's variant holds of the way that is that variant.
-pub by_way_lem : {way told : Way} {n : Numbers} {ps counts : List ℕ} {answer : Outcome Numbers} {counts' : List ℕ} → way ≡ told
-    → ChangedUnlessRefused told n ps counts answer counts'
-    → ChangedUnlessRefused way n ps counts answer counts'
-by_way_lem {n = n} {ps} {counts} {answer} {counts'} e M = subst⁻¹ (λ (w : Way). ChangedUnlessRefused w n ps counts answer counts') e M
 
 -- ---- a file that was scanned without fault
 
@@ -69,7 +42,7 @@ module _ (letters : List ℕ) (k : ℕ) (file : File) (n : Numbers) (F : CleanFi
   unfolding windows_of_file
   n_windows = ap (λ (x : Numbers). x.windows) F.numbers
 
-  pub n_windows_by_table : (f : List ℕ → ℕ) (ranks : List ℕ) → RankTable letters ranks → n.windows ≡ length (map f (file_windows (rank_by_table ranks) k file))
+  pub n_windows_by_table : (f : List ℕ → ℕ) (ranks : RankTable) → RanksOf letters ranks → n.windows ≡ length (map f (file_windows (rank_by_table ranks) k file))
   unfolding windows_of_file
   n_windows_by_table f ranks T =
       n_windows
@@ -136,17 +109,12 @@ module _ (letters : List ℕ) (k m : ℕ) (t : List ℕ) (file : File) (good : s
       → CalledUnlessRefused letters k m t (call_of way file) answer (counts' ++ drop cs t)
   whole_table way cs ps answer counts' c e C = rw c (by_classes way ps answer counts' e (rw c at C))
 
-pub places-by_table : (letters : List ℕ) (k m : ℕ) (table : List ℕ) (file : File) (st : Settings) → st ≡ settings_of letters k m → RankTable letters table
+pub places-by_table : (letters : List ℕ) (k m : ℕ) (table : RankTable) (file : File) (st : Settings) → st ≡ settings_of letters k m → RanksOf letters table
     → map (code st.s st.mirror k) (file_windows (rank_by_table table) k file) ≡ places letters k m file
 unfolding windows_of_file
 places-by_table letters k m table file st is T =
     ap (λ (x : Settings). map (code x.s x.mirror k) (file_windows (rank_by_table table) k file)) is
     ∙ rw (windows_by_table letters table T k (start_of file.kind) file.bytes)
-
--- The kernel, by the number of letters and the mirror's number.
-pub takes_letters : (letters : List ℕ) (k m : ℕ) (st : Settings) (kernel : Kernel) → st ≡ settings_of letters k m → Takes kernel st.s st.mirror
-    → Takes kernel (length letters) (mirror_of m)
-takes_letters letters k m st kernel is h = subst (λ (x : Settings). Takes kernel x.s x.mirror) is h
 
 pub classes-of : (letters : List ℕ) (k m : ℕ) (st : Settings) → st ≡ settings_of letters k m → st.classes ≡ classes st.s st.mirror k
 classes-of letters k m st is = ap (λ (x : Settings). x.classes) is ∙ ap (λ (x : Settings). classes x.s x.mirror k) (sym is)

@@ -1,5 +1,5 @@
 -- What the functions of the second pass ask of each other and promise each other. No claim and no call of document 01 rests on it.
-use Rattle.std.specs.Prelude.{◌≡◌, ℕ, ◌≤◌, List, length}
+use Rattle.std.specs.Prelude.{◌≡◌, ℕ, ◌≤◌, List, length, take, drop}
 use Rattle.std.specs.Prelude.{Option, None}
 use Rattle.settings.specs.Grounds.{Ground, Outcome, ground, outcome, unless_refused}
 use Rattle.settings.specs.Settings.{rank_in}
@@ -12,9 +12,9 @@ use Rattle.counts.specs.declared.Way.TheVariants.{In, Out}
 use Rattle.counts.specs.Needs.{by_way}
 use Rattle.batches.specs.Needs.{codes_of_file}
 
--- The codes of all windows of a file of its kind, by a coder and a rank table.
-abbrev pub codes_of : Coder → (ranks : List ℕ) → File → List ℕ
-codes_of c ranks file = codes_of_file c ranks file.bytes (start_of file.kind)
+-- The codes of all windows of a file of its kind, by a coder.
+abbrev pub codes_of : Coder → File → List ℕ
+codes_of c file = codes_of_file c file.bytes (start_of file.kind)
 
 -- The last ground of a call, read from the counts alone, the file's windows having these places.
 abbrev pub last_of : Way → (places counts : List ℕ) → Option Ground
@@ -25,6 +25,11 @@ last_of Out places counts = ground 18 (lacks counts places)
 pub record ChangedUnlessRefused (way : Way) (n : Numbers) (places counts : List ℕ) (answer : Outcome Numbers) (counts' : List ℕ) : Type 0 where
   pub answers : answer ≡ outcome (last_of way places counts) n
   pub leaves : counts' ≡ unless_refused (last_of way places counts) (changes (by_way way) counts places) counts
+
+-- The same in a table, whose first places, one a class, are the counts. No later place changes.
+pub record TableUnlessRefused (way : Way) (n : Numbers) (places : List ℕ) (classes : ℕ) (t : List ℕ) (answer : Outcome Numbers) (t' : List ℕ) : Type 0 where
+  pub counts : ChangedUnlessRefused way n places (take classes t) answer (take classes t')
+  pub later : drop classes t' ≡ drop classes t
 
 -- A call to which only its last ground may still apply.
 pub record CalledUnlessRefused (letters : List ℕ) (k mirror : ℕ) (t : List ℕ) (c : Call) (answer : Outcome Numbers) (t' : List ℕ) : Type 0 where

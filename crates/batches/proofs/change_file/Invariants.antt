@@ -6,7 +6,7 @@ use Rattle.batches.proofs.change_file.Given as goal
 
 abbrev pub invariant-loop-at : goal.invariant-loop-at
 invariant-loop-at l =
-    Changing l.c l.table l.file l.initial.mode l.initial.counts l.way l.limit l.counts l.array l.at l.mode l.n l.done
+    Changing l.coder l.file l.initial.mode l.initial.counts l.way l.limit l.counts l.array l.at l.mode l.n l.done
 
 abbrev pub decreases-loop-at : goal.decreases-loop-at
 decreases-loop-at l = length l.file - l.at

@@ -1,16 +1,9 @@
--- `second_pass::change_counts` meets its contract: each way's own function does what the way asks.
-use Rattle.second_pass.proofs.SecondPass.{by_way_lem}
-use borrow.Author.Rules.{rules}
+-- `second_pass::change_counts` meets its contract: ground 12 by `too_full`, and else the counts that `change_file` leaves; ground 18 and the counts by `take_file`.
+use Rattle.std.proofs.Common.{sym, ◌∙◌}
+use Rattle.second_pass.proofs.SecondPass.{counts-free}
 use Rattle.second_pass.proofs.change_counts.Goals as goal
 
-pub enum_told-1 : goal.enum_told-1
-enum_told-1 c = search rules
-
-pub take_unless_lacking-requires : goal.take_unless_lacking-requires
-take_unless_lacking-requires c = record { ready_coder = c.requires.ready_coder; ranks_below = c.requires.ranks_below; counts_len = c.requires.counts_len; windows_value = c.requires.windows_value }
-
-pub returns-in-In : goal.returns-in-In
-returns-in-In c = by_way_lem c.in-In.is c.count_unless_full.ensures
-
-pub returns-in-Out : goal.returns-in-Out
-returns-in-Out c = by_way_lem c.in-Out.is c.take_unless_lacking.ensures
+pub change_file-requires-clause-fits : goal.change_file-requires-clause-fits
+change_file-requires-clause-fits c =
+    λ _. rw c.start_of-start.ensures
+    (counts-free _ _ _ (sym c.if-too_full.false ∙ c.too_full.ensures) c.requires.few_windows c.requires.windows_value)
