@@ -2,13 +2,14 @@
 use mathlib.Core.Path.{◌≡◌, refl, sym, ap, ◌∙◌}
 use mathlib.Core.Bool.{Bool, true, false, cond, ◌&&◌, and-true, and-false, and_assoc, and-eq-true_iff}
 use mathlib.Core.List.{List, [], ◌∷◌, ◌++◌, map}
-use Rattle.std.specs.Prelude.{Option}
+use Rattle.std.specs.Prelude.{Option, None, Some, is_some}
+use Rattle.std.specs.Option.{unwrap_or}
 use Prim.Native.Nat.{ℕ, zero, suc, ◌+◌, ◌-◌, ◌<◌, ◌≤◌}
 use native.Mathlib.Decide.{ℕ_discrete, dec_le}
 use native.Mathlib.Numerals.{add-one}
 use native.Mathlib.Omega.{arith}
 use lib.ListN.{length, get_or, take, drop, set, length-set, length-append, length-drop, drop_of_length-le, get_or-append}
-use lib.Seq.{drop-cons, get_or-take, get_or-drop, get_or-set_other, get_or-append-add, ext_get_or}
+use lib.Seq.{drop-cons, get_or-take, get_or-drop, get_or-set_other, get_or-append-add, ext_get_or, length-take-le, take_all}
 use Rattle.laws.proofs.Buffers.{set_next}
 use Rattle.laws.proofs.Lists.{map_take, map_drop}
 use Rattle.encoding.specs.Words.{Mirror}
@@ -16,7 +17,8 @@ use Rattle.encoding.specs.Codes.{code}
 use Rattle.encoding.specs.Calls.{rank_or_zero}
 use Rattle.laws.specs.Windows.{windows}
 use Rattle.windows.specs.Windows.{window_codes}
-use Rattle.sequence.specs.Sequences.{no_code, is_rank}
+use Rattle.sequence.specs.Sequences.{no_code}
+use Rattle.settings.specs.declared.RankTable.{RankTable}
 use Rattle.settings.specs.RankTables.{rank_by_table}
 use Rattle.ranks.specs.Needs.{part}
 use Rattle.windows.specs.Needs.{Fills}
@@ -24,44 +26,49 @@ use Rattle.words.specs.Needs.{ranks_by}
 use Rattle.sequence.specs.Needs.{all_ranked, code_by, Run, Blanked}
 use Rattle.windows.proofs.Windows.{window_at, length_codes}
 use Rattle.ranks.proofs.WordParts.{length_part}
-use Rattle.sequence.proofs.RankTables.{as_none, as_itself, length-ranks_by}
+use Rattle.sequence.proofs.RankTables.{length-ranks_by}
 
 module _ (rank : ℕ → Option ℕ) where
-  ranked_true : (w : List ℕ) → ((p : ℕ) → p < length w → is_rank (rank (get_or w p 0)) ≡ true) → all_ranked rank w ≡ true
+  ranked_true : (w : List ℕ) → ((p : ℕ) → p < length w → is_some (rank (get_or w p 0)) ≡ true) → all_ranked rank w ≡ true
   unfolding all_ranked
   ranked_true [] f = refl
   ranked_true (b ∷ w) f = rw (f 0 (omega arith)) (ranked_true w (λ p h. f (suc p) (omega arith)))
 
-  ranked_false : (w : List ℕ) (p : ℕ) → p < length w → is_rank (rank (get_or w p 0)) ≡ false → all_ranked rank w ≡ false
+  ranked_false : (w : List ℕ) (p : ℕ) → p < length w → is_some (rank (get_or w p 0)) ≡ false → all_ranked rank w ≡ false
   unfolding all_ranked
   ranked_false [] p h e = absurd (omega arith)
   ranked_false (b ∷ w) zero h e = rw e
-  ranked_false (b ∷ w) (suc p) h e = rw (ranked_false w p (omega arith) e) (and-false (is_rank (rank b)))
+  ranked_false (b ∷ w) (suc p) h e = rw (ranked_false w p (omega arith) e) (and-false (is_some (rank b)))
 
 -- ---- bytes that are all letters
 
 module _ (rank : ℕ → Option ℕ) (bytes : List ℕ) where
   -- All are letters where those up to the i-th are, and those that are left.
   pub ranked_next : (i : ℕ) (all : Bool) → i < length bytes → all_ranked rank bytes ≡ (all && all_ranked rank (drop i bytes))
-      → all_ranked rank bytes ≡ ((all && is_rank (rank (get_or bytes i 0))) && all_ranked rank (drop (i + 1) bytes))
+      → all_ranked rank bytes ≡ ((all && is_some (rank (get_or bytes i 0))) && all_ranked rank (drop (i + 1) bytes))
   unfolding all_ranked
-  ranked_next i all h e = e ∙ rw (add-one i, drop-cons bytes i 0 h) (sym (and_assoc all (is_rank (rank (get_or bytes i 0))) (all_ranked rank (drop (suc i) bytes))))
+  ranked_next i all h e = e ∙ rw (add-one i, drop-cons bytes i 0 h) (sym (and_assoc all (is_some (rank (get_or bytes i 0))) (all_ranked rank (drop (suc i) bytes))))
 
   pub ranked_done : (i : ℕ) (all : Bool) → length bytes ≤ i → all_ranked rank bytes ≡ (all && all_ranked rank (drop i bytes)) → all ≡ all_ranked rank bytes
   unfolding all_ranked
   ranked_done i all h e = sym (and-true all) ∙ sym (e ∙ rw (drop_of_length-le bytes {i = i} h))
 
-ranked_at : (rank : ℕ → Option ℕ) (w : List ℕ) → all_ranked rank w ≡ true → (p : ℕ) → p < length w → is_rank (rank (get_or w p 0)) ≡ true
+-- The rank of a byte or 0.
+pub rank_written : (o : Option ℕ) → unwrap_or o 0 ≡ rank_or_zero o
+rank_written None = refl
+rank_written (Some x) = refl
+
+ranked_at : (rank : ℕ → Option ℕ) (w : List ℕ) → all_ranked rank w ≡ true → (p : ℕ) → p < length w → is_some (rank (get_or w p 0)) ≡ true
 unfolding all_ranked
 ranked_at rank [] e p h = absurd (omega arith)
-ranked_at rank (b ∷ w) e zero h = ((and-eq-true_iff (is_rank (rank b)) (all_ranked rank w)).0 e).0
-ranked_at rank (b ∷ w) e (suc p) h = ranked_at rank w ((and-eq-true_iff (is_rank (rank b)) (all_ranked rank w)).0 e).1 p (omega arith)
+ranked_at rank (b ∷ w) e zero h = ((and-eq-true_iff (is_some (rank b)) (all_ranked rank w)).0 e).0
+ranked_at rank (b ∷ w) e (suc p) h = ranked_at rank w ((and-eq-true_iff (is_some (rank b)) (all_ranked rank w)).0 e).1 p (omega arith)
 
 at_part : (bytes : List ℕ) (j k p : ℕ) → p < k → get_or (part j k bytes) p 0 ≡ get_or bytes (j + p) 0
 at_part bytes j k p h = get_or-take k (drop j bytes) p 0 h ∙ get_or-drop j bytes p 0
 
 -- Nothing is to be blanked.
-pub blanked_nothing : (table : List ℕ) (k : ℕ) (bytes old : List ℕ) → all_ranked (rank_by_table table) bytes ≡ true
+pub blanked_nothing : (table : RankTable) (k : ℕ) (bytes old : List ℕ) → all_ranked (rank_by_table table) bytes ≡ true
     → Blanked table k bytes old old (length bytes + 1 - k)
 blanked_nothing table k bytes old all =
     record { kept_length = refl; at = λ j h. sym (rw (window j (omega arith))); later = λ j h. refl }
@@ -75,30 +82,37 @@ blanked_nothing table k bytes old all =
 
 -- ---- runs
 
-pub run_none : (table bytes : List ℕ) → Run table bytes 0 0
+pub run_none : (table : RankTable) (bytes : List ℕ) → Run table bytes 0 0
 run_none table bytes = record { upto = omega arith; letters = λ p h g. absurd (omega arith); stop = λ p e. absurd (omega arith) }
 
-module _ {table bytes : List ℕ} {i run : ℕ} (R : Run table bytes i run) where
+module _ {table : RankTable} {bytes : List ℕ} {i run : ℕ} (R : Run table bytes i run) where
   -- The next byte is a letter.
-  pub run_more : (get_or table (get_or bytes i 0) 0 ≡ 255 → ⊥) → Run table bytes (i + 1) (run + 1)
+  run_more : is_some (rank_by_table table (get_or bytes i 0)) ≡ true → Run table bytes (i + 1) (run + 1)
   run_more h =
       record {
         upto = omega (arith, R.upto);
-        letters = λ p g l. elim (ℕ_discrete p i) as (λ _. is_rank (rank_by_table table (get_or bytes p 0)) ≡ true) [
-          | yes e ↦ rw e (ap is_rank (as_itself (get_or table (get_or bytes i 0) 0) h))
+        letters = λ p g l. elim (ℕ_discrete p i) as (λ _. is_some (rank_by_table table (get_or bytes p 0)) ≡ true) [
+          | yes e ↦ rw e h
           | no ne ↦ R.letters p (omega arith) (omega arith)
         ];
         stop = λ p e. R.stop p (omega arith);
       }
 
   -- It is none.
-  pub run_over : get_or table (get_or bytes i 0) 0 ≡ 255 → Run table bytes (i + 1) 0
+  run_over : is_some (rank_by_table table (get_or bytes i 0)) ≡ false → Run table bytes (i + 1) 0
   run_over h =
       record {
         upto = omega arith;
         letters = λ p g l. absurd (omega arith);
-        stop = λ p e. let z : p ≡ i = omega arith in rw z (ap is_rank (as_none (get_or table (get_or bytes i 0) 0) h));
+        stop = λ p e. let z : p ≡ i = omega arith in rw z h;
       }
+
+  pub run_next : {r : ℕ} → r ≡ cond (is_some (rank_by_table table (get_or bytes i 0))) (run + 1) 0 → Run table bytes (i + 1) r
+  run_next e = go (is_some (rank_by_table table (get_or bytes i 0))) refl e
+    where
+      go : {r : ℕ} (t : Bool) → is_some (rank_by_table table (get_or bytes i 0)) ≡ t → r ≡ cond t (run + 1) 0 → Run table bytes (i + 1) r
+      go true h e = rw e (run_more h)
+      go false h e = rw e (run_over h)
 
   -- The window that ends here has only letters where the run is k long.
   module _ (k j : ℕ) (end : j + k ≡ i) (inside : i ≤ length bytes) where
@@ -123,24 +137,34 @@ module _ {table bytes : List ℕ} {i run : ℕ} (R : Run table bytes i run) wher
           | no nh ↦ let h : run < k = omega arith in f.1 h ∙ rw (ranked_no h)
         ]
 
+-- The run at the end of the first n bytes, taken as bytes of their own.
+run_front : {table : RankTable} {bytes : List ℕ} (n : ℕ) {run : ℕ} → n ≤ length bytes → Run table (take n bytes) (length (take n bytes)) run → Run table bytes n run
+run_front {table} {bytes} n {run} inside R =
+    let l : length (take n bytes) ≡ n = length-take-le n bytes inside in
+    record {
+      upto = omega (arith, R.upto);
+      letters = λ p h g. rw (sym (get_or-take n bytes p 0 g)) (R.letters p (omega arith) (omega arith));
+      stop = λ p e. rw (sym (get_or-take n bytes p 0 (omega arith))) (R.stop p (omega arith));
+    }
+
 -- ---- the loop over the windows
 
-blank_none : (table : List ℕ) (k : ℕ) (bytes old : List ℕ) → Blanked table k bytes old old 0
+blank_none : (table : RankTable) (k : ℕ) (bytes old : List ℕ) → Blanked table k bytes old old 0
 blank_none table k bytes old = record { kept_length = refl; at = λ j h. absurd (omega arith); later = λ j h. refl }
 
 -- The windows before the one at j are done, and the run that ends before its last byte is known.
-pub record Blanking (table : List ℕ) (k : ℕ) (bytes old new : List ℕ) (run j : ℕ) : Type 0 where
+pub record Blanking (table : RankTable) (k : ℕ) (bytes old new : List ℕ) (run j : ℕ) : Type 0 where
   pub ran : Run table bytes (j + k - 1) run
   pub inside : j + k ≤ length bytes + 1
   blanked : Blanked table k bytes old new j
 
-module _ {table : List ℕ} {k : ℕ} {bytes old : List ℕ} (some : 1 ≤ k) where
-  pub blanking_none : {run : ℕ} → k ≤ length bytes → Run table bytes (k - 1) run → Blanking table k bytes old old run 0
+module _ {table : RankTable} {k : ℕ} {bytes old : List ℕ} (some : 1 ≤ k) where
+  blanking_none : {run : ℕ} → k ≤ length bytes → Run table bytes (k - 1) run → Blanking table k bytes old old run 0
   blanking_none h R =
       let z : 0 + k - 1 ≡ k - 1 = omega arith in
       record { ran = rw z R; inside = omega arith; blanked = blank_none table k bytes old }
 
-  pub blanking_next : {new : List ℕ} {run j : ℕ} (r x : ℕ) → length bytes + 1 - k ≤ length old → Blanking table k bytes old new run j → j + k ≤ length bytes
+  blanking_next : {new : List ℕ} {run j : ℕ} (r x : ℕ) → length bytes + 1 - k ≤ length old → Blanking table k bytes old new run j → j + k ≤ length bytes
       → Run table bytes (j + k - 1 + 1) r
       → (k ≤ r → x ≡ get_or new j 0) × (r < k → x ≡ no_code)
       → Blanking table k bytes old (set new j x) r (j + 1)
@@ -160,11 +184,42 @@ module _ {table : List ℕ} {k : ℕ} {bytes old : List ℕ} (some : 1 ≤ k) wh
         };
       }
 
-  pub blanked_all : {new : List ℕ} {run j : ℕ} → Blanking table k bytes old new run j → length bytes < j + k
+  blanked_all : {new : List ℕ} {run j : ℕ} → Blanking table k bytes old new run j → length bytes < j + k
       → Blanked table k bytes old new (length bytes + 1 - k)
   blanked_all {new} {run} {j} A end = let n : length bytes + 1 - k ≡ j = omega (arith, A.inside) in rw n A.blanked
 
-pub blanked_none : (table : List ℕ) (k : ℕ) (bytes old : List ℕ) → length bytes < k → Blanked table k bytes old old (length bytes + 1 - k)
+-- The bytes that end a window, one after the other.
+module _ (k : ℕ) (bytes : List ℕ) where
+  abbrev ends : List ℕ
+  ends = take (length bytes - (k - 1)) (drop (k - 1) bytes)
+
+  ends-are : ends ≡ drop (k - 1) bytes
+  ends-are = take_all (length bytes - (k - 1)) (drop (k - 1) bytes) (omega (arith, length-drop (k - 1) bytes))
+
+  n_ends : 1 ≤ k → k ≤ length bytes → length ends ≡ length bytes + 1 - k
+  n_ends some long = ap length ends-are ∙ omega (arith, length-drop (k - 1) bytes)
+
+  end_at : 1 ≤ k → (j : ℕ) → get_or ends j 0 ≡ get_or bytes (j + k - 1) 0
+  end_at some j =
+      let place : k - 1 + j ≡ j + k - 1 = omega arith in
+      ap (λ (l : List ℕ). get_or l j 0) ends-are ∙ get_or-drop (k - 1) bytes j 0 ∙ rw place
+
+module _ {table : RankTable} {k : ℕ} {bytes old : List ℕ} (some : 1 ≤ k) (long : k ≤ length bytes) where
+  pub blanking_first : {run : ℕ} → Run table (take (k - 1) bytes) (length (take (k - 1) bytes)) run → Blanking table k bytes old old run 0
+  blanking_first R = blanking_none some long (run_front (k - 1) (omega arith) R)
+
+  pub blanking_byte : length bytes + 1 - k ≤ length old → {new : List ℕ} {run j r x : ℕ} → Blanking table k bytes old new run j → j < length (ends k bytes)
+      → r ≡ cond (is_some (rank_by_table table (get_or (ends k bytes) j 0))) (run + 1) 0
+      → (k ≤ r → x ≡ get_or new j 0) × (r < k → x ≡ no_code)
+      → Blanking table k bytes old (set new j x) r (j + 1)
+  blanking_byte room {new} {run} {j} {r} {x} A h e f =
+      blanking_next some r x room A (omega (arith, n_ends k bytes some long)) (run_next A.ran (e ∙ rw (end_at k bytes some j))) f
+
+  pub blanking_done : {new : List ℕ} {run j : ℕ} → Blanking table k bytes old new run j → length (ends k bytes) ≤ j
+      → Blanked table k bytes old new (length bytes + 1 - k)
+  blanking_done A h = blanked_all some A (omega (arith, n_ends k bytes some long))
+
+pub blanked_none : (table : RankTable) (k : ℕ) (bytes old : List ℕ) → length bytes < k → Blanked table k bytes old old (length bytes + 1 - k)
 blanked_none table k bytes old h = let z : length bytes + 1 - k ≡ 0 = omega arith in rw z (blank_none table k bytes old)
 
 -- ---- codes, then blanks
@@ -178,7 +233,7 @@ unfolding ranks_by
 ranks_part_by rank j k bytes = ap (take k) (map_drop (λ (b : ℕ). rank_or_zero (rank b)) j bytes) ∙ map_take (λ (b : ℕ). rank_or_zero (rank b)) k (drop j bytes)
 
 -- The codes of the windows of the ranks, blanked where a byte is no letter, are the numbers of the windows of the bytes.
-module _ {table : List ℕ} (s : ℕ) (m : Mirror) {k : ℕ} {bytes o mid new : List ℕ} (some : 1 ≤ k) (room : length bytes + 1 - k ≤ length o)
+module _ {table : RankTable} (s : ℕ) (m : Mirror) {k : ℕ} {bytes o mid new : List ℕ} (some : 1 ≤ k) (room : length bytes + 1 - k ≤ length o)
     (F : Fills (window_codes s m k (ranks_by (rank_by_table table) bytes)) o mid) (B : Blanked table k bytes mid new (length bytes + 1 - k)) where
   abbrev ranks : List ℕ
   ranks = ranks_by (rank_by_table table) bytes

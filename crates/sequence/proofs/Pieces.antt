@@ -13,6 +13,7 @@ use Rattle.laws.proofs.Lists.{map_take, map_drop}
 use Rattle.encoding.specs.Words.{Mirror}
 use Rattle.laws.specs.Windows.{windows}
 use Rattle.windows.specs.Windows.{window_codes}
+use Rattle.settings.specs.declared.RankTable.{RankTable}
 use Rattle.settings.specs.RankTables.{rank_by_table}
 use Rattle.ranks.specs.Needs.{part}
 use Rattle.windows.specs.Needs.{Fills}
@@ -37,7 +38,7 @@ module _ (rank : ℕ → Option ℕ) (bytes array R : List ℕ) (is : R ≡ rank
 
 -- ---- the numbers of a batch
 
-module _ (table : List ℕ) (s : ℕ) (m : Mirror) (k : ℕ) (bytes : List ℕ) {o mid : List ℕ} (ranks : List ℕ)
+module _ (table : RankTable) (s : ℕ) (m : Mirror) (k : ℕ) (bytes : List ℕ) {o mid : List ℕ} (ranks : List ℕ)
     (is : ranks ≡ ranks_by (rank_by_table table) bytes) (some : 1 ≤ k) (room : length bytes + 1 - k ≤ length o) (F : Fills (window_codes s m k ranks) o mid) where
   pub batch_numbers : {new : List ℕ} → Blanked table k bytes mid new (length bytes + 1 - k)
       → Fills (map (code_by (rank_by_table table) s m k) (windows k bytes)) o new
@@ -59,9 +60,13 @@ pub record Batch (k n at end : ℕ) : Type 0 where
 pub batch_of : {k n at end : ℕ} → k ≤ 62 → at + k ≤ n → end ≡ min (at + 4096) n → Batch k n at end
 batch_of small more is = record { window = omega arith; inside = omega arith; few = omega arith }
 
--- Fewer letters are left.
-pub batch_less : {n at next : ℕ} → at < next → next ≤ n → n + 1 - next < n + 1 - at
-batch_less later inside = omega arith
+-- The next one begins later, and not past the end.
+module _ {k n at end : ℕ} (some : 1 ≤ k) (B : Batch k n at end) where
+  pub batch_inside : end + 1 - k ≤ n
+  batch_inside = omega (arith, B.inside)
+
+  pub batch_less : n + 1 - (end + 1 - k) < n + 1 - at
+  batch_less = omega (arith, B.inside, B.window)
 
 module _ (f : List ℕ → ℕ) {k : ℕ} (some : 1 ≤ k) (w : List ℕ) where
   -- The numbers of the windows of a part are some of those of the whole.

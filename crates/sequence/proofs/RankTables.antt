@@ -7,17 +7,18 @@ use Prim.Native.Nat.{ℕ, ◌<◌, suc}
 use native.Mathlib.Omega.{arith}
 use lib.Dec.{leb}
 use lib.ListN.{length, take}
+use Rattle.std.specs.Prelude.{is_some}
 use Rattle.encoding.specs.Calls.{rank_or_zero}
 use Rattle.words.specs.Needs.{ranks_by}
 use Rattle.words.proofs.LetterLoops.{or_zero_below}
 pub use Rattle.words.proofs.RanksByTable.{length-ranks_by, ranks_by_at, Bytes, tail_bytes, take-bytes, same_first, ranks_by_table}
 use Rattle.encoding.specs.Words.{Ranks}
-pub use Rattle.settings.proofs.RankTables.{as_none, as_itself}
-use Rattle.settings.specs.RankTables.{RankTable, RanksBelow, rank_by_table}
+use Rattle.settings.specs.RankTables.{RanksOf, RanksBelow, rank_by_table}
+use Rattle.settings.specs.declared.RankTable.{RankTable}
 use Rattle.settings.specs.Settings.{mirror_of}
 use Rattle.laws.specs.Windows.{windows}
 use Rattle.sequence.specs.Needs.{all_ranked, code_by}
-use Rattle.sequence.specs.Sequences.{all_letters, is_rank, code_or_none, sequence_codes}
+use Rattle.sequence.specs.Sequences.{all_letters, code_or_none, sequence_codes}
 
 -- Two functions that agree on words of bytes give the windows of bytes the same numbers.
 same_codes : (f g : List ℕ → ℕ) (k : ℕ) → ((word : List ℕ) → Bytes word → f word ≡ g word) → (bytes : List ℕ) → Bytes bytes
@@ -32,7 +33,7 @@ same_codes f g k same (b ∷ bs) B = go (leb k (suc (length bs))) (same (take k 
     go false e h = h
 
 -- What stands for a byte in a list of ranks is below s: a rank of the table, or 0 for a byte that has none.
-module _ {s : ℕ} {table : List ℕ} (T : RanksBelow s table) (some-s : 0 < s) where
+module _ {s : ℕ} {table : RankTable} (T : RanksBelow s table) (some-s : 0 < s) where
   rank_below : (b : ℕ) → b < 256 → rank_or_zero (rank_by_table table b) < s
   rank_below b byte = or_zero_below (rank_by_table table b) some-s (λ x e. T.below b x byte e)
 
@@ -41,11 +42,11 @@ module _ {s : ℕ} {table : List ℕ} (T : RanksBelow s table) (some-s : 0 < s) 
   ranks_below [] B = tt
   ranks_below (b ∷ bs) B = (rank_below b (B.below 0 (omega arith)), ranks_below bs (tail_bytes B))
 
-module _ {letters table : List ℕ} (T : RankTable letters table) where
+module _ {letters : List ℕ} {table : RankTable} (T : RanksOf letters table) where
   letters_by_table : (bytes : List ℕ) → Bytes bytes → all_ranked (rank_by_table table) bytes ≡ all_letters letters bytes
   unfolding all_ranked all_letters
   letters_by_table [] B = refl
-  letters_by_table (b ∷ bs) B = ap₂ (λ (x y : Bool). x && y) (ap is_rank (same_first T B)) (letters_by_table bs (tail_bytes B))
+  letters_by_table (b ∷ bs) B = ap₂ (λ (x y : Bool). x && y) (ap is_some (same_first T B)) (letters_by_table bs (tail_bytes B))
 
   code_by_table : (k mir : ℕ) (word : List ℕ) → Bytes word → code_by (rank_by_table table) (length letters) (mirror_of mir) k word ≡ code_or_none letters k mir word
   unfolding code_by code_or_none

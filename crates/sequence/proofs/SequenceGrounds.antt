@@ -1,6 +1,6 @@
--- The grounds of the calls along a sequence one after the other, as the calls meet them, and the codes of the settings by their coder.
-use mathlib.Core.Path.{◌≡◌, sym, ap, ◌∙◌, subst}
-use mathlib.Core.List.{List, map}
+-- The grounds of the calls along a sequence one after the other, as the calls meet them, and the numbers by a coder of the settings.
+use mathlib.Core.Path.{◌≡◌, sym, ap, ◌∙◌}
+use mathlib.Core.List.{List}
 use Rattle.std.specs.Prelude.{None}
 use Prim.Native.Nat.{ℕ, ◌+◌, ◌-◌, ◌<◌, ◌≤◌}
 use borrow.Author.Tests.{lt-ltb, le-ltb}
@@ -15,11 +15,10 @@ use Rattle.settings.specs.Limits.{too_long}
 use Rattle.kernels.specs.declared.Kernel.{Kernel}
 use Rattle.kernels.specs.declared.Coder.{Coder}
 use Rattle.laws.specs.Windows.{windows}
-use Rattle.sequence.specs.Sequences.{sequence_ground, FillsCodes}
-use Rattle.settings.specs.RankTables.{rank_by_table, RankTable}
+use Rattle.sequence.specs.Sequences.{sequence_codes, sequence_ground, FillsCodes}
 use Rattle.windows.specs.Needs.{Fills}
-use Rattle.kernels.specs.Needs.{coder_of}
-use Rattle.sequence.specs.Needs.{code_by}
+use Rattle.kernels.specs.Coders.{CoderOf}
+use Rattle.sequence.specs.Needs.{codes_by}
 use Rattle.laws.proofs.Windows.{length-windows}
 use Rattle.sequence.proofs.RankTables.{Bytes, codes_by_table}
 
@@ -49,18 +48,12 @@ module _ (letters : List ℕ) (k m : ℕ) (sequence old : List ℕ) where
       pub too_short_lem : length old < needed → FillsCodes letters k m sequence old (refused (7, needed)) old
       too_short_lem h = kept_by _ _ _ old _ (room_alone ∙ rw (lt-ltb (length old) needed h))
 
-      pub all_filled : {table new : List ℕ} → needed ≤ length old → RankTable letters table → Bytes sequence
-          → Fills (map (code_by (rank_by_table table) (length letters) (mirror_of m) k) (windows k sequence)) old new
-          → FillsCodes letters k m sequence old (given needed) new
-      all_filled h T B F =
-          rw (← needed_is) (set_by _ _ _ old _ (room_alone ∙ rw (le-ltb (length old) needed h)) (F.is ∙ rw (codes_by_table T k m sequence B)))
-
--- The numbers by the coder of good settings (`kernels::coder_of`) are those of the settings.
-pub coder_codes : (letters : List ℕ) (k m : ℕ) (kernel : Kernel) (st : Settings) (is : st ≡ settings_of letters k m) {c : Coder} {old new : List ℕ}
-    (table sequence : List ℕ) → c ≡ coder_of kernel st.k st
-    → Fills (map (code_by (rank_by_table table) c.s c.mirror c.k) (windows c.k sequence)) old new
-    → Fills (map (code_by (rank_by_table table) (length letters) (mirror_of m) k) (windows k sequence)) old new
-coder_codes letters k m kernel st is {c} {old} {new} table sequence e F =
-    subst (λ (x : Coder). Fills (map (code_by (rank_by_table table) x.s x.mirror x.k) (windows x.k sequence)) old new)
-    (e ∙ ap (λ (x : Settings). coder_of kernel x.k x) is)
-    F
+      -- The numbers by the coder of the settings are those of the settings.
+      pub all_filled : {st : Settings} {kernel : Kernel} {c : Coder} {new : List ℕ} → needed ≤ length old → st ≡ settings_of letters k m
+          → CoderOf letters st kernel c → Bytes sequence → Fills (codes_by c sequence) old new → FillsCodes letters k m sequence old (given needed) new
+      all_filled {st} {kernel} {c} h is C B F =
+          let s : c.s ≡ length letters = C.s_is ∙ ap (λ (x : Settings). x.s) is in
+          let mirror : c.mirror ≡ mirror_of m = C.mirror_is ∙ ap (λ (x : Settings). x.mirror) is in
+          let k-is : c.k ≡ k = C.k_is ∙ ap (λ (x : Settings). x.k) is in
+          let numbers : codes_by c sequence ≡ sequence_codes letters k m sequence = rw (s, mirror, k-is) (codes_by_table C.ranks_are k m sequence B) in
+          rw (← needed_is) (set_by _ _ _ old _ (room_alone ∙ rw (le-ltb (length old) needed h)) (F.is ∙ rw numbers))

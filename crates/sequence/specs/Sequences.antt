@@ -1,6 +1,6 @@
 -- Document 01, "Codes along a sequence", with the grounds for refusing the call: what both paths, the general and the two-bit one, promise.
-use Rattle.std.specs.Prelude.{ℕ, Bool, true, false, cond, ◌&&◌, List, [], ◌∷◌, map, length}
-use Rattle.std.specs.Prelude.{Option, None, Some}
+use Rattle.std.specs.Prelude.{ℕ, Bool, true, cond, ◌&&◌, List, [], ◌∷◌, map, length}
+use Rattle.std.specs.Prelude.{Option, is_some}
 use Rattle.settings.specs.Grounds.{Ground, Outcome, ground, ground_at, too_short, ◌or_else◌, Overwrites}
 use Rattle.settings.specs.Settings.{rank_in, mirror_of, settings_ground}
 use Rattle.settings.specs.Limits.{too_long}
@@ -12,14 +12,10 @@ use Rattle.laws.specs.Windows.{windows}
 abbrev pub no_code : ℕ
 no_code = 18446744073709551615
 
-abbrev pub is_rank : Option ℕ → Bool
-is_rank None = false
-is_rank (Some rank) = true
-
 -- Whether every byte is a letter of the settings, that is, has a rank.
 unfoldable pub all_letters : List ℕ → List ℕ → Bool
 all_letters letters [] = true
-all_letters letters (b ∷ bs) = is_rank (rank_in letters b) && all_letters letters bs
+all_letters letters (b ∷ bs) = is_some (rank_in letters b) && all_letters letters bs
 
 -- "the code of the k bytes from j, or 18,446,744,073,709,551,615 if one of them is not a letter of the settings"
 unfoldable pub code_or_none : (letters : List ℕ) (k mirror : ℕ) (word : List ℕ) → ℕ
