@@ -1,5 +1,5 @@
 -- A word of ranks w and its mirror: the one of lower plain rank is canonical, and its code is that of w. From the encoding's laws of the canonical word.
-use Rattle.std.proofs.Common.{refl, ◌≡◌, ◌∙◌, ap, ◌⊎◌, inl, inr, List, ◌++◌, ℕ, ◌≤◌, ◌<◌, arith, length, take, leb}
+use Rattle.std.proofs.Common.{refl, ◌≡◌, ◌∙◌, ap, List, ℕ, ◌≤◌, ◌<◌, arith, length, leb}
 use Rattle.settings.specs.Limits.{Limits}
 use Rattle.encoding.specs.Words.{Mirror, mirror, plain}
 use Rattle.encoding.specs.Codes.{code, code_of_canonical}

@@ -9,7 +9,7 @@ use Rattle.settings.proofs.Limits.{k_at_most, limits_less}
 use Rattle.settings.proofs.Powers.{capped}
 use Rattle.laws.proofs.Each.{each_append}
 use Rattle.laws.proofs.Powers.{pair_count, square, pow_pos, pow-two_more}
-use Rattle.laws.proofs.Buffers.{front_is, front_fits, front_length}
+use Rattle.laws.proofs.Buffers.{front_length}
 use Rattle.encoding.specs.Calls.{in_capitals}
 use Rattle.codes.specs.Needs.{RankOfPair, FitHighCode}
 use Rattle.encoding.specs.Words.{plain, Ranks, Mirror, Complement, mirror_rank}

@@ -97,6 +97,7 @@ fn canonical_code(w: &[u64], s: u64, m: Mirror) -> Code
 }
 
 // What coding a word finds: the code of its class, and whether the word itself is the class's canonical one.
+// Stays: both are there for every word, so this is no Option.
 #[derive(Clone, Copy)]
 pub struct WordCode {
     pub code: Code,

@@ -45,6 +45,7 @@ fn pair_of(s: u64, rank: u64) -> (u64, u64)
 }
 
 // The canonical word of one letter with code q.
+#[tactic(auto, unfolding(encoding::specs::WordsOfCodes::middle_of_code))]
 fn middle_of(s: u64, m: Mirror, q: u64) -> u64
     requires { (q < classes s m 1) × (s ≤ 16) }
     ensures { result ≡ middle_of_code s m q }

@@ -39,6 +39,7 @@ pub fn rank_at(ranks: &[u8], i: usize) -> u64
 }
 
 // What the mirror makes of a rank. A rank below s is asked, so that s - 1 - rank does not wrap below 0.
+#[tactic(auto, unfolding(encoding::specs::Words::mirror_rank))]
 pub fn mirror_rank(s: u64, m: Mirror, rank: u64) -> u64
     requires { rank < s }
     ensures { result ≡ mirror_rank s m rank }
@@ -81,6 +82,7 @@ pub fn plain_rank(w: &[u64], s: u64) -> PlainRank
 }
 
 // R, the rank of a pair l < r among all such pairs. At most 16 letters are asked, so that the product does not wrap.
+#[tactic(auto, using(encoding::proofs::Pairs::pair_small), unfolding(encoding::specs::Codes::pair_rank))]
 pub fn pair_rank(s: u64, l: u64, r: u64) -> u64
     requires { (l < r) × (r < s) × (s ≤ 16) }
     ensures { result ≡ pair_rank s l r }

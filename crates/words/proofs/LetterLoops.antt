@@ -1,4 +1,4 @@
--- From bytes to ranks and back, a place at a time: the loops of `fill_ranks`, `foreign_at` and `write_letters`.
+-- From ranks to bytes, a place at a time (`write_letters`), and the first byte that is no letter (`foreign_at`); ranks are below the number of letters.
 use Rattle.std.proofs.Common.{◌≡◌, refl, sym, ap, ◌∙◌, None, Some, Option, Bool, cond, ltb, List, ◌∷◌, [], ◌++◌, ℕ, ◌<◌, ◌+◌, ◌≤◌, suc, add-one, arith, length, get_or, set, drop}
 use Rattle.std.proofs.lemmas.List.{length-map}
 use Rattle.std.specs.Option.{is_none}
@@ -12,25 +12,27 @@ use Rattle.encoding.specs.Calls.{ranks_of, rank_at, foreign_from, here_or, rank_
 use Rattle.encoding.specs.Words.{Ranks, Mirror, mirror}
 use Rattle.encoding.specs.WordsOfCodes.{word_of}
 
--- ---- a list of as many numbers as xs has is written to the start of a buffer, one for each
+-- ---- ranks in capitals, written to the start of a buffer
 
-module _ (C xs o : List ℕ) (long : length C ≡ length xs) where
-  pub fill_start : length xs ≤ length o → Written C o 0 o
-  fill_start h = written_none C o (omega (arith, long))
+pub length-capitals : (letters w : List ℕ) → length (in_capitals letters w) ≡ length w
+unfolding in_capitals
+length-capitals letters w = length-map w (λ (i : ℕ). get_or letters i 0)
 
-  pub fill_next : {i : ℕ} {out : List ℕ} → Written C o i out → i < length xs → (x : ℕ) → x ≡ get_or C i 0 → Written C o (i + 1) (set out i x)
-  fill_next W h x e = written_next W x (omega (arith, long)) e
-
-  pub fill_end : {i : ℕ} {out : List ℕ} → Written C o i out → length xs ≤ i → out ≡ C ++ drop (length xs) o
-  fill_end W h = written_all W (omega (arith, long)) ∙ ap (λ (n : ℕ). C ++ drop n o) long
-
-pub ranks_of-at : (letters word : List ℕ) (i : ℕ) → i < length word → get_or (ranks_of letters word) i 0 ≡ rank_at letters (get_or word i 0)
-unfolding ranks_of
-ranks_of-at letters word i h = get_d_map_in (rank_at letters) word i h
-
-pub in_capitals-at : (letters w : List ℕ) (i : ℕ) → i < length w → get_or (in_capitals letters w) i 0 ≡ get_or letters (get_or w i 0) 0
+in_capitals-at : (letters w : List ℕ) (i : ℕ) → i < length w → get_or (in_capitals letters w) i 0 ≡ get_or letters (get_or w i 0) 0
 unfolding in_capitals
 in_capitals-at letters w i h = get_d_map_in (λ (j : ℕ). get_or letters j 0) w i h
+
+module _ (letters w o : List ℕ) where
+  pub capitals_none : length w ≤ length o → Written (in_capitals letters w) o 0 o
+  capitals_none h = written_none (in_capitals letters w) o (omega (arith, length-capitals letters w))
+
+  pub capitals_next : {i : ℕ} {out : List ℕ} → Written (in_capitals letters w) o i out → i < length w
+      → Written (in_capitals letters w) o (i + 1) (set out i (get_or letters (get_or w i 0) 0))
+  capitals_next {i} W h = written_next W _ (omega (arith, length-capitals letters w)) (sym (in_capitals-at letters w i h))
+
+  pub capitals_all : {i : ℕ} {out : List ℕ} → Written (in_capitals letters w) o i out → length w ≤ i → out ≡ in_capitals letters w ++ drop (length w) o
+  capitals_all W h =
+      written_all W (omega (arith, length-capitals letters w)) ∙ ap (λ (n : ℕ). in_capitals letters w ++ drop n o) (length-capitals letters w)
 
 -- ---- the first byte that is no letter
 
@@ -67,10 +69,6 @@ ranks_below letters (b ∷ word) h = (rank_lt letters b h, ranks_below letters w
 pub length-ranks_of : (letters word : List ℕ) → length (ranks_of letters word) ≡ length word
 unfolding ranks_of
 length-ranks_of letters word = length-map word (rank_at letters)
-
-pub length-capitals : (letters w : List ℕ) → length (in_capitals letters w) ≡ length w
-unfolding in_capitals
-length-capitals letters w = length-map w (λ (i : ℕ). get_or letters i 0)
 
 -- ---- the bytes that the calls write
 

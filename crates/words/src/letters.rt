@@ -8,19 +8,12 @@ ghost use Rattle.encoding.specs.Words.{Ranks, mirror, plain};
 ghost use Rattle.encoding.specs.Codes.{code};
 ghost use Rattle.encoding.specs.WordsOfCodes.{word_of};
 ghost use Rattle.encoding.specs.Calls.{rank_or_zero, rank_at, ranks_of, in_capitals, foreign_from};
-ghost use Rattle.words.specs.Needs.{ranks_by};
+ghost use Rattle.words.specs.Needs.{ranks_by, FilledBy};
 
 use codes::to_code::ranks_code;
 use codes::to_word::fill_word;
 use ranks::{Code, PlainRank};
 use settings::{Mirror, RankTable};
-
-// The rank of a byte; 0 for one that is no letter, whose word is refused.
-fn rank_or_zero(letters: &[u8], b: u8) -> u64
-    ensures { result ≡ rank_at letters.now b }
-{
-    settings::rank_of(letters, b).unwrap_or(0) as u64
-}
 
 // The place of the first byte that is no letter of the settings.
 pub fn foreign_at(letters: &[u8], word: &[u8]) -> Option<usize>
@@ -30,21 +23,27 @@ pub fn foreign_at(letters: &[u8], word: &[u8]) -> Option<usize>
         .position(|b| settings::rank_of(letters, *b).is_none())
 }
 
-// Writes the ranks of a word to the start of out.
+// Writes what a function answers of each byte of a word to the start of out.
+fn fill_by<F: Fn(u8) -> u64>(word: &[u8], rank: F, out: &mut [u64])
+    requires room { length word.now ≤ length out.old }
+    requires callable { F.IsAlwaysCallable rank }
+    ensures { FilledBy (F.post rank) word.now out.old out.new (length word.now) }
+{
+    for (i, b) in word.iter().enumerate() {
+        out[i] = rank(*b);
+    }
+}
+
+// Writes the ranks of a word to the start of out; 0 for a byte that is no letter, whose word is refused.
 pub fn fill_ranks(letters: &[u8], word: &[u8], out: &mut [u64])
     requires { length word.now ≤ length out.old }
     ensures { out.new ≡ ranks_of letters.now word.now ++ drop (length word.now) out.old }
 {
-    for (i, b) in word.iter().enumerate() {
-        out[i] = rank_or_zero(letters, *b);
-    }
-}
-
-// The rank by a table; 0 for a byte that is no letter.
-fn entry_or_zero(table: &RankTable, b: u8) -> u64
-    ensures { result ≡ rank_or_zero (rank_by_table table.now b) }
-{
-    u64::from(table.rank(b).unwrap_or(0))
+    fill_by(
+        word,
+        |b| settings::rank_of(letters, b).unwrap_or(0) as u64,
+        out,
+    );
 }
 
 // The same by a table of all bytes' ranks, for `loader`, which reads many words: no letter is searched for.
@@ -52,9 +51,7 @@ pub fn fill_ranks_by(table: &RankTable, word: &[u8], out: &mut [u64])
     requires { length word.now ≤ length out.old }
     ensures { out.new ≡ ranks_by (rank_by_table table.now) word.now ++ drop (length word.now) out.old }
 {
-    for (i, b) in word.iter().enumerate() {
-        out[i] = entry_or_zero(table, *b);
-    }
+    fill_by(word, |b| u64::from(table.rank(b).unwrap_or(0)), out);
 }
 
 // Writes a word of ranks in capitals to the start of out.

@@ -20,14 +20,14 @@ canonical_code-code-requires-else-canonical c =
 
 pub returns-then-canonical : goal.returns-then-canonical
 returns-then-canonical c = (
-      own_answer c.args.m c.requires.0 c.requires.1 c.mirrored-mirror.ensures c.plain_rank.ensures c.plain_rank-2.ensures c.if-canonical.true _
+  own_answer c.args.m c.requires.0 c.requires.1 c.mirrored-mirror.ensures c.plain_rank.ensures c.plain_rank-2.ensures c.if-canonical.true _
       c.canonical_code-code.ensures,
-      lower_first c.args.m c.requires.0 c.requires.1 c.mirrored-mirror.ensures c.plain_rank.ensures c.plain_rank-2.ensures,
-    )
+  lower_first c.args.m c.requires.0 c.requires.1 c.mirrored-mirror.ensures c.plain_rank.ensures c.plain_rank-2.ensures,
+)
 
 pub returns-else-canonical : goal.returns-else-canonical
 returns-else-canonical c = (
-      other_answer c.args.m c.requires.0 c.requires.1 c.mirrored-mirror.ensures c.plain_rank.ensures c.plain_rank-2.ensures c.if-canonical.false _
+  other_answer c.args.m c.requires.0 c.requires.1 c.mirrored-mirror.ensures c.plain_rank.ensures c.plain_rank-2.ensures c.if-canonical.false _
       c.canonical_code-code-else-canonical.ensures,
-      lower_first c.args.m c.requires.0 c.requires.1 c.mirrored-mirror.ensures c.plain_rank.ensures c.plain_rank-2.ensures,
-    )
+  lower_first c.args.m c.requires.0 c.requires.1 c.mirrored-mirror.ensures c.plain_rank.ensures c.plain_rank-2.ensures,
+)

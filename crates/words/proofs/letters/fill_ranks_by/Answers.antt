@@ -1,18 +1,14 @@
--- `words::letters::fill_ranks_by` meets its contract (LetterLoops).
-use Rattle.std.proofs.Common.{◌∙◌, sym}
+-- `words::letters::fill_ranks_by` meets its contract: what its closure answers is the rank by the table (Filled).
+use Rattle.std.proofs.Common.{ℕ, rules, arith}
+use Rattle.encoding.specs.Calls.{rank_or_zero}
 use Rattle.settings.specs.RankTables.{rank_by_table}
-use Rattle.words.proofs.LetterLoops.{fill_start, fill_next, fill_end}
-use Rattle.words.proofs.RanksByTable.{length-ranks_by, ranks_by_at}
+use Rattle.words.specs.Needs.{ranks_by}
+use Rattle.words.proofs.Filled.{filled_with}
 use Rattle.words.proofs.letters.fill_ranks_by.Goals as goal
 
-pub loop-i-init : goal.loop-i-init
-loop-i-init c = fill_start _ _ _ (length-ranks_by (rank_by_table c.args.table.now) c.args.word.now) c.requires
-
-pub loop-i-preserved : goal.loop-i-preserved
-loop-i-preserved c =
-    let rank = rank_by_table c.args.table.now in
-    fill_next _ _ _ (length-ranks_by rank c.args.word.now) c.loop-i.invariant c.loop-i-test.true _
-    (c.entry_or_zero.ensures ∙ sym (ranks_by_at rank c.args.word.now c.loop-i.i c.loop-i-test.true))
-
 pub returns : goal.returns
-returns c = fill_end _ _ _ (length-ranks_by (rank_by_table c.args.table.now) c.args.word.now) c.loop-i.invariant c.loop-i-test.false
+unfolding ranks_by
+returns c =
+    filled_with _ _ _ _ c.fill_by.ensures c.requires (record { below = λ i h. omega (arith, c.type_inv.word i) })
+    (λ (b : ℕ). rank_or_zero (rank_by_table c.args.table.now b))
+    (λ b r h p. search rules)
