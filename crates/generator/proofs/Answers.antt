@@ -1,7 +1,5 @@
 -- What the call answers and leaves at each of its tests. From the length that is worked out, the grounds by it, and the records that are written.
-use Rattle.std.proofs.Common.{◌≡◌, ℕ, ◌<◌, ◌≤◌, min, List, length, ◌∙◌, zero-add, arith}
-use Rattle.std.specs.Prelude.{None}
-use lib.Seq.{sets, sets-eq}
+use Rattle.std.proofs.Common.{◌≡◌, ℕ, ◌<◌, ◌≤◌, min, List, length, arith, None}
 use Rattle.settings.specs.Grounds.{Ground, given, refused, ground, ground_at, too_short, outcome, ◌or_else◌}
 use Rattle.settings.specs.Settings.{settings_ground, settings_of}
 use Rattle.settings.proofs.Outcomes.{kept_by, kept_on, set_by}
@@ -9,8 +7,13 @@ use Rattle.settings.proofs.SettingsGrounds.{good_settings}
 use Rattle.settings.specs.Limits.{too_long}
 use Rattle.testload.specs.TestLoad.{test_load, generate_ground, Generates}
 use Rattle.testload.proofs.Theorems.{larger_gives_6, short_buffer_gives_7, room_gives_none}
-use Rattle.generator.specs.Needs.{Fits, records_length}
+use Rattle.texts.specs.Needs.{Puts}
+use Rattle.texts.proofs.Writing.{from_start}
+use Rattle.generator.specs.Needs.{SomeLetters, records_length}
 use Rattle.generator.proofs.Lengths.{length-records}
+
+pub some_letters : (letters : List ℕ) (k m : ℕ) → settings_ground letters k m ≡ None → SomeLetters letters
+some_letters letters k m good = let g = good_settings letters k m good in record { some = omega (arith, g.two); few = g.few }
 
 module _ (letters : List ℕ) (k m start records each : ℕ) (old : List ℕ) where
   abbrev text : List ℕ
@@ -41,13 +44,8 @@ module _ (letters : List ℕ) (k m start records each : ℕ) (old : List ℕ) wh
           (kept_by _ (length text) text old (7, length text) (short_buffer_gives_7 letters k m good text (length old) short_text (omega (arith, length_is))))
 
       module _ (room : needed ≤ length old) where
-        pub load_fits : Fits letters old 0 text
-        load_fits =
-            let g = good_settings letters k m good in
-            record { some_letters = omega (arith, g.two); few = g.few; room = omega (arith, length_is) }
-
-        pub written : (new : List ℕ) → new ≡ sets old 0 text → Generates letters k m text old (given needed) new
-        written new e =
+        pub written : {new : List ℕ} {r : ℕ} → Puts old new 0 r text → Generates letters k m text old (given needed) new
+        written {new} P =
             rw (← length_is)
             (set_by _ (length text) text old new (room_gives_none letters k m good text (length old) short_text (omega (arith, length_is)))
-            (e ∙ sets-eq text old 0 (omega (arith, length_is)) ∙ rw (zero-add (length text))))
+            (from_start P (omega (arith, length_is))))

@@ -58,6 +58,3 @@ next-length each i records h =
 pub no_length : (each i records : ℕ) → records ≤ i → records_length each (i + 1) (records - i) ≡ 0
 unfolding records_length
 no_length each i records h = let none_left : records - i ≡ 0 = omega arith in rw none_left
-
-pub all_lengths : (each records : ℕ) → records_length each 1 records ≡ 0 + records_length each (0 + 1) (records - 0)
-all_lengths each records = let all : records - 0 ≡ records = omega arith in rw all (omega arith)

@@ -1,5 +1,4 @@
--- Products: a product by halves. Lengths: how long a test load is. Drawing: letters and records, one after the other. Answers: of the call.
-pub mod Products
+-- Lengths: how long a test load is. Drawing: letters and records, one after the other. Answers: of the call.
 pub mod Lengths
 pub mod Drawing
 pub mod Answers

@@ -1,9 +1,6 @@
 -- Computed checks of the listing's definition: the worked example of document 01 with its number of classes (document 02, K6), counts of several digits, and a
 -- table with no count.
-use mathlib.Core.Path.{◌≡◌, refl}
-use mathlib.Core.List.{List, [], ◌∷◌}
-use Prim.Native.Nat.{ℕ}
-use lib.ListN.{replicate}
+use Rattle.std.proofs.Common.{◌≡◌, refl, List, [], ◌∷◌, ℕ, replicate}
 use Rattle.laws.specs.Text.{bytes}
 use Rattle.settings.specs.Settings.{is_odd, half_up, classes}
 use Rattle.encoding.specs.WordsOfCodes.{word_of_plain, pair_of_rank, middle_of_code, word_of}

@@ -1,21 +1,16 @@
 -- How long a listing is: as long as its lines, and no longer than `longest` has it. So the length that ground 7 asks for stands beside
 -- the number of a ground in 64 bits. From the definitions of the lines, the lengths of words and decimals, and the limits of the settings.
-use mathlib.Core.Path.{◌≡◌, refl}
-use Prim.Native.Nat.{ℕ, zero, suc, ◌+◌, ◌*◌, ◌<◌, ◌≤◌}
-use native.Mathlib.Omega.{arith}
-use mathlib.Core.List.{List, [], ◌∷◌}
-use lib.ListN.{length, get_or, length-append}
-use Rattle.laws.proofs.Tests.{past_zero}
+use Rattle.std.proofs.Common.{◌≡◌, refl, ℕ, zero, suc, ◌+◌, ◌*◌, ◌<◌, ◌≤◌, arith, List, [], ◌∷◌, length, get_or, length-append}
 use Rattle.laws.proofs.Sums.{AddsUp, sum_le}
 use Rattle.settings.proofs.SettingsGrounds.{good_settings}
 use Rattle.encoding.specs.Calls.{word_bytes}
 use Rattle.words.proofs.ReadAnswers.{word_bytes_length}
 use Rattle.tally_book.specs.Table.{class_count}
 use Rattle.tally_book.specs.Demand.{sum}
-use Rattle.texts.specs.Decimals.{decimal}
 use Rattle.texts.proofs.Decimals.{decimal-length}
-use Rattle.texts.specs.Needs.{Puts}
-use Rattle.texts.proofs.Writing.{measured}
+use Rattle.texts.specs.declared.Writer.{Writer}
+use Rattle.texts.specs.Needs.{Writes}
+use Rattle.texts.proofs.Writing.{then}
 use Rattle.survey.specs.Line.{mirror_name, survey_line}
 use Rattle.listing.specs.Listing.{count_line, class_line, count_lines, total_line, listing_of}
 use Rattle.listing.specs.Needs.{AllCounts, line_length, lines_length, longest}
@@ -41,9 +36,6 @@ lines_are k word n w q (x ∷ counts) l =
       line_is k (word q) x (w q (omega arith)),
       lines_are k word n w (suc q) counts (omega arith),
     )
-
-pub counted_length : (k n : ℕ) → (n ≡ 0 → ⊥) → line_length k n ≡ 10 + k + length (decimal n)
-counted_length k = past_zero (λ (n : ℕ). line_length k n ≡ 10 + k + length (decimal n)) (λ n. refl)
 
 pub line_short : (k n : ℕ) → k ≤ 62 → n < 4294967296 → line_length k n ≤ 82
 line_short k zero h g = omega arith
@@ -96,12 +88,12 @@ module _ (letters : List ℕ) (k m : ℕ) (counts : List ℕ) (A : AllCounts let
     pub listing_length : length (listing_of letters k m counts) ≤ longest (length counts)
     listing_length = omega (arith, listing_is, survey_short, all_lines_short, total_short)
 
-    -- The places after the survey line and after the total, each written from the start, and the length of the lines between: their sum is the
-    -- length of the listing, and no sum on the way is too large.
-    pub parts_are : {o o' s s' : List ℕ} {survey lines total : ℕ} → Puts o o' 0 survey (survey_line letters k m) → lines ≡ lines_length k counts
-        → Puts s s' 0 total (total_line (sum counts))
-        → (survey + lines + total ≡ length (listing_of letters k m counts)) × (survey + lines + total ≤ longest 16777216)
-    parts_are P lines Q =
-        let a = measured P (omega (arith, survey_short)) in
-        let b = measured Q (omega (arith, total_short)) in
-        (omega (arith, a, b, lines, listing_is), omega (arith, a, b, lines, survey_short, all_lines_short, total_short, A.few))
+    -- The place after the survey line and the total, written from the start one after the other, and the length of the lines between: their sum is the
+    -- length of the listing, and not too large.
+    pub parts_are : {u v w : Writer} {lines : ℕ} → u.at ≡ 0 → Writes u v (survey_line letters k m) → Writes v w (total_line (sum counts))
+        → lines ≡ lines_length k counts
+        → (w.at + lines ≡ length (listing_of letters k m counts)) × (w.at + lines ≤ longest 16777216)
+    parts_are start P Q lines =
+        let a = (then P Q).puts.place in
+        let b = length-append (survey_line letters k m) (total_line (sum counts)) in
+        (omega (arith, a, b, lines, listing_is, survey_short, total_short), omega (arith, a, b, lines, survey_short, all_lines_short, total_short, A.few))

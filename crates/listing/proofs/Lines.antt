@@ -1,14 +1,8 @@
 -- The lines of a listing one by one: the line of a class and its word, the lines by rising code,
 -- the sum of the counts. From the definitions in specs/Listing.antt, and what `word_of` promises.
-use mathlib.Core.Path.{◌≡◌, refl, ◌∙◌}
-use Prim.Native.Nat.{ℕ, suc, ◌+◌, ◌<◌, ◌≤◌}
-use native.Mathlib.Nat.{add-zero, add-suc, suc-add, zero-add}
-use native.Mathlib.Numerals.{add-one}
-use native.Mathlib.Omega.{arith}
-use Rattle.std.specs.Prelude.{None}
-use mathlib.Core.List.{List, [], ◌∷◌, ◌++◌, append_assoc, append-nil}
-use lib.ListN.{length, take, drop, get_or}
-use lib.Seq.{take-suc, length-take-le}
+use Rattle.std.proofs.Common.{◌≡◌, refl, sym, ◌∙◌, ℕ, ◌+◌, ◌<◌, ◌≤◌, add-one, arith, None, List, [], ◌∷◌, ◌++◌, length, take, drop, get_or, drop_of_length-le, drop-cons}
+use Rattle.std.specs.List.{sum_by}
+use Rattle.std.proofs.lemmas.List.Sums.{sum_by-cons}
 use Rattle.laws.proofs.Tests.{past_zero}
 use Rattle.laws.proofs.Sums.{AddsUp}
 use Rattle.laws.proofs.Buffers.{front_is, front_fits}
@@ -48,34 +42,24 @@ word_read {letters} {k} {m} {q} {answer} {old} {new} good below room O =
 -- ---- the lines by rising code
 
 module _ (word : ℕ → List ℕ) where
-  lines_append : (q : ℕ) (xs ys : List ℕ) → count_lines word q (xs ++ ys) ≡ count_lines word q xs ++ count_lines word (q + length xs) ys
+  -- The lines from a class on begin with its own.
+  pub lines_first : (counts : List ℕ) (q : ℕ) → q < length counts
+      → count_lines word q (drop q counts) ≡ class_line (word q) (get_or counts q 0) ++ count_lines word (q + 1) (drop (q + 1) counts)
   unfolding count_lines
-  lines_append q [] ys = rw (add-zero q)
-  lines_append q (n ∷ xs) ys =
-      rw (
-        lines_append (suc q) xs ys,
-        ← append_assoc (class_line (word q) n) (count_lines word (suc q) xs) (count_lines word (suc q + length xs) ys),
-        suc-add q (length xs),
-        ← add-suc q (length xs),
-      )
+  lines_first counts q h = rw (add-one q, drop-cons counts q 0 h)
 
-  -- The lines of one class more.
-  pub lines_more : (counts : List ℕ) (q : ℕ) → q < length counts
-      → count_lines word 0 (take (q + 1) counts) ≡ count_lines word 0 (take q counts) ++ class_line (word q) (get_or counts q 0)
+  pub no_lines : (counts : List ℕ) (q : ℕ) → length counts ≤ q → count_lines word q (drop q counts) ≡ []
   unfolding count_lines
-  lines_more counts q h =
-      rw (
-        add-one q,
-        take-suc counts q 0 h,
-        lines_append 0 (take q counts) (get_or counts q 0 ∷ []),
-        zero-add (length (take q counts)),
-        length-take-le q counts (omega arith),
-        append-nil (class_line (word q) (get_or counts q 0)),
-      )
+  no_lines counts q h = rw (drop_of_length-le counts h)
 
 -- ---- the sum of the counts
 
 -- Each count has itself as its share of the sum.
 pub counts-add-up : AddsUp (λ (n : ℕ). n) sum
 unfolding sum
-counts-add-up = record { None = refl; more = λ x xs. refl }
+counts-add-up = record { none = refl; more = λ x xs. refl }
+
+-- std's sum of shares is what adds them up.
+pub sum_by_is : {f : ℕ → ℕ} {g : List ℕ → ℕ} → AddsUp f g → (xs : List ℕ) → sum_by f xs ≡ g xs
+sum_by_is A [] = sym A.none
+sum_by_is {f} A (x ∷ xs) = omega (arith, sum_by-cons f x xs, sum_by_is A xs, A.more x xs)

@@ -1,7 +1,6 @@
 -- Document 01, "Listing and counter program": "The listing has the survey line, one line for each class with a count above 0 (rising code,
 -- canonical word, count), and the sum of the counts. Every line ends in LF." The survey line has the number of classes (document 02, K6).
-use Rattle.std.specs.Prelude.{ℕ, zero, suc, List, [], ◌∷◌, ◌++◌, length}
-use Rattle.std.specs.Prelude.{Option}
+use Rattle.std.specs.Prelude.{ℕ, zero, suc, List, [], ◌∷◌, ◌++◌, length, Option}
 use Rattle.laws.specs.Text.{bytes}
 use Rattle.settings.specs.Grounds.{Ground, Outcome, ground_at, too_short, Overwrites, ◌or_else◌}
 use Rattle.encoding.specs.Calls.{word_bytes}

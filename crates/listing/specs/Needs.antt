@@ -1,7 +1,6 @@
 -- What functions ask of each other. No claim and no call of document 01 rests on it; `put_listing`, which the program uses, and the bound of a listing's length
 -- do.
-use Rattle.std.specs.Prelude.{◌≡◌, ℕ, zero, suc, ◌+◌, ◌*◌, ◌≤◌, List, [], ◌∷◌, length}
-use Rattle.std.specs.Prelude.{None}
+use Rattle.std.specs.Prelude.{◌≡◌, ℕ, zero, suc, ◌+◌, ◌*◌, ◌≤◌, List, [], ◌∷◌, length, None}
 use Rattle.settings.specs.Grounds.{Outcome, ground_at, too_short, Overwrites}
 use Rattle.settings.specs.Settings.{settings_ground}
 use Rattle.tally_book.specs.Table.{class_count}

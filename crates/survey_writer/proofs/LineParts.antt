@@ -1,7 +1,5 @@
 -- The survey line as its parts are written. From survey's law of the line that we print.
-use mathlib.Core.Path.{◌≡◌}
-use Prim.Native.Nat.{ℕ}
-use mathlib.Core.List.{List, ◌++◌, append_assoc, append-nil}
+use Rattle.std.proofs.Common.{◌≡◌, ℕ, List, ◌++◌, append_assoc, append-nil}
 use Rattle.laws.specs.Text.{bytes}
 use Rattle.settings.specs.Settings.{settings_of}
 use Rattle.texts.specs.Decimals.{decimal}

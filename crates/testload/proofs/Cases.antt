@@ -1,9 +1,6 @@
 -- Computed checks of the definitions: texts that were worked out apart from them, the ends of lines, records of 0 letters, and the grounds 1 and 7 (6
 -- would need a text of 16,777,217 bytes).
-use mathlib.Core.Path.{◌≡◌, refl}
-use Rattle.std.specs.Prelude.{None, Some}
-use mathlib.Core.List.{List, []}
-use Prim.Native.Nat.{ℕ}
+use Rattle.std.proofs.Common.{◌≡◌, refl, None, Some, List, [], ℕ}
 use Rattle.laws.specs.Text.{bytes}
 use Rattle.settings.specs.Settings.{is_capital, is_in, different_capitals, good_letters, bad_size, settings_ground}
 use Rattle.encoding.specs.Calls.{in_capitals}

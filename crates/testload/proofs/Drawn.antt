@@ -1,10 +1,6 @@
 -- What is drawn: n letters for n, each a rank below the number of letters. From the definitions of the step and of a state's rank.
-use mathlib.Core.Path.{◌≡◌, refl, ap, ◌∙◌}
-use mathlib.Core.List.{List}
-use Prim.Native.Nat.{ℕ, zero, suc, ◌+◌, ◌*◌, ◌/◌, ◌^◌, ◌<◌}
-use native.Mathlib.Nat.{mod-lt, div-lt_iff_lt-mul, mul-lt-mul_of_pos_right}
-use native.Mathlib.Omega.{arith}
-use lib.ListN.{length, get_or, length-map}
+use Rattle.std.proofs.Common.{◌≡◌, refl, ap, ◌∙◌, List, ℕ, zero, suc, ◌+◌, ◌*◌, ◌/◌, ◌^◌, ◌<◌, mod-lt, div-lt_iff_lt-mul, mul-lt-mul_of_pos_right, arith, length, get_or}
+use lib.ListN.{length-map}
 use Rattle.encoding.specs.Words.{Ranks}
 use Rattle.encoding.specs.Calls.{in_capitals}
 use Rattle.testload.specs.TestLoad.{stepped, drawn_rank, drawn, drawn_letters}

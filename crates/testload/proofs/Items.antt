@@ -1,15 +1,6 @@
 -- What each byte of a test load is, part by part (`load_part`): a > that opens, header bytes and line ends that are skipped, letters that have a rank. From the
 -- definitions of the text and of a byte's item.
-use mathlib.Core.Path.{◌≡◌, refl, sym, ap, ◌∙◌}
-use mathlib.Core.Bool.{Bool, true, false, cond}
-use Rattle.std.specs.Prelude.{Option, None, Some}
-use mathlib.Core.List.{List, [], ◌∷◌, ◌++◌, map, append_assoc}
-use Prim.Native.Nat.{ℕ, zero, suc, ◌+◌, ◌*◌, ◌<◌, ◌≤◌}
-use native.Mathlib.Omega.{arith}
-use native.Mathlib.Nat.{zero-mul}
-use lib.ListN.{length, get_or}
-use lib.Dec.{eqb}
-use borrow.Author.Tests.{ne_eqb}
+use Rattle.std.proofs.Common.{◌≡◌, refl, sym, ap, ◌∙◌, Bool, true, false, cond, Option, None, Some, List, [], ◌∷◌, ◌++◌, map, append_assoc, ℕ, zero, suc, ◌+◌, ◌*◌, ◌<◌, ◌≤◌, arith, zero-mul, length, get_or, eqb, ne_eqb}
 use Rattle.laws.specs.Each.{Each}
 use Rattle.settings.specs.Settings.{different_capitals, rank_in}
 use Rattle.settings.proofs.LetterPlaces.{in_capital, in_at, rank_at_lem}

@@ -1,6 +1,5 @@
 -- Document 02, K8: the test load, a sequence file that is made from a start, a number of records and a number of letters in each; and the call that writes it.
-use Rattle.std.specs.Prelude.{ℕ, zero, suc, ◌+◌, ◌*◌, ◌/◌, ◌%◌, ◌^◌, cond, List, [], ◌∷◌, ◌++◌, length, eqb}
-use Rattle.std.specs.Prelude.{Option}
+use Rattle.std.specs.Prelude.{ℕ, zero, suc, ◌+◌, ◌*◌, ◌/◌, ◌%◌, ◌^◌, cond, List, [], ◌∷◌, ◌++◌, length, eqb, Option}
 use Rattle.laws.specs.Text.{bytes}
 use Rattle.settings.specs.Grounds.{Ground, Outcome, ground, ground_at, too_short, Overwrites, ◌or_else◌}
 use Rattle.settings.specs.Settings.{settings_ground}

@@ -1,15 +1,7 @@
 -- Texts written one after the other are one text; a text that fits, written from the start, is followed by what the buffer held. From what
 -- `sets` does to a list.
-use mathlib.Core.Path.{◌≡◌, refl, sym, ap, ◌∙◌}
-use Prim.Native.Nat.{ℕ, suc, ◌+◌, ◌≤◌, min}
-use native.Mathlib.Nat.{add-zero, add-suc, suc-add, zero-add}
-use native.Mathlib.Omega.{arith}
-use mathlib.Core.Bool.{Bool, true, false}
-use mathlib.Core.List.{List, [], ◌∷◌, ◌++◌, append_assoc, append-nil}
-use lib.ListN.{length, drop, set, length-append}
+use Rattle.std.proofs.Common.{◌≡◌, refl, sym, ap, ◌∙◌, ℕ, suc, ◌+◌, ◌≤◌, min, add-zero, add-suc, suc-add, zero-add, arith, Bool, true, false, List, [], ◌∷◌, ◌++◌, append_assoc, append-nil, length, drop, set, length-append, leb, leb-true, leb-false}
 use lib.Seq.{sets, length-sets, sets-eq, set_out}
-use lib.Dec.{leb}
-use borrow.Author.Tests.{leb-true, leb-false}
 use Rattle.texts.specs.Decimals.{decimal}
 use Rattle.texts.specs.declared.Writer.{Writer}
 use Rattle.texts.specs.Needs.{top, Puts, Writes}

@@ -1,54 +1,38 @@
--- `generator::put_letters` meets its contract. The invariant, `Drawing`: what is left to write, written at `next`, is what was to be written at `at`.
-use Rattle.std.proofs.Common.{ℕ, length, get_or, ap, ◌∙◌, arith, length-set}
+-- `generator::put_letters` meets its contract. The invariant, `Drawing`: which letters are still to be written.
+use Rattle.std.proofs.Common.{ℕ, length, get_or, ap, ◌∙◌, arith}
 use Rattle.testload.specs.TestLoad.{drawn_rank}
 use Rattle.testload.proofs.Drawn.{rank_below}
-use Rattle.generator.proofs.Drawing.{drawing_none, letter_room, letter_drawn, end_room, line_drawn, same_buffer, last_room, last_ended, all_ended}
+use Rattle.generator.proofs.Drawing.{drawing_all, letter_drawn, line_drawn, last_state, last_ended, all_ended}
 use Rattle.generator.proofs.put_letters.Goals as goal
 use Rattle.generator.proofs.put_letters.Goals.{then-column-eq60, else-column-eq60}
 
-pub loop-left-init : goal.loop-left-init
-loop-left-init c =
-    let a = c.args in
-    drawing_none a.letters.now a.out.now a.at a.each a.state c.requires.room
-
-pub rank_of_state-rank-requires : goal.rank_of_state-rank-requires
-rank_of_state-rank-requires c = c.requires.few
+pub loop-init : goal.loop-init
+loop-init c = drawing_all _ _ _ _ _ (omega arith)
 
 pub bounds-letters-rank : goal.bounds-letters-rank
-bounds-letters-rank c =
-    rw c.rank_of_state-rank.ensures (rank_below (length c.args.letters.now) _ c.requires.some_letters (omega arith))
+bounds-letters-rank c = rw c.rank_of_state-rank.ensures (rank_below (length c.args.letters.now) _ c.requires.some (omega arith))
 
-pub bounds-out-next : goal.bounds-out-next
-bounds-out-next c = letter_room c.loop-left-test.true c.loop-left.invariant
-
-pub overflow_add-column : goal.overflow_add-column
-overflow_add-column c = omega (arith, c.loop-left.invariant.short)
-
-pub bounds-out-next-then-column-eq60 : goal.bounds-out-next-then-column-eq60
-bounds-out-next-then-column-eq60 c =
-    rw (length-set c.loop-left.out c.loop-left.next _) (end_room c.loop-left-test.true c.loop-left.invariant c.if-column-eq60.true)
-
-pub loop-left-preserved : goal.loop-left-preserved
-loop-left-preserved c =
+pub loop-preserved : goal.loop-preserved
+loop-preserved c =
     let letters = c.args.letters.now in
-    let letter = ap (λ (r : ℕ). get_or letters r 0) (c.rank_of_state-rank.ensures ∙ ap (drawn_rank (length letters)) c.step-x.ensures) in
+    let letter = ap (λ (r : ℕ). get_or letters r 0) (c.rank_of_state-rank.ensures ∙ ap (drawn_rank (length letters)) c.step-state.ensures) in
     elim c.if-column-eq60.branch [
-      | then-column-eq60 w ↦ line_drawn c.loop-left-test.true c.loop-left.invariant letter c.step-x.ensures w.if-column-eq60.true w.out-is w.next-is w.column-is
-      | else-column-eq60 w ↦ letter_drawn c.loop-left-test.true c.loop-left.invariant letter c.step-x.ensures
-          (omega (arith, c.loop-left.invariant.short, w.if-column-eq60.false)) w.out-is w.next-is w.column-is
+      | then-column-eq60 w ↦
+          rw (w.w-is, w.column-is)
+          (line_drawn c.loop.invariant (omega arith) letter c.step-state.ensures c.put_byte.ensures w.if-column-eq60.true w.put_byte-then-column-eq60.ensures)
+      | else-column-eq60 w ↦
+          rw (w.w-is, w.column-is)
+          (letter_drawn c.loop.invariant (omega arith) letter c.step-state.ensures c.put_byte.ensures (omega (arith, c.loop.invariant.short, w.if-column-eq60.false)))
     ]
 
-pub bounds-out-next-then-column-gt0 : goal.bounds-out-next-then-column-gt0
-bounds-out-next-then-column-gt0 c = last_room c.loop-left.invariant c.loop-left-test.false c.if-column-gt0.true
+pub returns-then-column-gt0-clause-lines : goal.returns-then-column-gt0-clause-lines
+returns-then-column-gt0-clause-lines c = last_ended c.loop.invariant (omega arith) c.if-column-gt0.true c.put_byte-then-column-gt0.ensures
 
-pub shape_of-out-then-column-gt0 : goal.shape_of-out-then-column-gt0
-shape_of-out-then-column-gt0 c = let loop = c.loop-left in length-set loop.out loop.next 10 ∙ same_buffer loop.invariant
+pub returns-then-column-gt0-clause-goes_on : goal.returns-then-column-gt0-clause-goes_on
+returns-then-column-gt0-clause-goes_on c = last_state c.loop.invariant (omega arith)
 
-pub returns-then-column-gt0 : goal.returns-then-column-gt0
-returns-then-column-gt0 c = last_ended c.loop-left.invariant c.loop-left-test.false c.if-column-gt0.true
+pub returns-else-column-gt0-clause-lines : goal.returns-else-column-gt0-clause-lines
+returns-else-column-gt0-clause-lines c = all_ended c.loop.invariant (omega arith) c.if-column-gt0.false
 
-pub shape_of-out-else-column-gt0 : goal.shape_of-out-else-column-gt0
-shape_of-out-else-column-gt0 c = same_buffer c.loop-left.invariant
-
-pub returns-else-column-gt0 : goal.returns-else-column-gt0
-returns-else-column-gt0 c = all_ended c.loop-left.invariant c.loop-left-test.false c.if-column-gt0.false
+pub returns-else-column-gt0-clause-goes_on : goal.returns-else-column-gt0-clause-goes_on
+returns-else-column-gt0-clause-goes_on c = last_state c.loop.invariant (omega arith)

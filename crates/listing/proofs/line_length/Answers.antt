@@ -1,13 +1,7 @@
--- `listing::line_length` meets its contract: past the test for 0 (`counted_length`) the length is that of the line's texts, and a decimal is short.
-use native.Mathlib.Omega.{arith}
+-- `listing::line_length` meets its contract: a count has at most ten digits.
+use Rattle.std.proofs.Common.{arith}
 use Rattle.texts.proofs.Decimals.{decimal-length}
-use Rattle.listing.proofs.Lengths.{counted_length}
 use Rattle.listing.proofs.line_length.Goals as goal
 
-pub overflow_add-result-2 : goal.overflow_add-result-2
-overflow_add-result-2 c = omega (arith, c.digit_count.ensures, decimal-length 19 c.args.count (omega arith))
-
-pub returns : goal.returns
-returns c =
-    let a = c.args in
-    omega (arith, c.digit_count.ensures, counted_length a.k a.count c.if-count-eq0.false)
+pub overflow_add-result-else-count-eq0 : goal.overflow_add-result-else-count-eq0
+overflow_add-result-else-count-eq0 c = omega (arith, c.from.ensures, c.digit_count.ensures, decimal-length 9 c.from.result (omega arith))

@@ -1,29 +1,21 @@
--- `listing::lines_length` meets its contract. The invariant: the length so far and that of the lines to come make the length of all.
-use Prim.Native.Nat.{◌≤◌}
-use native.Mathlib.Omega.{arith}
-use lib.ListN.{get_or}
+-- `listing::lines_length` meets its contract: each count adds the length of its line.
+use Rattle.std.proofs.Common.{arith, get_or}
 use Rattle.laws.proofs.Sums.{sum_step, sum_end}
-use Rattle.listing.proofs.Lengths.{line_short, lines-add-up}
+use Rattle.listing.proofs.Lengths.{lines-add-up, line_short}
 use Rattle.listing.proofs.lines_length.Goals as goal
-
-pub loop-j-init : goal.loop-j-init
-loop-j-init c = (omega arith, omega arith, omega arith)
-
-pub line_length-sum-requires : goal.line_length-sum-requires
-line_length-sum-requires c = c.requires.0
 
 pub overflow_add-sum : goal.overflow_add-sum
 overflow_add-sum c =
-    let short : c.line_length-sum.result ≤ 82 = let n = get_or c.args.counts.now c.loop-j.j 0 in let fits = c.type_inv.counts c.loop-j.j in omega (arith, c.line_length-sum.ensures, line_short c.args.k n c.requires.0 (omega (arith, fits))) in
-    omega (arith, short, c.loop-j.invariant.2, c.requires.1)
+    let counts = c.args.counts.now in
+    let short = line_short c.args.k (get_or counts c.loop-n.n-index 0) c.requires.0 (omega (arith, c.type_inv.counts c.loop-n.n-index)) in
+    omega (arith, c.line_length-sum.ensures, short)
 
-pub loop-j-preserved : goal.loop-j-preserved
-loop-j-preserved c =
-    let short : c.line_length-sum.result ≤ 82 = let n = get_or c.args.counts.now c.loop-j.j 0 in let fits = c.type_inv.counts c.loop-j.j in omega (arith, c.line_length-sum.ensures, line_short c.args.k n c.requires.0 (omega (arith, fits))) in
-    let step = sum_step (lines-add-up c.args.k) c.args.counts.now c.loop-j.j c.loop-j-test.true in
-    (omega (arith, c.loop-j.invariant.0, step, c.line_length-sum.ensures), omega arith, omega (arith, short, c.loop-j.invariant.2))
+pub loop-n-preserved : goal.loop-n-preserved
+loop-n-preserved c =
+    let counts = c.args.counts.now in
+    let short = line_short c.args.k (get_or counts c.loop-n.n-index 0) c.requires.0 (omega (arith, c.type_inv.counts c.loop-n.n-index)) in
+    let step = sum_step (lines-add-up c.args.k) counts c.loop-n.n-index c.loop-n-test.true in
+    (omega (arith, c.loop-n.invariant.0, c.line_length-sum.ensures, step), omega (arith, c.loop-n.invariant.1, c.line_length-sum.ensures, short))
 
 pub returns : goal.returns
-returns c =
-    let end = sum_end (lines-add-up c.args.k) c.args.counts.now c.loop-j.j c.loop-j-test.false in
-    omega (arith, c.loop-j.invariant.0, end)
+returns c = omega (arith, c.loop-n.invariant.0, sum_end (lines-add-up c.args.k) c.args.counts.now c.loop-n.n-index c.loop-n-test.false)

@@ -1,12 +1,7 @@
--- The loops of this function: what holds at each turn, and what falls.
-use mathlib.Core.Path.{◌≡◌}
-use Prim.Native.Nat.{◌+◌, ◌-◌, ◌*◌, ◌≤◌}
-use lib.ListN.{length, drop}
+-- The loop of this function: the lines of the counts before the index are summed up, each of at most 82 bytes.
+use Rattle.std.proofs.Common.{◌≡◌, ◌+◌, ◌*◌, ◌≤◌, drop}
 use Rattle.listing.specs.Needs.{lines_length}
 use Rattle.listing.proofs.lines_length.Given as goal
 
-abbrev pub invariant-loop-j : goal.invariant-loop-j
-invariant-loop-j l = (lines_length l.k l.counts ≡ l.sum + lines_length l.k (drop l.j l.counts)) × (l.j ≤ length l.counts) × (l.sum ≤ 82 * l.j)
-
-abbrev pub decreases-loop-j : goal.decreases-loop-j
-decreases-loop-j l = length l.counts - l.j
+abbrev pub invariant-loop-n : goal.invariant-loop-n
+invariant-loop-n l = (lines_length l.k l.counts ≡ l.sum + lines_length l.k (drop l.n-index l.counts)) × (l.sum ≤ 82 * l.n-index)

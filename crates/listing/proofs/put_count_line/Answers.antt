@@ -6,7 +6,4 @@ use Rattle.listing.proofs.put_count_line.Goals as goal
 
 pub returns : goal.returns
 unfolding count_line
-returns c =
-    let a = c.args in
-    then c.put_text-after_opening.ensures
-    (then c.put_text-after_word.ensures (then_field (bytes " ") a.n c.put_field-after_count.ensures c.put_text.ensures))
+returns c = then c.put_text.ensures (then c.put_text-2.ensures (then_field (bytes " ") c.args.n c.put_field.ensures c.put_text-3.ensures))

@@ -7,6 +7,4 @@ use Rattle.listing.proofs.put_total.Goals as goal
 
 pub returns : goal.returns
 unfolding total_line
-returns c =
-    let counts = c.args.counts.now in
-    then_field (bytes "(total ") (sum counts) (rw c.total-t.ensures at c.put_field-after_sum.ensures) c.put_text.ensures
+returns c = then_field (bytes "(total ") (sum c.args.counts.now) (rw c.total.ensures at c.put_field.ensures) c.put_text.ensures

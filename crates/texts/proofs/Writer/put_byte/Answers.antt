@@ -1,5 +1,5 @@
 -- `texts::Writer::put_byte` meets its contract: the byte is set where the buffer has a place for it, and else nothing changes (`set_out`).
-use mathlib.Core.Path.{sym}
+use Rattle.std.proofs.Common.{sym}
 use lib.Seq.{set_out}
 use Rattle.texts.proofs.Writer.put_byte.Goals as goal
 use Rattle.texts.proofs.Writer.put_byte.Goals.{then-self, else-self}

@@ -1,5 +1,5 @@
 -- `texts::Writer::put_text` meets its contract: each byte leaves one less to write.
-use mathlib.Core.List.{[], ◌∷◌}
+use Rattle.std.proofs.Common.{[], ◌∷◌}
 use Rattle.std.proofs.lemmas.List.{drop_more, drop_all}
 use Rattle.texts.proofs.Writing.{lacks_all, lacks_less, lacks_none}
 use Rattle.texts.proofs.Writer.put_text.Goals as goal

@@ -1,5 +1,5 @@
 -- The loop of this function: the text's bytes from the index on are left to write.
-use lib.ListN.{drop}
+use Rattle.std.proofs.Common.{drop}
 use Rattle.texts.proofs.Writing.{Lacks}
 use Rattle.texts.proofs.Writer.put_text.Given as goal
 
