@@ -1,7 +1,7 @@
 -- Reading with a reader until none is given gives the file's records from the reader's offset on, each once and in file order: there is such a
 -- reading (`reads_all`), and it is the only one (`reads_only`); so a reader that `new` made reads all records of the file and nothing else
--- (`reads_whole`, `reads_whole_only`). Each record's end is past its header, and no header stands between. Then what the search for the record
--- with a number does, step by step.
+-- (`reads_whole`, `reads_whole_only`). Each record's end is past its header, and no header stands between. Then the record with a
+-- number, which the call after so many gives (`number_is`).
 use mathlib.Core.Path.{◌≡◌, refl, sym, ap, subst, ◌∙◌}
 use Prim.Native.Nat.{ℕ, zero, suc, ◌+◌, ◌-◌, ◌<◌, ◌≤◌}
 use native.Mathlib.Numerals.{add-one}
@@ -9,13 +9,17 @@ use native.Mathlib.Decide.{dec_lt, ℕ_discrete}
 use native.Mathlib.Omega.{arith}
 use mathlib.Core.Bool.{Bool, true, false, cond, ◌||◌, and-false, and-eq-true_iff}
 use Rattle.std.specs.Prelude.{Option, None, Some}
-use mathlib.Core.List.{List, [], ◌∷◌, map}
-use lib.ListN.{length, get_or, get_elem?}
+use mathlib.Core.List.{List, [], ◌∷◌, ◌++◌, map, append-nil}
+use Rattle.std.specs.Iterator.{Yields, SkipsThenYields}
+use Rattle.std.proofs.lemmas.Option.{slice_get_past}
+use lib.ListN.{length, get_or, length-map}
+use Rattle.std.specs.List.{slice_get}
 use lib.Dec.{eqb}
 use denote.Ref.{Bor}
 use borrow.Author.Tests.{ne_eqb, eqb-true, lt-ltb, le-ltb}
+use Rattle.records.specs.declared.Record.{Record}
 use Rattle.records.specs.declared.Reader.{Reader}
-use Rattle.records.specs.Records.{Parts, end_of, is_lf, is_header, first_from, header_at, line_end, header_length, record_to, record_of, record_from, offset_after, headers_from, records_from, all_records, record_number, Starts, Reads, ended, given}
+use Rattle.records.specs.Records.{Parts, parts_of, of_found, end_of, is_lf, is_header, first_from, header_at, line_end, header_length, record_to, record_of, record_from, offset_after, headers_from, records_from, all_records, record_number, Starts, Gives, Moves, Reads, ended, given}
 
 -- ---- the first of some places
 
@@ -24,24 +28,24 @@ record First (test : ℕ → Bool) (p n h : ℕ) : Type 0 where
   low : p ≤ h
   high : h ≤ p + n
   passes : h < p + n → test h ≡ true
-  None : (j : ℕ) → p ≤ j → j < h → test j ≡ false
+  missed : (j : ℕ) → p ≤ j → j < h → test j ≡ false
 
 first : (test : ℕ → Bool) (p n : ℕ) → First test p n (first_from test p n)
 unfolding first_from
-first test p zero = record { low = omega arith; high = omega arith; passes = λ h. absurd (omega arith); None = λ j a b. absurd (omega arith) }
+first test p zero = record { low = omega arith; high = omega arith; passes = λ h. absurd (omega arith); missed = λ j a b. absurd (omega arith) }
 first test p (suc n) = go (test p) refl (first test (suc p) n)
   where
     go : (t : Bool) → test p ≡ t → First test (suc p) n (first_from test (suc p) n) → First test p (suc n) (cond t p (first_from test (suc p) n))
-    go true e g = record { low = omega arith; high = omega arith; passes = λ h. e; None = λ j a b. absurd (omega arith) }
+    go true e g = record { low = omega arith; high = omega arith; passes = λ h. e; missed = λ j a b. absurd (omega arith) }
     go false e g =
         record {
           low = omega (arith, g.low);
           high = omega (arith, g.high);
           passes = λ h. g.passes (omega arith);
-          None = λ j a b.
+          missed = λ j a b.
               elim (ℕ_discrete j p) as (λ _. test j ≡ false) [
                 | yes q ↦ rw q e
-                | no q ↦ g.none j (omega arith) b
+                | no q ↦ g.missed j (omega arith) b
               ];
         }
 
@@ -82,7 +86,7 @@ skip_to file p h low high missed =
 -- So they are those from the first of them on.
 from_first : (file : List ℕ) (p h : ℕ) → First (is_header file) p (length file - p) h
     → headers_from file p (length file - p) ≡ headers_from file h (length file - h)
-from_first file p h f = skip_to file p h f.low f.high f.none
+from_first file p h f = skip_to file p h f.low f.high f.missed
 
 -- ---- the record of a header
 
@@ -112,7 +116,7 @@ module _ (file : List ℕ) (h : ℕ) (low : h < length file) (is : is_header fil
   no_lf j a b =
       elim (ℕ_discrete j h) as (λ _. is_lf file j ≡ false) [
         | yes q ↦ rw (q, mark file h is)
-        | no q ↦ lf_first.none j (omega arith) b
+        | no q ↦ lf_first.missed j (omega arith) b
       ]
 
   no_header : (j : ℕ) → h + 1 ≤ j → j < lf + 1 → is_header file j ≡ false
@@ -201,13 +205,13 @@ next file at =
 not_both : {p : Parts} {o : Option Parts} → o ≡ None → o ≡ Some p → ⊥
 not_both e f = let z : ◌≡◌ {A = ℕ} 0 1 = cc in omega arith
 
--- A record ends within the file.
-pub ends_within : (file : List ℕ) (at : ℕ) (p : Parts) → record_from file at ≡ Some p → end_of p ≤ length file
+-- A record ends behind the offset and within the file.
+pub ends_within : (file : List ℕ) (at : ℕ) (p : Parts) → Some p ≡ record_from file at → (at < end_of p) × (end_of p ≤ length file)
 ends_within file at p e = go (next file at)
   where
-    go : Next file at → end_of p ≤ length file
-    go (none_left f g) = absurd (not_both f e)
-    go (one_more q f g k l) = let s : q ≡ p = cc in rw (← s) l
+    go : Next file at → (at < end_of p) × (end_of p ≤ length file)
+    go (none_left f g) = absurd (not_both f (sym e))
+    go (one_more q f g k l) = let s : q ≡ p = cc in rw (← s) (k, l)
 
 -- ---- all records
 
@@ -231,23 +235,29 @@ module _ (file : Bor (List ℕ)) where
 pub reads_all : (r : Reader) → Reads r (records_from r.file.now r.at)
 reads_all r = reads_some r.file (suc (length r.file.now)) r.at (omega arith)
 
--- Nothing else can be read.
-pub reads_only : {r : Reader} {l : List Parts} → Reads r l → l ≡ records_from r.file.now r.at
-reads_only {r} (ended e) = go (next r.file.now r.at)
+-- What a call gives is the first of the records from the offset on, and the others are those from the place to which it moves the reader.
+call_gives : (r s : Reader) {p : Parts} → Gives r (Some p) → Moves r s → records_from r.file.now r.at ≡ p ∷ records_from s.file.now s.at
+call_gives r s {p} e m = go (next r.file.now r.at)
   where
-    go : Next r.file.now r.at → [] ≡ records_from r.file.now r.at
-    go (none_left f g) = sym g
-    go (one_more p f g k m) = absurd (not_both (sym e) f)
-reads_only {r} (given {moved = s} {p = p} {rest = rest} e m reads) = go (next r.file.now r.at) (reads_only reads)
-  where
-    go : Next r.file.now r.at → rest ≡ records_from s.file.now s.at → p ∷ rest ≡ records_from r.file.now r.at
-    go (none_left f g) ih = absurd (not_both f (sym e))
-    go (one_more q f g k l) ih =
+    go : Next r.file.now r.at → records_from r.file.now r.at ≡ p ∷ records_from s.file.now s.at
+    go (none_left f g) = absurd (not_both f (sym e))
+    go (one_more q f g k l) =
         let same : q ≡ p = cc in
         let at : s.at ≡ end_of p = m.1 ∙ ap (offset_after r.at) (sym e) in
-        let tail : rest ≡ records_from r.file.now (end_of p) = ih ∙ rw (m.0, at) in
-        let whole : records_from r.file.now r.at ≡ p ∷ rest = g ∙ rw (same, tail) in
-        sym whole
+        g ∙ rw (same, m.0, at)
+
+-- Where it gives none, no record is left.
+call_ends : (r : Reader) → Gives r None → records_from r.file.now r.at ≡ []
+call_ends r e = go (next r.file.now r.at)
+  where
+    go : Next r.file.now r.at → records_from r.file.now r.at ≡ []
+    go (none_left f g) = g
+    go (one_more p f g k m) = absurd (not_both (sym e) f)
+
+-- Nothing else can be read.
+pub reads_only : {r : Reader} {l : List Parts} → Reads r l → l ≡ records_from r.file.now r.at
+reads_only (ended {r = r} e) = sym (call_ends r e)
+reads_only (given {r = r} {moved = s} {p = p} e m reads) = ap (λ (l : List Parts). p ∷ l) (reads_only reads) ∙ sym (call_gives r s e m)
 
 -- A reader that `new` made reads all records of the file, and nothing else.
 from_start : {file : Bor (List ℕ)} {r : Reader} → Starts file r → records_from r.file.now r.at ≡ all_records file.now
@@ -261,38 +271,28 @@ reads_whole_only s reads = reads_only reads ∙ from_start s
 
 -- ---- the record with a number
 
--- A search for it starts with all records of the file and the whole number.
-pub number_start : (file : List ℕ) (n at i : ℕ) → at ≡ 0 → i ≡ 0 → record_number file n ≡ get_elem? (records_from file at) (n - i)
-number_start file n at i a z = let whole : n - i ≡ n = omega arith in rw (a, whole)
+-- What `Reader::next` says of one call.
+abbrev steps : Reader → Option Record → Reader → Type 0
+steps r answer moved = Gives r (of_found answer) × Moves r moved
 
--- Of the records from an offset, the first is that of a reader there; where the reader is moved, the others are those from there on, and where it
--- is not, there are none.
-module _ (file : List ℕ) (at : ℕ) where
-  pub number_here : (n : ℕ) → n ≡ 0 → record_from file at ≡ get_elem? (records_from file at) n
-  number_here n z = go (next file at)
-    where
-      go : Next file at → record_from file at ≡ get_elem? (records_from file at) n
-      go (none_left e f) = rw (e, f)
-      go (one_more p e f k l) = rw (e, f, z)
+-- Calls that gave some records leave those behind them.
+calls_give : (xs : List Record) (r t : Reader) → Yields steps r xs t → records_from r.file.now r.at ≡ map parts_of xs ++ records_from t.file.now t.at
+calls_give [] r t same = rw same
+calls_give (x ∷ xs) r t (j, call, later) = call_gives r j call.0 call.1 ∙ ap (λ (l : List Parts). parts_of x ∷ l) (calls_give xs j t later)
 
-  module _ (moved : ℕ) (m : moved ≡ offset_after at (record_from file at)) where
-    pub moved_on : (moved ≡ at → ⊥) → (at < moved) × (moved ≤ length file)
-    moved_on other = go (next file at)
-      where
-        go : Next file at → (at < moved) × (moved ≤ length file)
-        go (none_left e f) = absurd (other (m ∙ ap (offset_after at) e))
-        go (one_more p e f k l) = let end : moved ≡ end_of p = m ∙ ap (offset_after at) e in rw end (k, l)
+behind : (xs : List Record) (p : Parts) (rest : List Parts) → slice_get (map parts_of xs ++ (p ∷ rest)) (length xs) ≡ Some p
+behind [] p rest = refl
+behind (x ∷ xs) p rest = behind xs p rest
 
-    pub number_later : (moved ≡ at → ⊥) → (n less : ℕ) → n ≡ suc less → get_elem? (records_from file at) n ≡ get_elem? (records_from file moved) less
-    number_later other n less s = go (next file at)
-      where
-        go : Next file at → get_elem? (records_from file at) n ≡ get_elem? (records_from file moved) less
-        go (none_left e f) = absurd (other (m ∙ ap (offset_after at) e))
-        go (one_more p e f k l) = let end : moved ≡ end_of p = m ∙ ap (offset_after at) e in rw (end, f, s)
+-- So the call after n of them gives the one with the number n, or none where there are no more.
+nth_gives : (r t : Reader) (n : ℕ) (o : Option Record) → SkipsThenYields steps r n o t → of_found o ≡ slice_get (records_from r.file.now r.at) n
+nth_gives r t n (Some x) (xs, (u, before, call), passed) =
+    let all : records_from r.file.now r.at ≡ map parts_of xs ++ (parts_of x ∷ records_from t.file.now t.at)
+    = calls_give xs r u before ∙ ap (λ (l : List Parts). map parts_of xs ++ l) (call_gives u t call.0 call.1) in
+    sym (rw (all, ← passed) (behind xs (parts_of x) (records_from t.file.now t.at)))
+nth_gives r t n None (xs, (u, before, call), passed) =
+    let all : records_from r.file.now r.at ≡ map parts_of xs = calls_give xs r u before ∙ ap (λ (l : List Parts). map parts_of xs ++ l) (call_ends u call.0) ∙ append-nil (map parts_of xs) in
+    sym (rw all (slice_get_past (map parts_of xs) n (omega (arith, length-map xs parts_of))))
 
-    pub no_number : moved ≡ at → (n : ℕ) → None ≡ get_elem? (records_from file at) n
-    no_number kept n = go (next file at)
-      where
-        go : Next file at → None ≡ get_elem? (records_from file at) n
-        go (none_left e f) = rw f
-        go (one_more p e f k l) = let end : moved ≡ end_of p = m ∙ ap (offset_after at) e in absurd (omega arith)
+pub number_is : {file : Bor (List ℕ)} {r t : Reader} (n : ℕ) (o : Option Record) → Starts file r → SkipsThenYields steps r n o t → of_found o ≡ record_number file.now n
+number_is {r = r} {t = t} n o s ran = nth_gives r t n o ran ∙ ap (λ (l : List Parts). slice_get l n) (from_start s)

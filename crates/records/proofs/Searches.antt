@@ -1,14 +1,14 @@
 -- A search that the record reader makes, for a header or for LF, step by step and whole, and what each of its functions answers, from the definitions.
 use mathlib.Core.Path.{◌≡◌, refl, sym, ◌∙◌}
-use Prim.Native.Nat.{ℕ, zero, suc, ◌+◌, ◌-◌, ◌<◌, ◌≤◌}
+use Prim.Native.Nat.{ℕ, zero, suc, ◌+◌, ◌-◌, ◌<◌, ◌≤◌, max}
 use native.Mathlib.Numerals.{add-one}
 use native.Mathlib.Omega.{arith}
 use mathlib.Core.Bool.{Bool, true, false}
 use Rattle.std.specs.Prelude.{None, Some}
 use mathlib.Core.List.{List}
-use lib.ListN.{length, get_or}
-use lib.Dec.{ltb}
-use borrow.Author.Tests.{eq-eqb, ne_eqb, lt-ltb, le-ltb, ltb-true, ltb-false}
+use lib.ListN.{length}
+use lib.Dec.{ltb, leb}
+use borrow.Author.Tests.{eq-eqb, ne_eqb, lt-ltb, le-ltb, ltb-true, ltb-false, leb-true, leb-false}
 use Rattle.lines.specs.Needs.{LineEnd}
 use Rattle.records.specs.Records.{is_lf, is_header, first_from, header_at, line_end, record_to, record_from}
 
@@ -61,33 +61,14 @@ line_end_is {file} {h} {e} g E =
     (omega arith)
     (λ j x y. ne_eqb _ 10 (N.bytes j x y)))
 
-module _ (file : List ℕ) (i : ℕ) where
-  pub no_mark : (get_or file i 0 ≡ 62 → ⊥) → false ≡ is_header file i
-  unfolding is_header
-  no_mark e = rw (ne_eqb (get_or file i 0) 62 e)
-
-  pub at_start : get_or file i 0 ≡ 62 → i ≡ 0 → true ≡ is_header file i
-  unfolding is_header
-  at_start e f = rw (eq-eqb (get_or file i 0) 62 e, eq-eqb i 0 f)
-
-  pub after_lf : get_or file i 0 ≡ 62 → (i ≡ 0 → ⊥) → is_lf file (i - 1) ≡ is_header file i
-  unfolding is_header
-  after_lf e f = rw (eq-eqb (get_or file i 0) 62 e, ne_eqb i 0 f)
-
-module _ (file : List ℕ) (h e : ℕ) where
-  pub with_cr : e < length file → (end : ℕ) → end ≡ header_at file (e + 1) → get_or file (e - 1) 0 ≡ 13
-      → Some ((h, e - 1 - h), (e + 1, end - (e + 1))) ≡ Some (record_to file h e)
-  unfolding record_to
-  with_cr g end f c = rw (lt-ltb e (length file) g, eq-eqb (get_or file (e - 1) 0) 13 c, f)
-
-  pub with_lf : e < length file → (end : ℕ) → end ≡ header_at file (e + 1) → (get_or file (e - 1) 0 ≡ 13 → ⊥)
-      → Some ((h, e - h), (e + 1, end - (e + 1))) ≡ Some (record_to file h e)
-  unfolding record_to
-  with_lf g end f c = rw (lt-ltb e (length file) g, ne_eqb (get_or file (e - 1) 0) 13 c, f)
-
-  pub cut_off : e ≡ length file → Some ((h, e - h), (e, 0)) ≡ Some (record_to file h e)
-  unfolding record_to
-  cut_off g = rw (le-ltb e (length file) (omega arith), g)
+-- Past the last header the file's length, or the offset itself where that is past the end.
+pub no_header_left : (file : List ℕ) (at i : ℕ) → (at ≤ length file → i ≤ length file) → length file ≤ i → header_at file at ≡ header_at file i
+    → max at (length file) ≡ header_at file at
+no_header_left file at i inside past same = by_end (leb at (length file)) refl
+  where
+    by_end : (c : Bool) → leb at (length file) ≡ c → max at (length file) ≡ header_at file at
+    by_end true e = omega (arith, inside (leb-true at (length file) e), leb-true at (length file) e, same, first_none (is_header file) (length file) i past)
+    by_end false e = omega (arith, leb-false at (length file) e, first_none (is_header file) (length file) at (omega (arith, leb-false at (length file) e)))
 
 module _ (file : List ℕ) (at h : ℕ) (f : h ≡ header_at file at) where
   pub some_record : h < length file → (e : ℕ) → e ≡ line_end file h → Some (record_to file h e) ≡ record_from file at

@@ -2,10 +2,9 @@
 -- promises, and reading with one until none is given.
 use Rattle.std.specs.Prelude.{◌≡◌, ℕ, zero, suc, ◌+◌, ◌-◌, Bool, cond, ◌&&◌, ◌||◌, List, [], ◌∷◌, map, length, get_or, eqb, ltb}
 use Rattle.std.specs.Prelude.{Option, None, Some}
-use Rattle.std.proofs.Math.ListN.{get_elem?}
+use Rattle.std.specs.List.{slice_get}
 use Rattle.std.specs.Borrow.{Bor}
-use Rattle.records.specs.declared.Found.{Found}
-use Rattle.records.specs.declared.Found.TheVariants.{Record, Nothing}
+use Rattle.records.specs.declared.Record.{Record}
 use Rattle.records.specs.declared.Reader.{Reader}
 
 -- ---- a record
@@ -18,10 +17,13 @@ Parts = (ℕ × ℕ) × (ℕ × ℕ)
 abbrev pub end_of : Parts → ℕ
 end_of p = p.1.0 + p.1.1
 
--- The code's answer in these terms: a record, or none.
-abbrev pub of_found : Found → Option Parts
-of_found (Record h hl b bl) = Some ((h, hl), (b, bl))
-of_found Nothing = None
+-- The code's record in these terms, and its answer: a record, or none.
+abbrev pub parts_of : Record → Parts
+parts_of r = ((r.header, r.header_len), (r.body, r.body_len))
+
+abbrev pub of_found : Option Record → Option Parts
+of_found (Some r) = Some (parts_of r)
+of_found None = None
 
 -- ---- the record from an offset
 
@@ -88,7 +90,7 @@ all_records file = records_from file 0
 
 -- The record with the number n, from 0; none where the file has no more.
 abbrev pub record_number : List ℕ → ℕ → Option Parts
-record_number file n = get_elem? (all_records file) n
+record_number file n = slice_get (all_records file) n
 
 -- ---- a reader
 
@@ -96,15 +98,15 @@ record_number file n = get_elem? (all_records file) n
 abbrev pub Starts : Bor (List ℕ) → Reader → Type 0
 Starts file r = (r.file ≡ file) × (r.at ≡ 0)
 
--- What `Reader::next` promises: the record from the offset reached, or none.
+-- What `Reader::next` promises of its answer: the record from the offset reached, or none.
 abbrev pub Gives : Reader → Option Parts → Type 0
 Gives r answer = answer ≡ record_from r.file.now r.at
 
--- What `Reader::advanced` promises: the same file, and the offset moved or kept.
+-- What `Reader::next` promises of the reader: the same file, and the offset moved or kept.
 abbrev pub Moves : Reader → Reader → Type 0
 Moves r moved = (moved.file ≡ r.file) × (moved.at ≡ offset_after r.at (record_from r.file.now r.at))
 
--- Reading with a reader until none is given: what `next` gives, in order, each time of the reader that `advanced` made of the one before.
+-- Reading with a reader until none is given: what `next` gives, in order, each time of the reader that it moved before.
 pub data Reads : Reader → List Parts → Type 0 where
   ended : {r : Reader} → Gives r None → Reads r []
   given : {r moved : Reader} {p : Parts} {rest : List Parts} → Gives r (Some p) → Moves r moved → Reads moved rest → Reads r (p ∷ rest)
