@@ -1,5 +1,5 @@
--- The second pass over a file, as its functions meet it: what is left of the counts where ground 12 or 18 applies and where neither does, and from the counts of the
--- classes to the whole table.
+-- The second pass over a file: that there is room for its windows, what a coder of the settings makes of a file, and from the counts of the classes to the whole
+-- table.
 use mathlib.Core.Path.{◌≡◌, refl, sym, ap, ◌∙◌}
 use Prim.Native.Nat.{ℕ, ◌≤◌}
 use native.Mathlib.Omega.{arith}
@@ -10,13 +10,11 @@ use lib.ListN.{length, take, drop, length-map, take-append-drop}
 use lib.Seq.{take_all}
 use Rattle.settings.specs.declared.Settings.{Settings}
 use Rattle.settings.specs.Grounds.{Ground, Outcome, ground, outcome, unless_refused}
-use Rattle.settings.specs.Settings.{rank_in, classes, settings_ground, settings_of}
+use Rattle.settings.specs.Settings.{rank_in, mirror_of, classes, settings_ground, settings_of}
 use Rattle.settings.proofs.SettingsGrounds.{good_settings}
 use Rattle.encoding.specs.Codes.{code}
 use Rattle.fasta.specs.declared.Numbers.{Numbers}
-use Rattle.files.specs.File.{File, start_of, file_numbers, file_windows}
-use Rattle.settings.specs.declared.RankTable.{RankTable}
-use Rattle.settings.specs.RankTables.{rank_by_table, RanksOf}
+use Rattle.files.specs.File.{File, start_of, file_numbers}
 use Rattle.fasta.proofs.Ranks.{windows_by_table}
 use Rattle.fasta.proofs.Runs.{windows-fit}
 use Rattle.tally_book.specs.Table.{class_count, place_of, windows_of_file, places, changes, one_more, one_less, full, call_file, last_ground, table_after}
@@ -25,7 +23,10 @@ use Rattle.counts.proofs.CountLoops.{room_fits}
 use Rattle.counts.specs.declared.Way.{Way}
 use Rattle.counts.specs.declared.Way.TheVariants.{In, Out}
 use Rattle.counts.specs.Calls.{call_of}
-use Rattle.second_pass.specs.Needs.{last_of, ChangedUnlessRefused, CalledUnlessRefused, CleanFile}
+use Rattle.kernels.specs.declared.Kernel.{Kernel}
+use Rattle.kernels.specs.declared.Coder.{Coder}
+use Rattle.kernels.specs.Coders.{CoderOf}
+use Rattle.second_pass.specs.Needs.{codes_of, last_of, ChangedUnlessRefused, TableUnlessRefused, CalledUnlessRefused, CleanFile}
 use Rattle.tally_book.proofs.Changes.{changes_front}
 use Rattle.tally_book.proofs.Full.{not_full}
 use Rattle.tally_book.proofs.Classes.{places_below}
@@ -35,24 +36,40 @@ pub counts-free : (n : ℕ) (codes counts : List ℕ) → false ≡ full n count
 counts-free n codes counts e h l =
     rw (take_all n codes (omega arith)) (room_fits n counts codes (λ q g. omega (arith, not_full n counts q (sym e) g)) (omega arith))
 
--- ---- a file that was scanned without fault
+-- ---- the coder of settings, and a file that was scanned without fault
 
-module _ (letters : List ℕ) (k : ℕ) (file : File) (n : Numbers) (F : CleanFile letters k file n) where
-  n_windows : n.windows ≡ length (windows_of_file letters k file)
-  unfolding windows_of_file
-  n_windows = ap (λ (x : Numbers). x.windows) F.numbers
+module _ (letters : List ℕ) (k m : ℕ) {st : Settings} {kernel : Kernel} {c : Coder} (is : st ≡ settings_of letters k m) (C : CoderOf letters st kernel c) where
+  s_is : c.s ≡ length letters
+  s_is = C.s_is ∙ ap (λ (x : Settings). x.s) is
 
-  pub n_windows_by_table : (f : List ℕ → ℕ) (ranks : RankTable) → RanksOf letters ranks → n.windows ≡ length (map f (file_windows (rank_by_table ranks) k file))
-  unfolding windows_of_file
-  n_windows_by_table f ranks T =
-      n_windows
-      ∙ sym (length-map (file_windows (rank_by_table ranks) k file) f ∙ ap length (windows_by_table letters ranks T k (start_of file.kind) file.bytes))
+  mirror_is : c.mirror ≡ mirror_of m
+  mirror_is = C.mirror_is ∙ ap (λ (x : Settings). x.mirror) is
 
-  pub few_windows : (m : ℕ) → settings_ground letters k m ≡ None → ◌≤◌ n.windows 16777216
+  k_is : c.k ≡ k
+  k_is = C.k_is ∙ ap (λ (x : Settings). x.k) is
+
+  pub classes_are : st.classes ≡ classes c.s c.mirror c.k
+  classes_are = ap (λ (x : Settings). x.classes) is ∙ rw (s_is, mirror_is, k_is)
+
+  -- The codes of a file's windows are the places of its words.
+  pub codes_are : (file : File) → codes_of c file ≡ places letters k m file
   unfolding windows_of_file
-  few_windows m good =
-      let some_k = (good_settings letters k m good).some_k in
-      omega (arith, n_windows, windows-fit (rank_in letters) k (start_of file.kind) file.bytes some_k, F.short)
+  codes_are file =
+      rw (s_is, mirror_is, k_is)
+      (ap (map (code (length letters) (mirror_of m) k)) (windows_by_table letters c.ranks C.ranks_are k (start_of file.kind) file.bytes))
+
+  pub n_windows : {file : File} {n : Numbers} → CleanFile letters k file n → n.windows ≡ length (codes_of c file)
+  unfolding windows_of_file
+  n_windows {file} {n} F =
+      ap (λ (x : Numbers). x.windows) F.numbers
+      ∙ sym (length-map (windows_of_file letters k file) (place_of letters k m))
+      ∙ ap length (sym (codes_are file))
+
+pub few_windows : {letters : List ℕ} {k : ℕ} {file : File} {n : Numbers} → CleanFile letters k file n → (m : ℕ) → settings_ground letters k m ≡ None
+    → n.windows ≤ 16777216
+few_windows {letters} {k} {file} {n} F m good =
+    let w : n.windows ≡ (file_numbers (rank_in letters) k file).windows = ap (λ (x : Numbers). x.windows) F.numbers in
+    omega (arith, w, windows-fit (rank_in letters) k (start_of file.kind) file.bytes (good_settings letters k m good).some_k, F.short)
 
 -- ---- from the table to its counts and back
 
@@ -103,18 +120,13 @@ module _ (letters : List ℕ) (k m : ℕ) (t : List ℕ) (file : File) (good : s
             ∙ ap (λ (x : List ℕ). unless_refused (last_ground letters k m t (call_of way file)) x t) new;
       }
 
-  pub whole_table : (way : Way) (cs : ℕ) (ps : List ℕ) (answer : Outcome Numbers) (counts' : List ℕ) → cs ≡ class_count letters k m
+  -- What the second pass answers and leaves is what the call does.
+  pub whole_table : (way : Way) (cs : ℕ) (ps : List ℕ) (answer : Outcome Numbers) (t' : List ℕ) → cs ≡ class_count letters k m
       → ps ≡ places letters k m file
-      → ChangedUnlessRefused way n ps (take cs t) answer counts'
-      → CalledUnlessRefused letters k m t (call_of way file) answer (counts' ++ drop cs t)
-  whole_table way cs ps answer counts' c e C = rw c (by_classes way ps answer counts' e (rw c at C))
-
-pub places-by_table : (letters : List ℕ) (k m : ℕ) (table : RankTable) (file : File) (st : Settings) → st ≡ settings_of letters k m → RanksOf letters table
-    → map (code st.s st.mirror k) (file_windows (rank_by_table table) k file) ≡ places letters k m file
-unfolding windows_of_file
-places-by_table letters k m table file st is T =
-    ap (λ (x : Settings). map (code x.s x.mirror k) (file_windows (rank_by_table table) k file)) is
-    ∙ rw (windows_by_table letters table T k (start_of file.kind) file.bytes)
-
-pub classes-of : (letters : List ℕ) (k m : ℕ) (st : Settings) → st ≡ settings_of letters k m → st.classes ≡ classes st.s st.mirror k
-classes-of letters k m st is = ap (λ (x : Settings). x.classes) is ∙ ap (λ (x : Settings). classes x.s x.mirror k) (sym is)
+      → TableUnlessRefused way n ps cs t answer t'
+      → CalledUnlessRefused letters k m t (call_of way file) answer t'
+  whole_table way cs ps answer t' c e T =
+      let whole : take cs t' ++ drop cs t ≡ t' = ap (λ (x : List ℕ). take cs t' ++ x) (sym T.later) ∙ take-append-drop cs t' in
+      let front : CalledUnlessRefused letters k m t (call_of way file) answer (take cs t' ++ drop cs t) =
+      rw c (by_classes way ps answer (take (class_count letters k m) t') e (rw c at T.counts)) in
+      rw whole at front

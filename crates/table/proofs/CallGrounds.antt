@@ -1,43 +1,54 @@
 -- The grounds of the table calls one after the other, as the calls meet them: what is answered and left at each.
-use mathlib.Core.Path.{◌≡◌, sym, ap, ◌∙◌}
+use mathlib.Core.Path.{◌≡◌, ap, ◌∙◌}
 use mathlib.Mathlib.Data.Bool.Basic.{or-eq-false-eq-eq-false-and-eq-false}
 use Prim.Native.Nat.{ℕ, ◌<◌, ◌≤◌}
 use native.Mathlib.Omega.{arith}
 use mathlib.Core.Bool.{false, ◌||◌}
-use Rattle.std.specs.Prelude.{None}
+use Rattle.std.specs.Prelude.{None, Some}
 use mathlib.Core.List.{List, ◌++◌}
 use lib.ListN.{length, drop, replicate, length-replicate}
 use borrow.Author.Tests.{lt-ltb, le-ltb, ltb-false}
 use Rattle.settings.specs.declared.Settings.{Settings}
-use Rattle.settings.specs.declared.Checked.{Checked}
-use Rattle.settings.specs.declared.Checked.TheVariants.{Good}
 use Rattle.settings.specs.Grounds.{Ground, Outcome, given, refused, ground, ground_at, too_short, outcome, ◌or_else◌}
-use Rattle.settings.specs.Settings.{rank_in, settings_ground, settings_of, of_checked}
-use Rattle.settings.proofs.Outcomes.{refused_on, refused_leaves, Passed, passed, first_none, later_none, test_fails, kept_by, set_by, kept_on}
-use Rattle.settings.proofs.SettingsGrounds.{Known, known}
+use Rattle.settings.specs.Settings.{rank_in, settings_ground, settings_of}
+use Rattle.settings.proofs.Outcomes.{refused_is, refused_on, refused_by, given_by, refused_leaves, Passed, passed, first_none, later_none, test_fails, kept_by, set_by, kept_on}
+use Rattle.settings.proofs.SettingsGrounds.{known}
 use Rattle.fasta.specs.declared.Numbers.{Numbers}
 use Rattle.files.specs.File.{File, start_of, file_fault, file_numbers}
 use Rattle.settings.specs.Limits.{too_long}
-use Rattle.settings.specs.RankTables.{rank_by_table, RankTable}
+use Rattle.settings.specs.declared.RankTable.{RankTable}
+use Rattle.settings.specs.RankTables.{rank_by_table}
 use Rattle.fasta.proofs.Ranks.{numbers_by_table}
 use Rattle.tally_book.specs.Table.{class_count, too_many, ready_ground, call_ground, clear_ground, Call, call_file, last_ground, table_ground, table_after, Called, Clears}
-use Rattle.second_pass.specs.Needs.{CalledUnlessRefused, CleanFile}
-use Rattle.table.specs.Needs.{ClearsPlaces}
+use Rattle.tally_book.proofs.Ready.{ready_settings, ready_room}
+use Rattle.settings.proofs.SettingsGrounds.{good_settings}
+use Rattle.kernels.specs.declared.Kernel.{Kernel}
+use Rattle.kernels.specs.declared.Coder.{Coder}
+use Rattle.kernels.specs.Kernels.{GoodSettings}
+use Rattle.kernels.specs.Coders.{CoderOf}
+use Rattle.kernels.proofs.GoodSettings.{good}
+use Rattle.counts.specs.declared.Way.{Way}
+use Rattle.counts.specs.Calls.{call_of}
+use Rattle.second_pass.specs.Needs.{codes_of, TableUnlessRefused, CalledUnlessRefused, CleanFile}
+use Rattle.second_pass.proofs.SecondPass.{file_of_lem, few_windows, codes_are, whole_table}
+use Rattle.table.specs.Needs.{room_ground}
+
+-- ---- the room of a table
+
+module _ (n room : ℕ) where
+  pub room_many : 16777216 < n → refused (6, 0) ≡ outcome (room_ground n room) n
+  unfolding too_many
+  room_many h = rw (lt-ltb 16777216 n h)
+
+  pub room_short : n ≤ 16777216 → room < n → refused (7, n) ≡ outcome (room_ground n room) n
+  unfolding too_many
+  room_short h g = rw (le-ltb 16777216 n h, lt-ltb room n g)
+
+  pub room_given : n ≤ 16777216 → n ≤ room → given n ≡ outcome (room_ground n room) n
+  unfolding too_many
+  room_given h g = rw (le-ltb 16777216 n h, le-ltb room n g)
 
 -- ---- clearing
-
-module _ (n : ℕ) (t : List ℕ) where
-  pub too_many_to_clear : 16777216 < n → ClearsPlaces n t (refused (6, 0)) t
-  unfolding too_many
-  too_many_to_clear h = kept_by _ n (replicate n 0) t (6, 0) (rw (lt-ltb 16777216 n h))
-
-  pub too_short_to_clear : n ≤ 16777216 → length t < n → ClearsPlaces n t (refused (7, n)) t
-  unfolding too_many
-  too_short_to_clear h g = kept_by _ n (replicate n 0) t (7, n) (rw (le-ltb 16777216 n h, lt-ltb (length t) n g))
-
-  pub places_cleared : (t' : List ℕ) → n ≤ 16777216 → n ≤ length t → t' ≡ replicate n 0 ++ drop n t → ClearsPlaces n t (given n) t'
-  unfolding too_many
-  places_cleared t' h g e = set_by _ n (replicate n 0) t t' (rw (le-ltb 16777216 n h, le-ltb (length t) n g)) (e ∙ rw (length-replicate {A = ℕ} n 0))
 
 module _ (letters : List ℕ) (k m : ℕ) (t : List ℕ) where
   pub clearing_refused : (f : Ground) → refused f ≡ outcome (settings_ground letters k m) (settings_of letters k m) → Clears letters k m t (refused f) t
@@ -45,13 +56,26 @@ module _ (letters : List ℕ) (k m : ℕ) (t : List ℕ) where
   clearing_refused f e =
       kept_on f (settings_of letters k m) (settings_ground letters k m) _ (class_count letters k m) (replicate (class_count letters k m) 0) t e
 
-  pub clearing : (st : Settings) (answer : Outcome ℕ) (t' : List ℕ) → given st ≡ outcome (settings_ground letters k m) (settings_of letters k m)
-      → ClearsPlaces st.classes t answer t'
-      → Clears letters k m t answer t'
-  unfolding clear_ground
-  clearing st answer t' e C =
-      let K = known letters k m st e in
-      rw K.none_applies_lem (rw K.classes_are at C)
+  module _ {st : Settings} (e : given st ≡ outcome (settings_ground letters k m) (settings_of letters k m)) where
+    pub clearing_short : (f : Ground) → refused f ≡ outcome (room_ground st.classes (length t)) st.classes → Clears letters k m t (refused f) t
+    unfolding clear_ground
+    clearing_short f r =
+        let K = known letters k m st e in
+        let g : room_ground (class_count letters k m) (length t) ≡ Some f = rw K.classes_are at (refused_is f st.classes _ r) in
+        kept_by _ (class_count letters k m) (replicate (class_count letters k m) 0) t f (rw K.none_applies_lem g)
+
+    pub cleared : {n : ℕ} {t' : List ℕ} → given n ≡ outcome (room_ground st.classes (length t)) st.classes → t' ≡ replicate n 0 ++ drop n t
+        → Clears letters k m t (given n) t'
+    unfolding clear_ground
+    cleared {n} {t'} r e' =
+        let K = known letters k m st e in
+        let P = passed st.classes (room_ground st.classes (length t)) r in
+        let c : n ≡ class_count letters k m = P.value ∙ K.classes_are in
+        let g : room_ground (class_count letters k m) (length t) ≡ None = rw K.classes_are at P.none_applies_lem in
+        let zeros : t' ≡ replicate (class_count letters k m) 0 ++ drop (class_count letters k m) t = rw c at e' in
+        rw c
+        (set_by _ (class_count letters k m) (replicate (class_count letters k m) 0) t t' (rw K.none_applies_lem g)
+        (zeros ∙ rw (length-replicate {A = ℕ} (class_count letters k m) 0)))
 
 -- ---- before the file of a call is read
 
@@ -77,42 +101,26 @@ module _ (letters : List ℕ) (k m room : ℕ) (bytes : List ℕ) where
   unfolding ready_ground
   ready_bad f e = refused_on f (settings_of letters k m) _ (settings_ground letters k m) _ e
 
-  module _ (st : Settings) (e : given st ≡ outcome (settings_ground letters k m) (settings_of letters k m)) where
-    good : Known letters k m st
-    good = known letters k m st e
-
+  module _ {st : Settings} (e : given st ≡ outcome (settings_ground letters k m) (settings_of letters k m)) where
     pub ready_long : 16777216 < length bytes → refused (6, 0) ≡ outcome (ready_ground letters k m room bytes) (settings_of letters k m)
     unfolding ready_ground too_long
-    ready_long h = rw (good.none_applies_lem, lt-ltb 16777216 (length bytes) h)
+    ready_long h = rw ((known letters k m st e).none_applies_lem, lt-ltb 16777216 (length bytes) h)
 
     module _ (h : length bytes ≤ 16777216) where
-      pub ready_many : 16777216 < st.classes → refused (6, 0) ≡ outcome (ready_ground letters k m room bytes) (settings_of letters k m)
-      unfolding ready_ground too_long too_many
-      ready_many g =
-          let n : 16777216 < class_count letters k m = omega (arith, good.classes_are) in
-          rw (good.none_applies_lem, le-ltb 16777216 (length bytes) h, lt-ltb 16777216 (class_count letters k m) n)
+      -- What is left of the grounds: those of the table's room.
+      room_left : ready_ground letters k m room bytes ≡ room_ground st.classes room
+      unfolding ready_ground too_long
+      room_left = let K = known letters k m st e in rw (K.none_applies_lem, le-ltb 16777216 (length bytes) h, K.classes_are)
 
-      module _ (g : st.classes ≤ 16777216) where
-        few : class_count letters k m ≤ 16777216
-        few = omega (arith, good.classes_are)
+      pub ready_short : (f : Ground) → refused f ≡ outcome (room_ground st.classes room) st.classes
+          → refused f ≡ outcome (ready_ground letters k m room bytes) (settings_of letters k m)
+      ready_short f r = refused_by f (settings_of letters k m) _ (room_left ∙ refused_is f st.classes _ r)
 
-        pub ready_short : room < st.classes → refused (7, st.classes) ≡ outcome (ready_ground letters k m room bytes) (settings_of letters k m)
-        unfolding ready_ground too_long too_many
-        ready_short r =
-            let n : room < class_count letters k m = omega (arith, good.classes_are) in
-            rw (good.none_applies_lem, le-ltb 16777216 (length bytes) h, le-ltb 16777216 _ few, lt-ltb room _ n, good.classes_are)
-
-        pub ready_given : st.classes ≤ room → given st ≡ outcome (ready_ground letters k m room bytes) (settings_of letters k m)
-        unfolding ready_ground too_long too_many
-        ready_given r =
-            let n : class_count letters k m ≤ room = omega (arith, good.classes_are) in
-            rw (good.none_applies_lem, le-ltb 16777216 (length bytes) h, le-ltb 16777216 _ few, le-ltb room _ n)
-            (ap given (passed (settings_of letters k m) (settings_ground letters k m) e).value)
-
-  -- Settings that `ready` gives are under none of these grounds.
-  pub ready_passed : (r : Checked) → of_checked r ≡ outcome (ready_ground letters k m room bytes) (settings_of letters k m) → (st : Settings) → r ≡ Good st
-      → Passed (ready_ground letters k m room bytes) st (settings_of letters k m)
-  ready_passed r e st g = passed (settings_of letters k m) (ready_ground letters k m room bytes) (sym (ap of_checked g) ∙ e)
+      pub ready_given : {n : ℕ} → given n ≡ outcome (room_ground st.classes room) st.classes
+          → given st ≡ outcome (ready_ground letters k m room bytes) (settings_of letters k m)
+      ready_given r =
+          given_by st (settings_of letters k m) _ (room_left ∙ (passed st.classes (room_ground st.classes room) r).none_applies_lem)
+          (passed (settings_of letters k m) (settings_ground letters k m) e).value
 
   -- What a call knows where none of them applies.
   module _ (ready : ready_ground letters k m room bytes ≡ None) where
@@ -142,7 +150,7 @@ module _ (letters : List ℕ) (k m : ℕ) (t : List ℕ) (c : Call) (file : File
     unfolding call_ground
     grounds_left = rw (of, ready)
 
-    pub faulty : (ranks : List ℕ) (f : Ground) → refused f ≡ outcome (file_fault file) (file_numbers (rank_by_table ranks) k file)
+    pub faulty : (ranks : RankTable) (f : Ground) → refused f ≡ outcome (file_fault file) (file_numbers (rank_by_table ranks) k file)
         → Called letters k m t c (refused f) t
     faulty ranks f e =
         let found = file_numbers (rank_by_table ranks) k file in
@@ -157,11 +165,49 @@ module _ (letters : List ℕ) (k m : ℕ) (t : List ℕ) (c : Call) (file : File
         let e : table_ground letters k m t c ≡ last_ground letters k m t c = grounds_left ∙ rw no_fault in
         record { answers = A.answers ∙ rw e; leaves = A.leaves ∙ rw e }
 
--- ---- a file that was scanned without fault
+-- ---- a call for which `ready` gave settings
 
-pub clean : (letters : List ℕ) (k : ℕ) (file : File) (ranks : List ℕ) → length file.bytes ≤ 16777216 → RankTable letters ranks → (n : Numbers)
-    → given n ≡ outcome (file_fault file) (file_numbers (rank_by_table ranks) k file)
-    → CleanFile letters k file n
-clean letters k file ranks short T n e =
-    let p = passed (file_numbers (rank_by_table ranks) k file) (file_fault file) e in
-    record { no_fault = p.none_applies_lem; numbers = p.value ∙ numbers_by_table letters ranks T k (start_of file.kind) file.bytes; short = short }
+module _ (letters : List ℕ) (k m : ℕ) (t : List ℕ) (file : File) {st : Settings}
+    (e : given st ≡ outcome (ready_ground letters k m (length t) file.bytes) (settings_of letters k m)) where
+  R : Passed (ready_ground letters k m (length t) file.bytes) st (settings_of letters k m)
+  R = passed (settings_of letters k m) (ready_ground letters k m (length t) file.bytes) e
+
+  settings_pass : settings_ground letters k m ≡ None
+  settings_pass = ready_settings letters k m (length t) file.bytes R.none_applies_lem
+
+  pub coder_good : GoodSettings letters st
+  coder_good = good letters k m st settings_pass R.value
+
+  pub can_scan : (length file.bytes ≤ 16777216) × (1 ≤ k)
+  can_scan = (ready_file letters k m (length t) file.bytes R.none_applies_lem, (good_settings letters k m settings_pass).some_k)
+
+  classes_are : st.classes ≡ class_count letters k m
+  classes_are = ap (λ (x : Settings). x.classes) R.value
+
+  pub long_enough : st.classes ≤ length t
+  long_enough = omega (arith, classes_are, ready_room letters k m (length t) file.bytes R.none_applies_lem)
+
+  -- Faults of the file.
+  pub scan_refused : (way : Way) (ranks : RankTable) (f : Ground) → refused f ≡ outcome (file_fault file) (file_numbers (rank_by_table ranks) k file)
+      → Called letters k m t (call_of way file) (refused f) t
+  scan_refused way ranks f r = faulty letters k m t (call_of way file) file (file_of_lem way file) R.none_applies_lem ranks f r
+
+  module _ {kernel : Kernel} {c : Coder} (C : CoderOf letters st kernel c) {n : Numbers}
+      (r : given n ≡ outcome (file_fault file) (file_numbers (rank_by_table c.ranks) k file)) where
+    clean : CleanFile letters k file n
+    clean =
+        let p = passed (file_numbers (rank_by_table c.ranks) k file) (file_fault file) r in
+        record {
+          no_fault = p.none_applies_lem;
+          numbers = p.value ∙ numbers_by_table letters c.ranks C.ranks_are k (start_of file.kind) file.bytes;
+          short = can_scan.0;
+        }
+
+    pub windows_few : n.windows ≤ 16777216
+    windows_few = few_windows clean m settings_pass
+
+    pub call_done : (way : Way) {answer : Outcome Numbers} {t' : List ℕ} → TableUnlessRefused way n (codes_of c file) st.classes t answer t'
+        → Called letters k m t (call_of way file) answer t'
+    call_done way {answer} {t'} T =
+        called letters k m t (call_of way file) file (file_of_lem way file) R.none_applies_lem answer t' clean.no_fault
+        (whole_table letters k m t file settings_pass n clean way st.classes (codes_of c file) answer t' classes_are (codes_are letters k m R.value C file) T)

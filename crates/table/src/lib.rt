@@ -4,92 +4,73 @@
 #![tactic(auto)]
 
 ghost use Rattle.std.specs.Prelude.{◌≡◌, length};
-ghost use Rattle.std.specs.Prelude.{None};
-ghost use Rattle.settings.specs.Grounds.{outcome, of_filling};
-ghost use Rattle.settings.specs.Settings.{settings_of, of_checked};
+ghost use Rattle.settings.specs.Grounds.{outcome, outcome_of};
+ghost use Rattle.settings.specs.Settings.{settings_of};
 ghost use Rattle.files.specs.File.{file_of};
-ghost use Rattle.fasta.specs.Scan.{of_answer};
+ghost use Rattle.kernels.specs.Kernels.{Takes};
 ghost use Rattle.tally_book.specs.Table.{ready_ground, Called, Added, Withdrawn, Clears};
 ghost use Rattle.counts.specs.Calls.{call_of};
-ghost use Rattle.table.specs.Needs.{ClearsPlaces};
+ghost use Rattle.table.specs.Needs.{room_ground};
 
 use counts::Way;
-use fasta::Answer;
+use fasta::Numbers;
 use files::Kind;
-use settings::{Checked, Filling, Refusal, Settings};
+use kernels::{Coder, Kernel};
+use settings::{Mirror, Refusal, Settings};
 
-// The clearing under settings that passed the check: the grounds 6 and 7, and else the zeros.
-fn clear_places(table: &mut [u32], classes: u64) -> Filling
-    ensures { ClearsPlaces classes table.old (of_filling result) table.new }
+// The number of classes, where a table may have so many and one with this room has a place for each: the grounds 6 and 7.
+fn room_for(st: Settings, room: usize) -> Result<usize, Refusal>
+    ensures { outcome_of result ≡ outcome (room_ground st.classes room) st.classes }
 {
-    if classes > settings::MOST_CLASSES {
-        return Filling::Unfilled(Refusal::TooLarge);
+    if st.classes > settings::MOST_CLASSES {
+        return Err(Refusal::TooLarge);
     }
-    let n = classes as usize;
-    if table.len() < n {
-        return Filling::Unfilled(Refusal::ShortBuffer(n));
+    let classes = st.classes as usize;
+    if room < classes {
+        return Err(Refusal::ShortBuffer(classes));
     }
-    counts::set_zero(table, n);
-    Filling::Filled(n)
+    Ok(classes)
 }
 
 // Sets the first places, one a class, to 0. Refused on the grounds 1, 2, 4, 6 and 7.
-pub fn clear(letters: &[u8], k: usize, mirror: u64, table: &mut [u32]) -> Filling
-    ensures { Clears letters.now k mirror table.old (of_filling result) table.new }
+pub fn clear(letters: &[u8], k: usize, mirror: u64, table: &mut [u32]) -> Result<usize, Refusal>
+    ensures { Clears letters.now k mirror table.old (outcome_of result) table.new }
 {
-    match settings::check(letters, k, mirror) {
-        Checked::Bad(f) => Filling::Unfilled(f),
-        Checked::Good(st) => clear_places(table, st.classes),
-    }
+    let st = settings::check(letters, k, mirror)?;
+    let n = room_for(st, table.len())?;
+    table[..n].fill(0);
+    Ok(n)
 }
 
 // Whether a file may be read for an add or a withdrawal: the settings, where no ground among 1, 2, 4, 6 and 7 applies.
-pub fn ready(letters: &[u8], k: usize, mirror: u64, room: usize, file: &[u8]) -> Checked
-    ensures { of_checked result ≡ outcome (ready_ground letters.now k mirror room file.now) (settings_of letters.now k mirror) }
-{
-    match settings::check(letters, k, mirror) {
-        Checked::Bad(f) => Checked::Bad(f),
-        Checked::Good(st) => {
-            if file.len() > settings::MOST_BYTES {
-                return Checked::Bad(Refusal::TooLarge);
-            }
-            if st.classes > settings::MOST_CLASSES {
-                return Checked::Bad(Refusal::TooLarge);
-            }
-            let classes = st.classes as usize;
-            if room < classes {
-                return Checked::Bad(Refusal::ShortBuffer(classes));
-            }
-            Checked::Good(st)
-        }
-    }
-}
-
-// A call whose file may be read. The file is read to its end before the table is touched.
-fn call_checked(
-    way: Way,
+pub fn ready(
     letters: &[u8],
     k: usize,
     mirror: u64,
-    table: &mut [u32],
-    kind: Kind,
+    room: usize,
     file: &[u8],
-    st: Settings,
-) -> Answer
-    requires no_ground { ready_ground letters.now k mirror (length table.old) file.now ≡ None }
-    requires settings_are { st ≡ settings_of letters.now k mirror }
-    ensures { Called letters.now k mirror table.old (call_of way (file_of kind file.now)) (of_answer result) table.new }
+) -> Result<Settings, Refusal>
+    ensures { outcome_of result ≡ outcome (ready_ground letters.now k mirror room file.now) (settings_of letters.now k mirror) }
 {
-    let ranks = settings::rank_table(letters);
-    match files::scan_file(kind, file, &ranks, k) {
-        Answer::Refused(f) => Answer::Refused(f),
-        Answer::Taken(n) => {
-            second_pass::call_scanned(way, letters, k, mirror, table, kind, file, st, &ranks, n)
-        }
+    let st = settings::check(letters, k, mirror)?;
+    if file.len() > settings::MOST_BYTES {
+        return Err(Refusal::TooLarge);
+    }
+    room_for(st, room)?;
+    Ok(st)
+}
+
+// The kernel by two-bit numbers where it can be had: four letters under complement.
+fn kernel_for(s: u64, m: Mirror) -> Kernel
+    ensures { Takes result s m }
+{
+    match m {
+        Mirror::Complement if s == 4 => Kernel::TwoBit,
+        _ => Kernel::AnyAlphabet,
     }
 }
 
-// An add or a withdrawal of a file, as `way` says.
+// An add or a withdrawal of a file, as `way` says. The file is read to its end before the table is touched.
 pub fn call(
     way: Way,
     letters: &[u8],
@@ -98,13 +79,13 @@ pub fn call(
     table: &mut [u32],
     kind: Kind,
     file: &[u8],
-) -> Answer
-    ensures { Called letters.now k mirror table.old (call_of way (file_of kind file.now)) (of_answer result) table.new }
+) -> Result<Numbers, Refusal>
+    ensures { Called letters.now k mirror table.old (call_of way (file_of kind file.now)) (outcome_of result) table.new }
 {
-    match ready(letters, k, mirror, table.len(), file) {
-        Checked::Bad(f) => Answer::Refused(f),
-        Checked::Good(st) => call_checked(way, letters, k, mirror, table, kind, file, st),
-    }
+    let st = ready(letters, k, mirror, table.len(), file)?;
+    let coder = Coder::new(letters, st, kernel_for(st.s, st.mirror));
+    let n = files::scan_file(kind, file, &coder.ranks, k)?;
+    second_pass::call_scanned(way, table, kind, file, st, &coder, n)
 }
 
 // Adds 1 for each window of a file, or refuses the file on the grounds 1, 2, 4, 6, 7, those of its kind or 12, and changes no count.
@@ -115,8 +96,8 @@ pub fn add(
     table: &mut [u32],
     kind: Kind,
     file: &[u8],
-) -> Answer
-    ensures { Added letters.now k mirror table.old (file_of kind file.now) (of_answer result) table.new }
+) -> Result<Numbers, Refusal>
+    ensures { Added letters.now k mirror table.old (file_of kind file.now) (outcome_of result) table.new }
 {
     call(Way::In, letters, k, mirror, table, kind, file)
 }
@@ -130,8 +111,8 @@ pub fn withdraw(
     table: &mut [u32],
     kind: Kind,
     file: &[u8],
-) -> Answer
-    ensures { Withdrawn letters.now k mirror table.old (file_of kind file.now) (of_answer result) table.new }
+) -> Result<Numbers, Refusal>
+    ensures { Withdrawn letters.now k mirror table.old (file_of kind file.now) (outcome_of result) table.new }
 {
     call(Way::Out, letters, k, mirror, table, kind, file)
 }

@@ -1,9 +1,8 @@
 -- What a clearing with two adds after it promises.
 use Rattle.std.specs.Prelude.{◌≡◌, List, [], ◌∷◌, ℕ, length}
 use Rattle.std.specs.Prelude.{None}
-use Rattle.settings.specs.Grounds.{Outcome, of_filling}
+use Rattle.settings.specs.Grounds.{Outcome, outcome_of}
 use Rattle.fasta.specs.declared.Numbers.{Numbers}
-use Rattle.fasta.specs.Scan.{of_answer}
 use Rattle.files.specs.File.{File}
 use Rattle.tally_book.specs.Table.{clear_ground, Clears, add}
 use Rattle.tally_book.specs.Demand.{TableCalls, DemandThree}
@@ -11,11 +10,11 @@ use Rattle.two_adds.specs.declared.Answers.{Answers}
 
 -- The answers of two adds.
 abbrev pub two_answers : Answers → List (Outcome Numbers)
-two_answers r = of_answer r.first ∷ of_answer r.second ∷ []
+two_answers r = outcome_of r.first ∷ outcome_of r.second ∷ []
 
 -- A clearing of t₀ and two adds after it, each on the table that the call before left; demand 3 holds of them.
 pub record AddsTwo (letters : List ℕ) (k mirror : ℕ) (t₀ : List ℕ) (one other : File) (r : Answers) (t : List ℕ) : Type 0 where
   pub table_cleared : List ℕ
-  pub clearing : Clears letters k mirror t₀ (of_filling r.cleared) table_cleared
+  pub clearing : Clears letters k mirror t₀ (outcome_of r.cleared) table_cleared
   pub adds : TableCalls letters k mirror table_cleared (add one ∷ add other ∷ []) (two_answers r) t
   pub demand_three : clear_ground letters k mirror (length t₀) ≡ None → DemandThree letters k mirror t₀ table_cleared (add one ∷ add other ∷ []) (two_answers r) t

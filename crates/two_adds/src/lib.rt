@@ -6,16 +6,16 @@
 ghost use Rattle.files.specs.File.{file_of};
 ghost use Rattle.two_adds.specs.TwoAdds.{AddsTwo};
 
-use fasta::Answer;
+use fasta::Numbers;
 use files::Kind;
-use settings::Filling;
+use settings::Refusal;
 
 // The answers of a clearing and of two adds after it.
 #[derive(Clone, Copy)]
 pub struct Answers {
-    pub cleared: Filling,
-    pub first: Answer,
-    pub second: Answer,
+    pub cleared: Result<usize, Refusal>,
+    pub first: Result<Numbers, Refusal>,
+    pub second: Result<Numbers, Refusal>,
 }
 
 // Clears a table and adds two files, each of its kind, one after the other.

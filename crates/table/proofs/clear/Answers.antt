@@ -1,12 +1,15 @@
--- `table::clear` meets its contract: a refusal of the settings' check stands, and else `clear_places` answers.
-use mathlib.Core.Path.{sym, ap, ◌∙◌}
-use Rattle.settings.specs.Settings.{of_checked}
-use Rattle.table.proofs.CallGrounds.{clearing_refused, clearing}
+-- `table::clear` meets its contract: a refusal of the settings' check stands, then one for the table's room, and else the zeros.
+use Rattle.std.proofs.Common.{rules}
+use Rattle.settings.proofs.Outcomes.{passed_on}
+use Rattle.table.proofs.CallGrounds.{clearing_refused, clearing_short, cleared}
 use Rattle.table.proofs.clear.Goals as goal
 
-pub returns-in-Bad : goal.returns-in-Bad
-returns-in-Bad c = clearing_refused _ _ _ _ _ (ap of_checked (sym c.in-Bad.is) ∙ c.check.ensures)
+pub returns-in_err-st : goal.returns-in_err-st
+returns-in_err-st c = rw (passed_on _ _ c.from_residual.ensures.1) (clearing_refused _ _ _ _ _ c.in_err-st.ensures)
 
-pub returns-in-Good : goal.returns-in-Good
-returns-in-Good c =
-    clearing _ _ _ _ _ _ _ (ap of_checked (sym c.in-Good.is) ∙ c.check.ensures) c.clear_places.ensures
+pub returns-in_err-n : goal.returns-in_err-n
+returns-in_err-n c =
+    rw (passed_on _ _ c.from_residual-in_err-n.ensures.1) (clearing_short _ _ _ _ c.in_ok-st.ensures _ c.in_err-n.ensures)
+
+pub returns : goal.returns
+returns c = cleared _ _ _ _ c.in_ok-st.ensures c.in_ok-n.ensures (search rules)
