@@ -12,40 +12,19 @@
 
 ghost use Rattle.std.specs.Prelude.{◌≡◌, ◌<◌, ◌≤◌, length, IfOk};
 
-use fasta::Answer;
+use fasta::Numbers;
 use files::Kind;
-use records::Found;
+use records::Record;
+use settings::Refusal;
 use std::io::{self, Read, Write};
-
-// A byte of a file, and how many bytes of the line stand for it.
-#[derive(Clone, Copy)]
-struct Piece {
-    byte: u8,
-    used: usize,
-}
-
-// The first byte b at or after a place of a text; the text's length where there is none.
-fn find(s: &[u8], from: usize, b: u8) -> usize
-    requires { from ≤ length s.now }
-    ensures { (from ≤ result) × (result ≤ length s.now) }
-{
-    let mut i = from;
-    while i < s.len() {
-        if s[i] == b {
-            return i;
-        }
-        i += 1;
-    }
-    i
-}
 
 // The value of a hexadecimal digit, 0 to 9 or a to f; 0 for every other byte.
 fn digit(b: u8) -> u8
     ensures { result < 16 }
 {
     match b {
-        b'0'..=b'9' => b - 48,
-        b'a'..=b'f' => b - 87,
+        b'0'..=b'9' => b - b'0',
+        b'a'..=b'f' => b - b'a' + 10,
         _ => 0,
     }
 }
@@ -55,64 +34,23 @@ fn decimal(s: &[u8]) -> usize
     ensures { result < 1000000000000 }
 {
     let mut n: usize = 0;
-    let mut i = 0;
-    while i < s.len() {
+    for b in s {
         if n >= 99999999990 {
-            return n;
+            break;
         }
-        n = n * 10 + digit(s[i]) as usize;
-        i += 1;
+        n = n * 10 + digit(*b) as usize;
     }
     n
 }
 
-// The byte that stands at i.
-fn piece_at(s: &[u8], i: usize) -> Piece
-    requires { i < length s.now }
-    ensures { (0 < result.used) × (result.used < 5) }
-{
-    let b = s[i];
-    if b != b'\\' {
-        return Piece { byte: b, used: 1 };
-    }
-    if s.len() - i < 4 {
-        return escape(s, i);
-    }
-    if s[i + 1] == b'x' {
-        let high = digit(s[i + 2]);
-        let low = digit(s[i + 3]);
-        return Piece {
-            byte: high * 16 + low,
-            used: 4,
-        };
-    }
-    escape(s, i)
-}
-
-// The byte of \n or \r at i; otherwise the backslash itself.
-fn escape(s: &[u8], i: usize) -> Piece
-    requires { i < length s.now }
-    ensures { (0 < result.used) × (result.used < 5) }
-{
-    if s.len() - i < 2 {
-        return Piece {
-            byte: b'\\',
-            used: 1,
-        };
-    }
-    match s[i + 1] {
-        b'n' => Piece {
-            byte: b'\n',
-            used: 2,
-        },
-        b'r' => Piece {
-            byte: b'\r',
-            used: 2,
-        },
-        _ => Piece {
-            byte: b'\\',
-            used: 1,
-        },
+// The byte that a text begins with, and the text behind it; a backslash before anything but x and two bytes, n or r stands for itself.
+fn first_byte(s: &[u8]) -> Option<(u8, &[u8])> {
+    match s {
+        [] => None,
+        [b'\\', b'x', high, low, rest @ ..] => Some((digit(*high) * 16 + digit(*low), rest)),
+        [b'\\', b'n', rest @ ..] => Some((b'\n', rest)),
+        [b'\\', b'r', rest @ ..] => Some((b'\r', rest)),
+        [b, rest @ ..] => Some((*b, rest)),
     }
 }
 
@@ -120,110 +58,77 @@ fn escape(s: &[u8], i: usize) -> Piece
 fn unescape(s: &[u8], out: &mut [u8]) -> usize
     ensures { (result ≤ length out.new) × (length out.new ≡ length out.old) }
 {
-    let mut i = 0;
+    let mut rest = s;
     let mut n = 0;
-    while i < s.len() {
-        if n >= out.len() {
-            return n;
-        }
-        let p = piece_at(s, i);
-        out[n] = p.byte;
+    for place in out.iter_mut() {
+        let Some((byte, behind)) = first_byte(rest) else {
+            break;
+        };
+        *place = byte;
+        rest = behind;
         n += 1;
-        i += p.used;
     }
     n
 }
 
-fn put<W: Write>(out: &mut W, n: usize) -> io::Result<()> {
-    write!(out, " {n}")
-}
-
-fn put_scanned<W: Write>(out: &mut W, r: Answer) -> io::Result<()> {
+fn put_scanned<W: Write>(out: &mut W, r: Result<Numbers, Refusal>) -> io::Result<()> {
     match r {
-        Answer::Taken(n) => {
-            out.write_all(b"taken")?;
-            put(out, n.records)?;
-            put(out, n.letters)?;
-            put(out, n.foreign)?;
-            put(out, n.edge)?;
-            put(out, n.windows)?;
-        }
-        Answer::Refused(f) => {
-            out.write_all(b"refused")?;
-            put(out, settings::number_of(f) as usize)?;
-            put(out, settings::place_of(f) as usize)?;
-        }
+        Ok(n) => writeln!(
+            out,
+            "taken {} {} {} {} {}",
+            n.records, n.letters, n.foreign, n.edge, n.windows
+        ),
+        Err(f) => writeln!(out, "refused {} {}", f.number(), f.place()),
     }
-    out.write_all(b"\n")
 }
 
-fn put_found<W: Write>(out: &mut W, f: Found) -> io::Result<()> {
-    match f {
-        Found::Record {
-            header,
-            header_len,
-            body,
-            body_len,
-        } => {
-            out.write_all(b"record")?;
-            put(out, header)?;
-            put(out, header_len)?;
-            put(out, body)?;
-            put(out, body_len)?;
-        }
-        Found::Nothing => {
-            out.write_all(b"none")?;
-        }
+fn put_found<W: Write>(out: &mut W, found: Option<Record>) -> io::Result<()> {
+    match found {
+        Some(r) => write!(
+            out,
+            "record {} {} {} {}",
+            r.header, r.header_len, r.body, r.body_len
+        ),
+        None => write!(out, "none"),
     }
-    Ok(())
 }
 
-fn put_after<W: Write>(out: &mut W, at: usize) -> io::Result<()> {
-    out.write_all(b" after")?;
-    put(out, at)?;
-    out.write_all(b"\n")
-}
-
-// The place after the space at the end of a field.
-fn after_field(s: &[u8], end: usize) -> usize
-    requires { end ≤ length s.now }
-    ensures { (end ≤ result) × (result ≤ length s.now) }
-{
-    if end < s.len() { end + 1 } else { end }
+// A text up to its first space, and what is behind it; the whole text where it has no space.
+fn field(s: &[u8]) -> (&[u8], &[u8]) {
+    match s.iter().position(|b| *b == b' ') {
+        Some(end) => (&s[..end], &s[end + 1..]),
+        None => (s, &[]),
+    }
 }
 
 fn scan_case<W: Write>(out: &mut W, kind: Kind, s: &[u8], file: &mut [u8]) -> io::Result<()> {
-    let a = find(s, 0, b' ');
-    let b = after_field(s, a);
-    let c = find(s, b, b' ');
-    let d = after_field(s, c);
-    let e = find(s, d, b' ');
-    let f = after_field(s, e);
-    let k = decimal(&s[b..c]);
-    let mirror = decimal(&s[d..e]);
-    let n = unescape(&s[f..], file);
-    put_scanned(
-        out,
-        files::scan(kind, &file[..n], &s[..a], k, mirror as u64),
-    )
+    let (letters, s) = field(s);
+    let (k, s) = field(s);
+    let (mirror, s) = field(s);
+    let n = unescape(s, file);
+    let scanned = files::scan(
+        kind,
+        &file[..n],
+        letters,
+        decimal(k),
+        decimal(mirror) as u64,
+    );
+    put_scanned(out, scanned)
 }
 
 fn read_case<W: Write>(out: &mut W, s: &[u8], file: &mut [u8]) -> io::Result<()> {
-    let a = find(s, 0, b' ');
-    let b = after_field(s, a);
-    let at = decimal(&s[..a]);
-    let n = unescape(&s[b..], file);
+    let (at, s) = field(s);
+    let at = decimal(at);
+    let n = unescape(s, file);
     put_found(out, records::read_from(&file[..n], at))?;
-    put_after(out, records::moved_from(&file[..n], at))
+    writeln!(out, " after {}", records::moved_from(&file[..n], at))
 }
 
 fn nth_case<W: Write>(out: &mut W, s: &[u8], file: &mut [u8]) -> io::Result<()> {
-    let a = find(s, 0, b' ');
-    let b = after_field(s, a);
-    let number = decimal(&s[..a]);
-    let n = unescape(&s[b..], file);
-    put_found(out, records::record_number(&file[..n], number))?;
-    out.write_all(b"\n")
+    let (number, s) = field(s);
+    let n = unescape(s, file);
+    put_found(out, records::record_number(&file[..n], decimal(number)))?;
+    writeln!(out)
 }
 
 // One line: one under six bytes is skipped, one that begins with s, f, r or n is run as a case, every other is copied.
@@ -238,17 +143,14 @@ fn case<W: Write>(out: &mut W, s: &[u8], file: &mut [u8]) -> io::Result<()> {
         b'n' => nth_case(out, &s[4..], file),
         _ => {
             out.write_all(s)?;
-            out.write_all(b"\n")
+            writeln!(out)
         }
     }
 }
 
 fn cases<W: Write>(out: &mut W, s: &[u8], file: &mut [u8]) -> io::Result<()> {
-    let mut i = 0;
-    while i < s.len() {
-        let e = find(s, i, b'\n');
-        case(out, &s[i..e], file)?;
-        i = e + 1;
+    for line in s.split(|b| *b == b'\n') {
+        case(out, line, file)?;
     }
     Ok(())
 }
@@ -259,10 +161,11 @@ fn read_full<R: Read>(input: &mut R, buf: &mut [u8]) -> io::Result<usize>
     ensures kept { length buf.new ≡ length buf.old }
 {
     let mut n: usize = 0;
+    // Stays: how far a turn goes is what `read` answers; std's reading of all that comes needs a Vec, and the house has no heap.
     while n < buf.len() {
         let more = input.read(&mut buf[n..])?;
         if more == 0 {
-            return Ok(n);
+            break;
         }
         n += more;
     }
