@@ -1,16 +1,11 @@
 -- What a load answers and leaves, from its steps: the text's first ground or the counts set from zeros (`text_refused`, `counts_set`), in the first places of a
 -- table (`loaded`); and the grounds before the text's at each test. From the laws of a clearing's grounds and the definitions of loading.
-use mathlib.Core.Path.{◌≡◌, sym, ap, ◌∙◌}
-use Rattle.std.specs.Prelude.{None, Some}
-use mathlib.Core.List.{List, [], ◌++◌, append-nil}
-use Prim.Native.Nat.{ℕ, ◌<◌, ◌≤◌}
-use native.Mathlib.Omega.{arith}
-use lib.ListN.{length, take, drop, replicate, length-replicate, drop_of_length-le}
-use lib.Seq.{length-take-le}
+use Rattle.std.proofs.Common.{◌≡◌, sym, ap, ◌∙◌, None, Some, List, [], ◌++◌, append-nil, ℕ, ◌<◌, ◌≤◌, arith, length, take, drop, replicate, drop_of_length-le, length-take-le}
+use lib.ListN.{length-replicate}
 use Rattle.settings.specs.declared.Settings.{Settings}
 use Rattle.settings.specs.Grounds.{Ground, Outcome, given, refused, outcome}
 use Rattle.settings.specs.Settings.{settings_ground, settings_of}
-use Rattle.settings.proofs.Outcomes.{kept_by, set_by, prefix_overwritten}
+use Rattle.settings.proofs.Outcomes.{kept_by, set_by, passed, prefix_overwritten}
 use Rattle.settings.proofs.SettingsGrounds.{known}
 use Rattle.lines.specs.Lines.{lines}
 use Rattle.tally_book.specs.Table.{class_count}
@@ -26,36 +21,39 @@ module _ (letters : List ℕ) (k m : ℕ) (text counts : List ℕ) where
   text_refused f e = kept_by _ (class_count letters k m) (loaded_counts letters k m text) counts f e
 
   module _ (size : length counts ≡ class_count letters k m) (clean : text_fault letters k m text ≡ None) {zeros : List ℕ}
-      (cleared : zeros ≡ replicate (length counts) 0 ++ drop (length counts) counts) where
+      (cleared : zeros ≡ replicate (length counts) 0) where
     all_zeros : zeros ≡ replicate (class_count letters k m) 0
-    all_zeros =
-        let all : length counts ≤ length counts = omega arith in
-        cleared ∙ rw (drop_of_length-le counts all, size) (append-nil (replicate (class_count letters k m) 0))
+    all_zeros = cleared ∙ rw size
 
-    pub sets_counts : ForTable letters k m → SetsCounts text letters k m zeros
-    sets_counts T = record { table = T; no_fault = clean; one_a_class = ap length all_zeros ∙ length-replicate {A = ℕ} (class_count letters k m) 0 }
+    pub sets_counts : SetsCounts text letters k m zeros
+    sets_counts = record { no_fault = clean; one_a_class = ap length all_zeros ∙ length-replicate {A = ℕ} (class_count letters k m) 0 }
 
     pub counts_set : {counts' : List ℕ} → counts' ≡ loaded_from letters k m zeros (drop 1 (lines text))
-        → LoadsCounts letters k m text counts (given (length counts)) counts'
+        → LoadsCounts letters k m text counts (given (length counts')) counts'
     unfolding loaded_counts
     counts_set {counts'} e =
-        let all : length counts ≤ length (loaded_counts letters k m text) = omega (arith, loaded_length letters k m text) in
-        let nothing_left : drop (length (loaded_counts letters k m text)) counts ≡ [] = drop_of_length-le counts all in
-        let is : counts' ≡ loaded_counts letters k m text ++ drop (length (loaded_counts letters k m text)) counts =
-        e ∙ ap (λ (cs : List ℕ). loaded_from letters k m cs (drop 1 (lines text))) all_zeros
-        ∙ sym (ap (λ (l : List ℕ). loaded_counts letters k m text ++ l) nothing_left ∙ append-nil (loaded_counts letters k m text)) in
-        rw size (set_by (text_fault letters k m text) (class_count letters k m) (loaded_counts letters k m text) counts counts' clean is)
+        let new = loaded_counts letters k m text in
+        let set : counts' ≡ new = e ∙ ap (λ (cs : List ℕ). loaded_from letters k m cs (drop 1 (lines text))) all_zeros in
+        let n : length counts' ≡ class_count letters k m = ap length set ∙ loaded_length letters k m text in
+        let nothing_left : drop (length new) counts ≡ [] = drop_of_length-le counts (omega (arith, loaded_length letters k m text)) in
+        let is : counts' ≡ new ++ drop (length new) counts = set ∙ sym (ap (λ (l : List ℕ). new ++ l) nothing_left ∙ append-nil new) in
+        rw n (set_by (text_fault letters k m text) (class_count letters k m) new counts counts' clean is)
 
 -- ---- in the first places of a table
 
--- The first places of a table, one a class, are counts that may be loaded.
-pub for_table : (letters : List ℕ) (k m : ℕ) (t : List ℕ) (st : Settings) → given st ≡ outcome (settings_ground letters k m) (settings_of letters k m)
-    → st.classes ≤ 16777216
-    → st.classes ≤ length t
-    → ForTable letters k m × (length (take st.classes t) ≡ class_count letters k m)
-for_table letters k m t st e few long =
-    let good = known letters k m st e in
-    (record { good = good.none_applies_lem; few = omega (arith, good.classes_are) }, length-take-le st.classes t long ∙ good.classes_are)
+-- Settings that the check gave, with few classes, are good for a table; its first places, one a class, are counts that may be loaded.
+module _ (letters : List ℕ) (k m : ℕ) (st : Settings) (e : given st ≡ outcome (settings_ground letters k m) (settings_of letters k m)) where
+  own_k : st.k ≡ k
+  own_k = ap (λ (x : Settings). x.k) (passed (settings_of letters k m) (settings_ground letters k m) e).value
+
+  pub for_table : st.classes ≤ 16777216 → ForTable letters st.k m
+  for_table few = let good = known letters k m st e in rw own_k (record { good = good.none_applies_lem; few = omega (arith, good.classes_are) })
+
+  pub checked : st ≡ settings_of letters st.k m
+  checked = (passed (settings_of letters k m) (settings_ground letters k m) e).value ∙ ap (λ (x : ℕ). settings_of letters x m) (sym own_k)
+
+  pub one_a_class : (t : List ℕ) → st.classes ≤ length t → length (take st.classes t) ≡ class_count letters st.k m
+  one_a_class t long = rw own_k (length-take-le st.classes t long ∙ (known letters k m st e).classes_are)
 
 module _ (letters : List ℕ) (k m : ℕ) (text t : List ℕ) where
   refused_by : (f : Ground) → load_ground letters k m (length t) text ≡ Some f → Loads letters k m text t (refused f) t
@@ -75,11 +73,14 @@ module _ (letters : List ℕ) (k m : ℕ) (text t : List ℕ) where
       unfolding load_ground
       short_table h = refused_by (7, st.classes) (rw (clear_short letters k m (length t) st e few h))
 
-      pub loaded : {answer : Outcome ℕ} {new : List ℕ} → st.classes ≤ length t → LoadsCounts letters k m text (take st.classes t) answer new
+      -- By a judge of these settings.
+      pub loaded : {answer : Outcome ℕ} {new letters' : List ℕ} {st' : Settings} {m' : ℕ} → st.classes ≤ length t → letters' ≡ letters → m' ≡ m → st' ≡ st
+          → LoadsCounts letters' st'.k m' text (take st.classes t) answer new
           → Loads letters k m text t answer (new ++ drop st.classes t)
       unfolding load_ground
-      loaded long L =
+      loaded {answer} {new} long letters-are mirror-is settings-are L′ =
           let n = (known letters k m st e).classes_are in
+          let L : LoadsCounts letters k m text (take st.classes t) answer new = rw (letters-are, mirror-is, settings-are, own_k letters k m st e) at L′ in
           rw (clear_passed letters k m (length t) st e few long, n)
           (prefix_overwritten (text_fault letters k m text) (class_count letters k m) (loaded_counts letters k m text) t (loaded_length letters k m text)
           (omega (arith, n)) (rw n at L))

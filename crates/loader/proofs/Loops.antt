@@ -1,65 +1,59 @@
--- The loops over a text's lines: what the line at a place does to the first fault and to the counts (`fault_here`, `fault_later`, `counts_end`, `counts_next`), and
+-- The loops over a text's lines: what its first line does to the first fault and to the counts (`fault_here`, `fault_later`, `counts_end`, `counts_next`), and
 -- what is left where no line is. From the laws of lines and the definitions of loading.
-use mathlib.Core.Path.{◌≡◌, sym, ap, ◌∙◌}
-use mathlib.Core.Bool.{true, false}
-use Rattle.std.specs.Prelude.{None, Some}
-use mathlib.Core.List.{List, ◌∷◌}
-use Prim.Native.Nat.{ℕ, ◌+◌, ◌-◌, ◌≤◌, ◌<◌}
-use native.Mathlib.Omega.{arith}
-use lib.ListN.{length, take, drop, set}
+use Rattle.std.proofs.Common.{◌≡◌, sym, ap, ◌∙◌, true, false, List, [], ℕ, ◌+◌, ◌<◌, length, take, drop, length-drop, arith, set, None, Some}
 use Rattle.settings.specs.Grounds.{Ground}
 use Rattle.lines.specs.Lines.{lines}
 use Rattle.lines.specs.Needs.{first_line}
-use Rattle.lines.proofs.Lines.{lines_next, lines_end, first_is_front}
+use Rattle.lines.proofs.Lines.{lines_next, first_some, first_within, first_is_front}
 use Rattle.loading.specs.Shapes.{is_total_line}
 use Rattle.loading.specs.declared.Next.{Next}
 use Rattle.loading.specs.Loading.{code_in, count_in, next_after, line_fault, missing, load_fault, loaded_from}
+use Rattle.loader.specs.Needs.{FirstLine}
 
-module _ (letters : List ℕ) (k m : ℕ) (text : List ℕ) (at to : ℕ) (ends : to ≡ at + length (first_line (drop at text))) where
-  -- The line at a place, as a part of the text.
-  abbrev pub line_at : List ℕ
-  line_at = take (to - at) (drop at text)
+-- A text that is not empty, cut behind its first line.
+pub first_line_cut : (text : List ℕ) {line after : List ℕ} {n : ℕ} → 0 < length text → n ≡ 0 + length (first_line (drop 0 text)) → line ≡ take n text
+    → after ≡ drop n text → FirstLine text line after
+first_line_cut text {line} {after} {n} h e line_is after_is =
+    let place : n ≡ length (first_line text) = omega (arith, e) in
+    let same : line ≡ first_line text = line_is ∙ ap (λ (x : ℕ). take x text) place ∙ sym (first_is_front text) in
+    record {
+      turn = lines_next text 0 n e h ∙ rw (same, after_is);
+      parts = omega (arith, ap length same, ap length after_is, first_within text, length-drop n text);
+      some = omega (arith, ap length same, first_some text h);
+    }
 
-  line_is_part : first_line (drop at text) ≡ line_at
-  line_is_part =
-      let n : to - at ≡ length (first_line (drop at text)) = omega arith in
-      first_is_front (drop at text) ∙ ap (λ (x : ℕ). take x (drop at text)) (sym n)
-
-  pub lines_turn : at < length text → lines (drop at text) ≡ line_at ∷ lines (drop to text)
-  lines_turn h = lines_next text at to ends h ∙ ap (λ (l : List ℕ). l ∷ lines (drop to text)) line_is_part
-
-  pub line_place : at + length line_at ≡ to
-  line_place = omega (arith, ap length line_is_part)
-
+module _ {text line after : List ℕ} (F : FirstLine text line after) (letters : List ℕ) (k m : ℕ) where
   -- A fault of this line is the text's.
-  pub fault_here : (next : Next) (g : Ground) → at < length text → line_fault letters k m next at line_at ≡ Some g
-      → load_fault letters k m next at (lines (drop at text)) ≡ Some g
+  pub fault_here : (next : Next) (at : ℕ) (g : Ground) → line_fault letters k m next at line ≡ Some g → load_fault letters k m next at (lines text) ≡ Some g
   unfolding load_fault
-  fault_here next g h e = rw (lines_turn h, e)
+  fault_here next at g e = rw (F.turn, e)
 
   -- Where it has none, those of the lines behind it are.
-  pub fault_later : (next after : Next) → at < length text → line_fault letters k m next at line_at ≡ None → after ≡ next_after letters k m next line_at
-      → load_fault letters k m next at (lines (drop at text)) ≡ load_fault letters k m after to (lines (drop to text))
+  pub fault_later : (next next' : Next) (at : ℕ) → line_fault letters k m next at line ≡ None → next' ≡ next_after letters k m next line
+      → load_fault letters k m next at (lines text) ≡ load_fault letters k m next' (at + length line) (lines after)
   unfolding load_fault
-  fault_later next after h e is = rw (lines_turn h, e, line_place, is)
+  fault_later next next' at e is = rw (F.turn, e, is)
 
   -- The total ends the counts, and a line before it sets one.
-  pub counts_end : (cs : List ℕ) → at < length text → is_total_line line_at ≡ true → loaded_from letters k m cs (lines (drop at text)) ≡ cs
+  pub counts_end : (cs : List ℕ) → is_total_line line ≡ true → loaded_from letters k m cs (lines text) ≡ cs
   unfolding loaded_from
-  counts_end cs h e = rw (lines_turn h, e)
+  counts_end cs e = rw (F.turn, e)
 
-  pub counts_next : (cs : List ℕ) → at < length text → is_total_line line_at ≡ false
-      → loaded_from letters k m cs (lines (drop at text))
-      ≡ loaded_from letters k m (set cs (code_in letters k m line_at) (count_in k line_at)) (lines (drop to text))
+  pub counts_next : (cs : List ℕ) → is_total_line line ≡ false
+      → loaded_from letters k m cs (lines text) ≡ loaded_from letters k m (set cs (code_in letters k m line) (count_in k line)) (lines after)
   unfolding loaded_from
-  counts_next cs h e = rw (lines_turn h, e)
+  counts_next cs e = rw (F.turn, e)
 
 -- No line is left.
-module _ (letters : List ℕ) (k m : ℕ) (text : List ℕ) (at : ℕ) (h : length text ≤ at) where
-  pub fault_missing : (next : Next) → load_fault letters k m next at (lines (drop at text)) ≡ missing next at
-  unfolding load_fault
-  fault_missing next = rw (lines_end text at h)
+module _ (letters : List ℕ) (k m : ℕ) {text : List ℕ} (e : text ≡ []) where
+  pub fault_missing : (next : Next) (at : ℕ) → load_fault letters k m next at (lines text) ≡ missing next at
+  unfolding load_fault lines
+  fault_missing next at = rw e
 
-  pub counts_done : (cs : List ℕ) → loaded_from letters k m cs (lines (drop at text)) ≡ cs
-  unfolding loaded_from
-  counts_done cs = rw (lines_end text at h)
+  pub counts_done : (cs : List ℕ) → loaded_from letters k m cs (lines text) ≡ cs
+  unfolding loaded_from lines
+  counts_done cs = rw e
+
+  pub counts_none : (cs : List ℕ) → cs ≡ loaded_from letters k m cs (drop 1 (lines text))
+  unfolding loaded_from lines
+  counts_none cs = rw e

@@ -1,15 +1,15 @@
 -- What functions ask of each other; no sentence of document 02 rests on it.
-use Rattle.std.specs.Prelude.{◌≡◌, true, false, List, ℕ, ◌*◌, ◌≤◌, length}
-use Rattle.std.specs.Prelude.{None, Some}
+use Rattle.std.specs.Prelude.{◌≡◌, Bool, true, false, ◌&&◌, List, [], ◌∷◌, ℕ, ◌+◌, ◌*◌, ◌<◌, ◌≤◌, length, leb, Option, None, Some, Result, Ok, Err}
+use Rattle.settings.specs.declared.Refusal.{Refusal}
 use Rattle.settings.specs.Grounds.{ground_of, Outcome, Overwrites}
 use Rattle.settings.specs.Settings.{settings_ground}
 use Rattle.tally_book.specs.Table.{class_count}
 use Rattle.loading.specs.Shapes.{is_count_line, is_total_line}
 use Rattle.loading.specs.declared.Next.{Next}
 use Rattle.loading.specs.declared.Next.TheVariants.{Survey, CountOrTotal, Nothing}
-use Rattle.loading.specs.Loading.{next_after, line_fault, text_fault, loaded_counts}
-use Rattle.loader.specs.declared.Step.{Step}
-use Rattle.loader.specs.declared.Step.TheVariants.{On, Fault}
+use Rattle.loading.specs.Loading.{code_in, count_in, next_after, line_fault, text_fault, loaded_counts}
+use denote.Ref.{Bor}
+use Rattle.lines.specs.Lines.{lines}
 
 -- Good settings with few enough classes for a table.
 pub record ForTable (letters : List ℕ) (k mirror : ℕ) : Type 0 where
@@ -28,13 +28,33 @@ pub record ClassLine (letters : List ℕ) (k : ℕ) (l : List ℕ) : Type 0 wher
   pub shaped : is_count_line letters k l ≡ true
 
 -- What a line at an offset is judged to be: passed, with what belongs after it; or at fault.
-abbrev pub StepIs : (letters : List ℕ) (k mirror : ℕ) → Next → (at : ℕ) → List ℕ → Step → Type 0
-StepIs letters k m next at l (On after) = (line_fault letters k m next at l ≡ None) × (after ≡ next_after letters k m next l) × Bounded after
-StepIs letters k m next at l (Fault f) = line_fault letters k m next at l ≡ Some (ground_of f)
+abbrev pub StepIs : (letters : List ℕ) (k mirror : ℕ) → Next → (at : ℕ) → List ℕ → Result Next Refusal → Type 0
+StepIs letters k m next at l (Ok after) = (line_fault letters k m next at l ≡ None) × (after ≡ next_after letters k m next l) × Bounded after
+StepIs letters k m next at l (Err f) = line_fault letters k m next at l ≡ Some (ground_of f)
+
+-- The first line of a text and what stands behind it.
+pub record FirstLine (text line after : List ℕ) : Type 0 where
+  pub turn : lines text ≡ line ∷ lines after
+  pub parts : length line + length after ≡ length text
+  pub some : 1 ≤ length line
+
+-- What is found of a text: its first line, or that it has none.
+abbrev pub NextLine : (text : List ℕ) → Option (Bor (List ℕ) × Bor (List ℕ)) → Type 0
+NextLine text None = text ≡ []
+NextLine text (Some (line, after)) = FirstLine text line.now after.now
+
+-- Whether a word of a class's line, its code and its count are right.
+abbrev pub is_right : (canonical : Bool) (code n low : ℕ) → Bool
+is_right canonical q n low = canonical && (leb low q && (leb 1 n && leb n 4294967295))
+
+-- The line of a class that is long enough, with a code and a count that have a place.
+pub record ClassRead (letters : List ℕ) (k mirror : ℕ) (l : List ℕ) : Type 0 where
+  pub long : 10 + k ≤ length l
+  pub below : code_in letters k mirror l < class_count letters k mirror
+  pub few : count_in k l ≤ 4294967295
 
 -- A text without a ground, and counts of all classes.
 pub record SetsCounts (text letters : List ℕ) (k mirror : ℕ) (counts : List ℕ) : Type 0 where
-  pub table : ForTable letters k mirror
   pub no_fault : text_fault letters k mirror text ≡ None
   pub one_a_class : length counts ≡ class_count letters k mirror
 

@@ -1,175 +1,184 @@
 // One line of a listing: what it says, and whether it is what belongs at its place.
 ghost use Rattle.std.specs.Prelude.{◌≡◌, ◌+◌, ◌≤◌, min, length};
-ghost use Rattle.std.specs.Prelude.{None};
-ghost use Rattle.settings.specs.RankTables.{RankTable};
-ghost use Rattle.settings.specs.Settings.{settings_ground, mirror_of};
-ghost use Rattle.tally_book.specs.Table.{class_count};
+ghost use Rattle.settings.specs.RankTables.{RanksOf, rank_by_table};
+ghost use Rattle.settings.specs.Settings.{settings_of};
+ghost use Rattle.words.specs.Needs.{ranks_by};
+ghost use Rattle.texts.specs.Needs.{Puts, Writes};
 ghost use Rattle.survey.specs.Line.{survey_line};
 ghost use Rattle.listing.specs.Listing.{total_line};
 ghost use Rattle.loading.specs.Shapes.{same_text};
 ghost use Rattle.loading.specs.declared.Next.TheVariants.{Survey, CountOrTotal};
 ghost use Rattle.loading.specs.Loading.{code_in, canonical_in, count_in};
-ghost use Rattle.loader.specs.Needs.{ForTable, Bounded, ClassLine, StepIs};
+ghost use Rattle.loader.specs.Needs.{ForTable, Bounded, ClassLine, StepIs, is_right};
 
-use crate::Step;
 use codes::to_code::{WordCode, ranks_code};
 use loading::Next;
-use settings::{Mirror, Refusal};
+use settings::{HIGHEST_COUNT, RankTable, Refusal, Settings};
+use texts::Writer;
 use words::letters::fill_ranks_by;
 
-// The mirror that a number names, 0 or 1.
-fn mirror_named(mirror: u64) -> Mirror
-    ensures { result ≡ mirror_of mirror }
-{
-    if mirror == 0 {
-        Mirror::Reversal
-    } else {
-        Mirror::Complement
-    }
+// What a listing's lines are judged by, made once a call: settings that passed the check, with few enough classes for a table, and the ranks of all bytes.
+#[derive(Drop)]
+pub struct Judge<'a> {
+    pub letters: &'a [u8],
+    pub mirror: u64,
+    pub settings: Settings,
+    pub ranks: RankTable,
+    ghost table: { ForTable letters.now settings.k mirror },
+    ghost checked: { settings ≡ settings_of letters.now settings.k mirror },
+    ghost ranks_are: { RanksOf letters.now ranks },
 }
 
-// The code of the word in a class's line, and whether the word is canonical. Letters are looked up in the table of ranks.
-pub fn word_in(letters: &[u8], ranks: &[u8; 256], k: usize, mirror: u64, line: &[u8]) -> WordCode
-    requires { (settings_ground letters.now k mirror ≡ None) × RankTable letters.now ranks.now × (7 + k ≤ length line.now) }
-    ensures { (result.code.0 ≡ code_in letters.now k mirror line.now)
-        × (result.canonical ≡ canonical_in letters.now k mirror line.now) }
+// The ranks of a word in lent places, looked up in a table.
+fn word_ranks<'a>(table: &RankTable, word: &[u8], places: &'a mut [u64]) -> &'a [u64]
+    requires { length word.now ≤ length places.old }
+    ensures { result.now ≡ ranks_by (rank_by_table table.now) word.now }
 {
-    let m = mirror_named(mirror);
-    let s = letters.len() as u64;
-    let to = 7 + k;
-    let mut own = [0u64; 64];
-    fill_ranks_by(ranks, &line[7..to], &mut own);
-    ranks_code(&own[..k], s, m)
+    fill_ranks_by(table, word, places);
+    &places[..word.len()]
 }
 
-// The count in a class's line, as far as one above the highest.
-pub fn count_in(k: usize, line: &[u8]) -> u64
-    requires { (k ≤ 62) × (10 + k ≤ length line.now) }
-    ensures { result ≡ min (count_in k line.now) 4294967296 }
+// The total of a sum.
+fn put_total(w: &mut Writer, sum: u64)
+    ensures { Writes w.old w.new (total_line sum) }
 {
-    let from = 8 + k;
-    let to = line.len() - 2;
-    shapes::number_upto(&line[from..to])
+    w.put_field(b"(total ", sum);
+    w.put_text(b")\n");
+}
+
+// Writes the total of a sum to the start of out, and answers its length.
+fn write_total(out: &mut [u8], sum: u64) -> usize
+    ensures { Puts out.old out.new 0 result (total_line sum) }
+{
+    let mut total = Writer::new(out);
+    put_total(&mut total, sum);
+    total.place()
 }
 
 // Whether a line is the total of a sum.
-fn same_total(line: &[u8], sum: u64) -> bool
+fn is_total_of(line: &[u8], sum: u64) -> bool
     ensures { result ≡ same_text line.now (total_line sum) }
 {
     let mut buffer = [0u8; 32];
-    let after_sum = texts::put_field(&mut buffer, 0, b"(total ", sum);
-    let n = texts::put_text(&mut buffer, after_sum, b")\n");
-    shapes::same_text(line, &buffer[0..n])
+    let n = write_total(&mut buffer, sum);
+    line == &buffer[..n]
 }
 
-// The line of a class, by its shape, where one whose code is at least `low` belongs.
-fn judge_class(
-    line: &[u8],
-    at: usize,
-    letters: &[u8],
-    ranks: &[u8; 256],
-    k: usize,
-    mirror: u64,
-    low: u64,
-    sum: u64,
-) -> Step
-    requires { ForTable letters.now k mirror × Bounded (CountOrTotal low sum) × ClassLine letters.now k line.now × RankTable letters.now ranks.now }
-    ensures { StepIs letters.now k mirror (CountOrTotal low sum) at line.now result }
+// Whether what the line of a class says is right: its word is canonical, its code is at least `low`, its count is one that a place holds.
+fn is_right(word: WordCode, n: u64, low: u64) -> bool
+    ensures { result ≡ is_right word.canonical word.code.0 n low }
 {
-    let n = count_in(k, line);
-    if n == 0 {
-        return Step::Fault(Refusal::BadCount(at));
-    }
-    if n > settings::HIGHEST_COUNT {
-        return Step::Fault(Refusal::BadCount(at));
-    }
-    let found = word_in(letters, ranks, k, mirror, line);
-    if !found.canonical {
-        return Step::Fault(Refusal::BadCount(at));
-    }
-    let q = found.code;
-    if q.0 < low {
-        return Step::Fault(Refusal::BadCount(at));
-    }
-    Step::On(Next::CountOrTotal(q.0 + 1, sum + n))
+    word.canonical && low <= word.code.0 && 1 <= n && n <= HIGHEST_COUNT
 }
 
-// A line where the line of a class or the total belongs.
-fn judge_count(
-    line: &[u8],
-    at: usize,
-    letters: &[u8],
-    ranks: &[u8; 256],
-    k: usize,
-    mirror: u64,
-    low: u64,
-    sum: u64,
-) -> Step
-    requires { ForTable letters.now k mirror × Bounded (CountOrTotal low sum) × RankTable letters.now ranks.now }
-    ensures { StepIs letters.now k mirror (CountOrTotal low sum) at line.now result }
-{
-    if shapes::is_total_line(line) {
-        if same_total(line, sum) {
-            return Step::On(Next::Nothing);
+impl<'a> Judge<'a> {
+    pub fn new(letters: &'a [u8], mirror: u64, settings: Settings) -> Judge<'a>
+        requires table { ForTable letters.now settings.k mirror }
+        requires checked { settings ≡ settings_of letters.now settings.k mirror }
+        ensures letters { result.letters.now ≡ letters.now }
+        ensures mirror { result.mirror ≡ mirror }
+        ensures settings { result.settings ≡ settings }
+    {
+        let ranks = RankTable::new(letters);
+        Judge {
+            letters,
+            mirror,
+            settings,
+            ranks,
         }
-        return Step::Fault(Refusal::BadCount(at));
     }
-    if !shapes::is_count_line(letters, k, line) {
-        return Step::Fault(Refusal::BadLine(at));
-    }
-    judge_class(line, at, letters, ranks, k, mirror, low, sum)
-}
 
-// Whether a line is the survey line of the settings.
-fn same_survey(line: &[u8], letters: &[u8], k: usize, mirror: u64, classes: usize) -> bool
-    requires { ForTable letters.now k mirror × (classes ≡ class_count letters.now k mirror) }
-    ensures { result ≡ same_text line.now (survey_line letters.now k mirror) }
-{
-    let mut buffer = [0u8; 128];
-    let n = survey_writer::put_survey(&mut buffer, letters, k, mirror, classes);
-    shapes::same_text(line, &buffer[0..n])
-}
-
-// A line where the survey line belongs.
-fn judge_survey(
-    line: &[u8],
-    at: usize,
-    letters: &[u8],
-    k: usize,
-    mirror: u64,
-    classes: usize,
-) -> Step
-    requires { ForTable letters.now k mirror × (classes ≡ class_count letters.now k mirror) }
-    ensures { StepIs letters.now k mirror Survey at line.now result }
-{
-    if !shapes::is_survey_line(line) {
-        return Step::Fault(Refusal::BadLine(at));
+    // The code of the word in a class's line, and whether the word is canonical.
+    pub fn word_in(&self, line: &[u8]) -> WordCode
+        requires { 7 + self.now.settings.k ≤ length line.now }
+        ensures { (result.code.0 ≡ code_in self.now.letters.now self.now.settings.k self.now.mirror line.now)
+            × (result.canonical ≡ canonical_in self.now.letters.now self.now.settings.k self.now.mirror line.now) }
+    {
+        let mut places = [0u64; 64];
+        let word = &line[7..7 + self.settings.k];
+        let ranks = word_ranks(&self.ranks, word, &mut places);
+        ranks_code(ranks, self.settings.s, self.settings.mirror)
     }
-    if same_survey(line, letters, k, mirror, classes) {
-        return Step::On(Next::CountOrTotal(0, 0));
-    }
-    Step::Fault(Refusal::OtherSettings(at))
-}
 
-// The line at an offset, judged by what belongs there.
-pub fn judge_line(
-    line: &[u8],
-    at: usize,
-    letters: &[u8],
-    ranks: &[u8; 256],
-    k: usize,
-    mirror: u64,
-    classes: usize,
-    next: Next,
-) -> Step
-    requires { ForTable letters.now k mirror × (classes ≡ class_count letters.now k mirror) × Bounded next × RankTable letters.now ranks.now }
-    ensures { StepIs letters.now k mirror next at line.now result }
-{
-    match next {
-        Next::Survey => judge_survey(line, at, letters, k, mirror, classes),
-        Next::CountOrTotal(low, sum) => {
-            judge_count(line, at, letters, ranks, k, mirror, low, sum)
+    // The count in a class's line, as far as one above the highest.
+    pub fn count_in(&self, line: &[u8]) -> u64
+        requires { 10 + self.now.settings.k ≤ length line.now }
+        ensures { result ≡ min (count_in self.now.settings.k line.now) 4294967296 }
+    {
+        shapes::number_upto(&line[8 + self.settings.k..line.len() - 2])
+    }
+
+    // The line of a class, by its shape, where one whose code is at least `low` belongs.
+    fn class_line(&self, line: &[u8], at: usize, low: u64, sum: u64) -> Result<Next, Refusal>
+        requires { Bounded (CountOrTotal low sum) × ClassLine self.now.letters.now self.now.settings.k line.now }
+        ensures { StepIs self.now.letters.now self.now.settings.k self.now.mirror (CountOrTotal low sum) at line.now result }
+    {
+        let word = self.word_in(line);
+        let n = self.count_in(line);
+        if !is_right(word, n, low) {
+            return Err(Refusal::BadCount(at));
         }
-        Next::Nothing => Step::Fault(Refusal::BadLine(at)),
+        Ok(Next::CountOrTotal(word.code.0 + 1, sum + n))
+    }
+
+    // A line where the line of a class or the total belongs.
+    fn count_line(&self, line: &[u8], at: usize, low: u64, sum: u64) -> Result<Next, Refusal>
+        requires { Bounded (CountOrTotal low sum) }
+        ensures { StepIs self.now.letters.now self.now.settings.k self.now.mirror (CountOrTotal low sum) at line.now result }
+    {
+        if shapes::is_total_line(line) {
+            if !is_total_of(line, sum) {
+                return Err(Refusal::BadCount(at));
+            }
+            return Ok(Next::Nothing);
+        }
+        if !shapes::is_count_line(self.letters, self.settings.k, line) {
+            return Err(Refusal::BadLine(at));
+        }
+        self.class_line(line, at, low, sum)
+    }
+
+    // Writes the survey line of the settings to the start of out, and answers its length.
+    fn write_survey(&self, out: &mut [u8]) -> usize
+        ensures { Puts out.old out.new 0 result (survey_line self.now.letters.now self.now.settings.k self.now.mirror) }
+    {
+        let Settings { k, classes, .. } = self.settings;
+        let mut own = Writer::new(out);
+        survey_writer::put_survey(&mut own, self.letters, k, self.mirror, classes as usize);
+        own.place()
+    }
+
+    // Whether a line is the survey line of the settings.
+    fn is_own_survey(&self, line: &[u8]) -> bool
+        ensures { result ≡ same_text line.now (survey_line self.now.letters.now self.now.settings.k self.now.mirror) }
+    {
+        let mut buffer = [0u8; 128];
+        let n = self.write_survey(&mut buffer);
+        line == &buffer[..n]
+    }
+
+    // A line where the survey line belongs.
+    fn survey_line(&self, line: &[u8], at: usize) -> Result<Next, Refusal>
+        ensures { StepIs self.now.letters.now self.now.settings.k self.now.mirror Survey at line.now result }
+    {
+        if !shapes::is_survey_line(line) {
+            return Err(Refusal::BadLine(at));
+        }
+        if !self.is_own_survey(line) {
+            return Err(Refusal::OtherSettings(at));
+        }
+        Ok(Next::CountOrTotal(0, 0))
+    }
+
+    // The line at an offset, judged by what belongs there: what belongs behind it, or its fault.
+    pub fn line(&self, line: &[u8], at: usize, next: Next) -> Result<Next, Refusal>
+        requires { Bounded next }
+        ensures { StepIs self.now.letters.now self.now.settings.k self.now.mirror next at line.now result }
+    {
+        match next {
+            Next::Survey => self.survey_line(line, at),
+            Next::CountOrTotal(low, sum) => self.count_line(line, at, low, sum),
+            Next::Nothing => Err(Refusal::BadLine(at)),
+        }
     }
 }

@@ -1,10 +1,6 @@
 -- A line by the bytes in front of its LF: where LF is none of them, it is one line (`ended_by`), and that it is none is shown part by part (`past`). From the
 -- definition of a byte being in a text.
-use mathlib.Core.Path.{◌≡◌, refl}
-use mathlib.Core.Bool.{false}
-use mathlib.Core.List.{List, [], ◌∷◌, ◌++◌}
-use Prim.Native.Nat.{ℕ}
-use lib.Dec.{eqb}
+use Rattle.std.proofs.Common.{◌≡◌, refl, false, List, [], ◌∷◌, ◌++◌, ℕ, eqb}
 use borrow.Author.Tests.{eqb-false}
 use mathlib.Mathlib.Data.Bool.Basic.{or-eq-false-eq-eq-false-and-eq-false}
 use Rattle.settings.specs.Settings.{is_in}

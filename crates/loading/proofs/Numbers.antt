@@ -1,14 +1,9 @@
 -- Numbers in decimal: a text of digits without a leading zero is the decimal of its value (`number_is_decimal`), and the decimal of a number is such a text
 -- with that value (`decimal-is_number`). By the digits, from the laws of decimals of the texts and survey's law of digits without a leading zero.
-use mathlib.Core.Path.{◌≡◌, refl, sym, ap, ◌∙◌}
-use mathlib.Core.Bool.{Bool, true, false, not, ◌&&◌, ◌||◌, and-eq-true_iff, false≢true}
-use mathlib.Core.List.{List, [], ◌∷◌, ◌++◌}
-use Prim.Native.Nat.{ℕ, zero, suc, ◌+◌, ◌-◌, ◌*◌, ◌/◌, ◌%◌, ◌≤◌, ◌<◌}
-use native.Mathlib.Omega.{arith}
+use Rattle.std.proofs.Common.{◌≡◌, refl, sym, ap, ◌∙◌, Bool, true, false, not, ◌&&◌, ◌||◌, List, [], ◌∷◌, ◌++◌, ℕ, zero, suc, ◌+◌, ◌-◌, ◌*◌, ◌/◌, ◌%◌, ◌≤◌, ◌<◌, arith, length, leb, eqb, leb-true, le-leb, ne_eqb}
+use mathlib.Core.Bool.{and-eq-true_iff, false≢true}
 use native.Mathlib.Decide.{dec_lt}
-use lib.ListN.{length}
-use lib.Dec.{leb, eqb}
-use borrow.Author.Tests.{leb-true, le-leb, eqb-false, ne_eqb, not-true}
+use borrow.Author.Tests.{eqb-false, not-true}
 use Rattle.laws.specs.Each.{Each}
 use Rattle.laws.proofs.Each.{each_append}
 use Rattle.settings.specs.Settings.{is_in}

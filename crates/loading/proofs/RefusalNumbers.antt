@@ -1,10 +1,6 @@
 -- What a refused load tells: its number is one of 1, 2, 4, 6, 7, 20, 21 and 22 (`load_numbers_lem`), and the P of 20, 21 and 22 is at most the text's length
 -- (`load_place`). From the definitions of a load's grounds, line by line (`text_has`).
-use mathlib.Core.Path.{refl, ap}
-use mathlib.Core.List.{List, [], ◌∷◌}
-use Prim.Native.Nat.{ℕ, ◌+◌, ◌≤◌}
-use native.Mathlib.Omega.{arith}
-use lib.ListN.{length, length-append}
+use Rattle.std.proofs.Common.{refl, ap, List, [], ◌∷◌, ℕ, ◌+◌, ◌≤◌, arith, length, length-append}
 use Rattle.laws.proofs.Tests.{by_test}
 use Rattle.settings.specs.Grounds.{Ground, ground_at}
 use Rattle.settings.specs.Settings.{is_in, RefusedOnlyBy}

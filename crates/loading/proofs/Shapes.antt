@@ -1,15 +1,7 @@
 -- The line of a class and the total: as we print them each is one line and has its shape, and just the lines that we print for some word and number have it
 -- (`count_shaped`, `total_shaped`). From the laws of numbers in decimal.
-use mathlib.Core.Path.{◌≡◌, refl, ap, subst, ◌∙◌}
-use mathlib.Core.Bool.{true, false, ◌&&◌, and-eq-true_iff}
-use mathlib.Core.Logic.{◌↔◌}
-use mathlib.Core.List.{List, ◌++◌, append_assoc}
-use Prim.Native.Nat.{ℕ, ◌+◌, ◌-◌}
-use native.Mathlib.Omega.{arith}
-use lib.ListN.{length, length-append}
-use lib.Seq.{take_at, drop_at}
-use lib.Dec.{eqb}
-use borrow.Author.Tests.{eqb-true, eq-eqb}
+use Rattle.std.proofs.Common.{◌≡◌, refl, ap, subst, ◌∙◌, true, false, ◌&&◌, ◌↔◌, List, ◌++◌, append_assoc, ℕ, ◌+◌, ◌-◌, arith, length, length-append, take_at, drop_at, eqb, eqb-true, eq-eqb}
+use mathlib.Core.Bool.{and-eq-true_iff}
 use Rattle.laws.specs.Text.{bytes}
 use Rattle.settings.specs.Settings.{is_in}
 use Rattle.lines.proofs.Lines.{Ended}

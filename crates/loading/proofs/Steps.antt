@@ -1,14 +1,7 @@
 -- Loading line by line: the line of a class and the total as we print them are passed (`printed_count`, `total_passed`), and a line that is passed is the one
 -- that we print (`count_read`, `total_read`). From the laws of shapes and of words.
-use mathlib.Core.Path.{◌≡◌, refl, ap, ◌∙◌}
-use mathlib.Core.Bool.{Bool, true, false, ◌&&◌, and-eq-true_iff}
-use Rattle.std.specs.Prelude.{None}
-use mathlib.Core.List.{List, [], ◌∷◌}
-use Prim.Native.Nat.{ℕ, suc, ◌+◌, ◌≤◌, ◌<◌}
-use native.Mathlib.Omega.{arith}
-use lib.ListN.{length, set}
-use lib.Dec.{leb}
-use borrow.Author.Tests.{leb-true, le-leb}
+use Rattle.std.proofs.Common.{◌≡◌, refl, ap, ◌∙◌, Bool, true, false, ◌&&◌, None, List, [], ◌∷◌, ℕ, suc, ◌+◌, ◌≤◌, ◌<◌, arith, length, set, leb, leb-true, le-leb}
+use mathlib.Core.Bool.{and-eq-true_iff}
 use Rattle.settings.specs.Grounds.{ground_at, ◌or_else◌}
 use Rattle.settings.specs.Settings.{mirror_of, settings_ground}
 use Rattle.settings.proofs.Outcomes.{first_none, later_none}

@@ -1,13 +1,8 @@
 -- The survey line's shape: the lines that `is_survey_line` finds are just those of the grammar with the number of classes last (`survey_shaped`), the survey line
 -- that we print is one (`survey_shape`), and one is that line exactly where it has these settings and their number of classes (`survey_same`). From survey's laws of three forms in a row and of the line that we print.
-use mathlib.Core.Path.{◌≡◌, refl, sym, ap, ◌∙◌}
-use mathlib.Core.Bool.{true, false, ◌&&◌, and-eq-true_iff, false≢true}
-use mathlib.Core.Logic.{◌↔◌}
-use Rattle.std.specs.Prelude.{None}
-use mathlib.Core.List.{List, [], ◌∷◌, ◌++◌, append_assoc, append-nil, append_cancel_left, append_cancel_right}
-use Prim.Native.Nat.{ℕ, zero, suc, ◌+◌}
-use native.Mathlib.Omega.{arith}
-use lib.ListN.{take, drop}
+use Rattle.std.proofs.Common.{◌≡◌, refl, sym, ap, ◌∙◌, true, false, ◌&&◌, ◌↔◌, Option, None, Some, List, [], ◌∷◌, ◌++◌, append_assoc, append-nil, ℕ, zero, suc, ◌+◌, arith, take, drop}
+use mathlib.Core.Bool.{and-eq-true_iff, false≢true}
+use mathlib.Core.List.{append_cancel_left, append_cancel_right}
 use Rattle.laws.specs.Text.{bytes}
 use Rattle.laws.proofs.Tests.{by_test}
 use Rattle.settings.specs.Settings.{is_in, settings_ground, settings_of}
@@ -17,11 +12,10 @@ use Rattle.texts.specs.Decimals.{decimal}
 use Rattle.survey.specs.declared.Name.{Name}
 use Rattle.survey.specs.declared.Name.TheVariants.{Letters, K, Mirror}
 use Rattle.survey.specs.declared.Form.{Form}
-use Rattle.survey.specs.declared.Form.TheVariants.{Of, NoForm}
 use Rattle.survey.specs.Forms.{form, settings_forms, unclosed, line_of}
 use Rattle.survey.specs.Line.{mirror_name, printed_forms, survey_line}
 use Rattle.survey.specs.Grammar.{LettersText, KText, MirrorText, spelt}
-use Rattle.survey.specs.Reading.{starts_with, form_at, next_form, in_order}
+use Rattle.survey.specs.Reading.{starts_with, read_form, form_at, next_form, in_order}
 use Rattle.survey.proofs.TextLaws.{starts_at}
 use Rattle.survey.proofs.FormLaws.{opening, flat, flat_forms, flat_of, FormRead, FormGood, form_good}
 use Rattle.survey.proofs.LineThere.{row_there, one_row}
@@ -79,8 +73,8 @@ shape_found l S =
 
 -- Form by form, as they are read; of the 27 rows of three names one is in order.
 module _ (l : List ℕ) (opened : starts_with (bytes "(survey ") l ≡ true) where
-  row_read : (a b c : Name) {f n v g m w h o x : ℕ} → FormRead l 8 a f n v → starts_with (bytes ") ") (drop (f + n) l) ≡ true → FormRead l (f + n + 2) b g m w
-      → starts_with (bytes ") ") (drop (g + m) l) ≡ true → FormRead l (g + m + 2) c h o x
+  row_read : (a b c : Name) {f n v g m w h o x : ℕ} → FormRead l 8 (read_form a f n v) → starts_with (bytes ") ") (drop (f + n) l) ≡ true
+      → FormRead l (f + n + 2) (read_form b g m w) → starts_with (bytes ") ") (drop (g + m) l) ≡ true → FormRead l (g + m + 2) (read_form c h o x)
       → (in_order a b c && is_classes_end (drop (h + o) l)) ≡ true
       → SurveyShape l
   unfolding in_order
@@ -115,29 +109,29 @@ module _ (l : List ℕ) (opened : starts_with (bytes "(survey ") l ≡ true) whe
             ∙ sym (line_parts (take n (drop f l)) (take m (drop g l)) (take o (drop h l)) digits);
       }
 
-  third_read : {a b : Name} {f n v g m w : ℕ} → FormRead l 8 a f n v → starts_with (bytes ") ") (drop (f + n) l) ≡ true → FormRead l (f + n + 2) b g m w
-      → starts_with (bytes ") ") (drop (g + m) l) ≡ true → (c : Form) → FormGood l (g + m + 2) c
-      → classes_last l (Of a f n v) (Of b g m w) c ≡ true
+  third_read : {a b : Form} → FormRead l 8 a → starts_with (bytes ") ") (drop (a.from + a.len) l) ≡ true → FormRead l (a.from + a.len + 2) b
+      → starts_with (bytes ") ") (drop (b.from + b.len) l) ≡ true → (c : Option Form) → FormGood l (b.from + b.len + 2) c
+      → classes_last l (Some a) (Some b) c ≡ true
       → SurveyShape l
   unfolding classes_last
-  third_read A p B q NoForm C e = absurd (false≢true e)
-  third_read {a} {b} A p B q (Of c h o x) C e = row_read a b c A p B q C e
+  third_read A p B q None C e = absurd (false≢true e)
+  third_read {a} {b} A p B q (Some c) C e = row_read a.name b.name c.name A p B q C e
 
-  second_read : {a : Name} {f n v : ℕ} → FormRead l 8 a f n v → starts_with (bytes ") ") (drop (f + n) l) ≡ true → (b : Form) → FormGood l (f + n + 2) b
-      → classes_last l (Of a f n v) b (next_form l b) ≡ true
+  second_read : {a : Form} → FormRead l 8 a → starts_with (bytes ") ") (drop (a.from + a.len) l) ≡ true → (b : Option Form) → FormGood l (a.from + a.len + 2) b
+      → classes_last l (Some a) b (next_form l b) ≡ true
       → SurveyShape l
   unfolding classes_last next_form
-  second_read A p NoForm B e = absurd (false≢true e)
-  second_read {a} {f} {n} {v} A p (Of b g m w) B e =
-      by_test (λ (c : Form). classes_last l (Of a f n v) (Of b g m w) c ≡ true → SurveyShape l) (starts_with (bytes ") ") (drop (g + m) l))
-      (λ q. third_read A p B q (form_at l (g + m + 2)) (form_good l (g + m + 2))) (λ q x. absurd (false≢true x)) e
+  second_read A p None B e = absurd (false≢true e)
+  second_read {a} A p (Some b) B e =
+      by_test (λ (c : Option Form). classes_last l (Some a) (Some b) c ≡ true → SurveyShape l) (starts_with (bytes ") ") (drop (b.from + b.len) l))
+      (λ q. third_read A p B q (form_at l (b.from + b.len + 2)) (form_good l (b.from + b.len + 2))) (λ q x. absurd (false≢true x)) e
 
-  first_read : (a : Form) → FormGood l 8 a → classes_last l a (next_form l a) (next_form l (next_form l a)) ≡ true → SurveyShape l
+  first_read : (a : Option Form) → FormGood l 8 a → classes_last l a (next_form l a) (next_form l (next_form l a)) ≡ true → SurveyShape l
   unfolding classes_last next_form
-  first_read NoForm A e = absurd (false≢true e)
-  first_read (Of a f n v) A e =
-      by_test (λ (b : Form). classes_last l (Of a f n v) b (next_form l b) ≡ true → SurveyShape l) (starts_with (bytes ") ") (drop (f + n) l))
-      (λ p. second_read A p (form_at l (f + n + 2)) (form_good l (f + n + 2))) (λ p x. absurd (false≢true x)) e
+  first_read None A e = absurd (false≢true e)
+  first_read (Some a) A e =
+      by_test (λ (b : Option Form). classes_last l (Some a) b (next_form l b) ≡ true → SurveyShape l) (starts_with (bytes ") ") (drop (a.from + a.len) l))
+      (λ p. second_read A p (form_at l (a.from + a.len + 2)) (form_good l (a.from + a.len + 2))) (λ p x. absurd (false≢true x)) e
 
 shape_read : (l : List ℕ) → is_survey_line l ≡ true → SurveyShape l
 unfolding is_survey_line

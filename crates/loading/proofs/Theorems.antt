@@ -1,16 +1,9 @@
 -- Document 02, K7: "Writing and then loading gives the same counts; loading and then writing gives the same bytes. After a load, every list of adds and
 -- withdrawals starts from the loaded counts." (`loads_what_is_written`, `writes_what_is_loaded`, and of the calls `loads_what_was_listed`, `lists_what_was_loaded`; `kept_from_loaded`); and the texts that are loaded are just the
 -- listings of tables (`loads_just_the_listings`). By induction over the counts and over the lines, from the steps of one line.
-use mathlib.Core.Path.{◌≡◌, refl, sym, ap, ap₂, subst, ◌∙◌}
-use mathlib.Core.Bool.{Bool, true, false, cond}
-use mathlib.Core.Logic.{◌↔◌}
-use Rattle.std.specs.Prelude.{None}
-use mathlib.Core.List.{List, [], ◌∷◌, ◌++◌, append_assoc, append-nil}
-use Prim.Native.Nat.{ℕ, zero, suc, ◌+◌, ◌-◌, ◌≤◌, ◌<◌}
-use native.Mathlib.Omega.{arith}
-use lib.ListN.{length, take, drop, set, replicate, length-append, length-set, length-drop, length-replicate, replicate-append-replicate, get_or-append}
-use lib.Seq.{append_snoc, set_at, drop_at, length-take-le}
-use borrow.Author.Tests.{le-ltb}
+use Rattle.std.proofs.Common.{◌≡◌, refl, sym, ap, ap₂, subst, ◌∙◌, Bool, true, false, cond, ◌↔◌, None, List, [], ◌∷◌, ◌++◌, append_assoc, append-nil, ℕ, zero, suc, ◌+◌, ◌-◌, ◌≤◌, ◌<◌, arith, length, take, drop, set, replicate, length-append, length-set, length-drop, drop_at, length-take-le, le-ltb}
+use lib.ListN.{length-replicate, replicate-append-replicate, get_or-append}
+use lib.Seq.{append_snoc, set_at}
 use Rattle.laws.proofs.Buffers.{front_is, front_fits}
 use Rattle.settings.specs.Grounds.{Outcome, given, ground_at, ◌or_else◌}
 use Rattle.settings.specs.Settings.{settings_ground}

@@ -1,15 +1,8 @@
 -- Words in capitals and their ranks: a letter of the settings is the one of its rank; a canonical word in capitals is the word that its code is printed as
 -- (`canonical_text`), and the other way round (`text_canonical`); a word is canonical where its plain rank is not above its mirror's (`canonical-test`). From
 -- what is known of settings that pass the check and the theorems of the encoding.
-use mathlib.Core.Path.{◌≡◌, refl, sym, ap, ap₂, ◌∙◌}
-use mathlib.Core.Bool.{Bool, true, false, cond, and-eq-true_iff}
-use Rattle.std.specs.Prelude.{None}
-use mathlib.Core.List.{List, [], ◌∷◌}
-use Prim.Native.Nat.{ℕ, ◌<◌}
-use native.Mathlib.Omega.{arith}
-use lib.ListN.{length, get_or}
-use lib.Dec.{leb}
-use borrow.Author.Tests.{leb-false, ne_eqb}
+use Rattle.std.proofs.Common.{◌≡◌, refl, sym, ap, ap₂, ◌∙◌, Bool, true, false, cond, None, List, [], ◌∷◌, ℕ, ◌<◌, arith, length, get_or, leb, leb-false, ne_eqb}
+use mathlib.Core.Bool.{and-eq-true_iff}
 use mathlib.Mathlib.Data.Bool.Basic.{eq-false_of_not-eq-true}
 use Rattle.settings.specs.Settings.{is_in, different_capitals, mirror_of, settings_ground}
 use Rattle.settings.proofs.LetterPlaces.{in_capital, found, in_at, read_capital, rank_at_lem, capitals_differ}

@@ -1,7 +1,6 @@
 -- Document 02, K7, "Load a listing": "A listing is read into a table, under the settings of the call, and its counts replace the old ones, 0 for a class not
 -- listed."
-use Rattle.std.specs.Prelude.{ℕ, suc, ◌+◌, Bool, ◌&&◌, cond, List, [], ◌∷◌, length, drop, get_or, set, replicate, leb}
-use Rattle.std.specs.Prelude.{Option, None, Some}
+use Rattle.std.specs.Prelude.{ℕ, suc, ◌+◌, Bool, ◌&&◌, cond, List, [], ◌∷◌, length, drop, get_or, set, replicate, leb, Option, None, Some}
 use Rattle.settings.specs.Grounds.{Ground, Outcome, ground_at, ◌or_else◌, Overwrites}
 use Rattle.settings.specs.Settings.{mirror_of}
 use Rattle.settings.specs.Limits.{highest_count}

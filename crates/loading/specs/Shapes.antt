@@ -1,10 +1,10 @@
 -- Document 02, K7: the shapes of a listing's lines. A line l has its LF, if there is one. It is compared as a whole with the shape that its parts make; what is not the shape of
 -- a survey line, of the line of a class or of a total "is none of the shapes".
-use Rattle.std.specs.Prelude.{ℕ, ◌+◌, ◌-◌, Bool, true, false, not, ◌&&◌, ◌||◌, List, [], ◌∷◌, ◌++◌, length, take, drop, leb, eqb}
+use Rattle.std.specs.Prelude.{ℕ, ◌+◌, ◌-◌, Bool, true, false, not, ◌&&◌, ◌||◌, List, [], ◌∷◌, ◌++◌, length, take, drop, leb, eqb, Option, None, Some}
+use Rattle.std.specs.List.{list_all}
 use Rattle.laws.specs.Text.{bytes}
 use Rattle.settings.specs.Settings.{is_in}
 use Rattle.survey.specs.declared.Form.{Form}
-use Rattle.survey.specs.declared.Form.TheVariants.{Of, NoForm}
 use Rattle.survey.specs.Reading.{starts_with, form_at, next_form, in_order}
 use Rattle.tally_book.specs.Book.{same_word}
 
@@ -22,8 +22,7 @@ abbrev pub is_digit : ℕ → Bool
 is_digit b = leb 48 b && leb b 57
 
 unfoldable pub all_digits : List ℕ → Bool
-all_digits [] = true
-all_digits (d ∷ ds) = is_digit d && all_digits ds
+all_digits ds = list_all is_digit ds
 
 abbrev pub is_none : List ℕ → Bool
 is_none [] = true
@@ -43,8 +42,7 @@ number_between front back l =
 
 -- "a word is k capitals of the settings (U for T is none)": bytes of the settings' letters, which are capitals.
 unfoldable pub of_letters : (letters word : List ℕ) → Bool
-of_letters letters [] = true
-of_letters letters (b ∷ word) = is_in b letters && of_letters letters word
+of_letters letters word = list_all (λ b. is_in b letters) word
 
 -- The k bytes behind "(count ", and what stands from the next byte but one to the closing bracket.
 abbrev pub word_in : (k : ℕ) → List ℕ → List ℕ
@@ -75,12 +73,11 @@ unfoldable pub is_classes_end : List ℕ → Bool
 is_classes_end u = number_between (bytes ") (classes ") (bytes "))\n") u
 
 -- Three forms that were read from a line are letters, k and mirror in this order, and behind them the line ends with its classes.
-unfoldable pub classes_last : (l : List ℕ) (a b c : Form) → Bool
-classes_last l NoForm b c = false
-classes_last l (Of a from len number) NoForm c = false
-classes_last l (Of a from len number) (Of b from₁ len₁ k) NoForm = false
-classes_last l (Of a from len number) (Of b from₁ len₁ k) (Of c from₂ len₂ mirror) =
-    in_order a b c && is_classes_end (drop (from₂ + len₂) l)
+unfoldable pub classes_last : (l : List ℕ) (a b c : Option Form) → Bool
+classes_last l None b c = false
+classes_last l (Some a) None c = false
+classes_last l (Some a) (Some b) None = false
+classes_last l (Some a) (Some b) (Some c) = in_order a.name b.name c.name && is_classes_end (drop (c.from + c.len) l)
 
 -- "the survey line is of the form the program reads, classes last": the three forms in order, read as the program reads them, and then (classes 10). Its
 -- settings need not be good ones. What such a line is made of, `SurveyShape` (Claims) says.

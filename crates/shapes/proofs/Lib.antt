@@ -1,3 +1,2 @@
--- What the functions' proofs cite: Loops (loops over a text), Framed (shapes by their parts).
-pub mod Loops
+-- What the functions' proofs cite: Framed (shapes by their parts).
 pub mod Framed

@@ -1,15 +1,14 @@
--- The loops of this function: what holds at each turn, and what falls.
-use mathlib.Core.Path.{◌≡◌}
-use Prim.Native.Nat.{◌-◌, ◌≤◌}
-use lib.ListN.{length, drop}
+-- The loop of this function: what holds at each turn, and what falls.
+use Rattle.std.proofs.Common.{◌≡◌, ◌+◌, length}
 use Rattle.lines.specs.Lines.{lines}
 use Rattle.loading.specs.Loading.{load_fault, text_fault}
 use Rattle.loader.specs.Needs.{Bounded}
 use Rattle.loader.proofs.text_fault.Given as goal
 
-abbrev pub invariant-loop-at : goal.invariant-loop-at
-invariant-loop-at l =
-    (text_fault l.letters l.k l.mirror l.text ≡ load_fault l.letters l.k l.mirror l.next l.at (lines (drop l.at l.text))) × Bounded l.next × (l.at ≤ length l.text)
+abbrev pub invariant-loop-line : goal.invariant-loop-line
+invariant-loop-line l =
+    (text_fault l.judge.letters.now l.judge.settings.k l.judge.mirror l.text ≡ load_fault l.judge.letters.now l.judge.settings.k l.judge.mirror l.next l.at (lines l.rest))
+    × Bounded l.next × (l.at + length l.rest ≡ length l.text)
 
-abbrev pub decreases-loop-at : goal.decreases-loop-at
-decreases-loop-at l = length l.text - l.at
+abbrev pub decreases-loop-line : goal.decreases-loop-line
+decreases-loop-line l = length l.rest

@@ -1,40 +1,36 @@
 -- `shapes::is_count_line` meets its contract. Between the front and the back stand a word, a space and a number.
-use mathlib.Core.Path.{◌≡◌, refl, sym, ◌∙◌}
-use mathlib.Core.Bool.{true}
+use Rattle.std.proofs.Common.{sym, ◌∙◌, None, Some}
+use Rattle.std.proofs.lemmas.Bool.Decides.{Decides-eqb}
+use Rattle.std.proofs.lemmas.Slice.Eq.{strip_prefix_is}
 use Rattle.laws.specs.Text.{bytes}
-use Rattle.loading.specs.Shapes.{same_text}
-use Rattle.shapes.specs.Needs.{framed}
-use Rattle.shapes.proofs.Framed.{count_unframed, count_short, count_no_space, count_letters, count_digits}
+use Rattle.shapes.proofs.Framed.{count_unframed, count_short, count_no_space, count_rest}
 use Rattle.shapes.proofs.is_count_line.Goals as goal
 
-pub returns-then-not-is_framed : goal.returns-then-not-is_framed
-returns-then-not-is_framed c =
-    let a = c.args in
-    sym (count_unframed a.letters.now a.k a.line.now (sym c.is_framed.ensures ∙ c.if-not-is_framed.true))
+pub returns-in_default : goal.returns-in_default
+returns-in_default c = sym (count_unframed c.args.letters.now c.args.k c.args.line.now c.in_default.ensures)
 
-pub returns-then-n-k : goal.returns-then-n-k
-returns-then-n-k c =
-    let a = c.args in
-    sym (count_short a.letters.now a.k a.line.now c.if-n-k.true)
+pub returns-in_default-split_at_checked : goal.returns-in_default-split_at_checked
+returns-in_default-split_at_checked c =
+    sym (count_short c.args.letters.now c.args.k c.args.line.now c.in-Some.inside.now c.in-Some.ensures c.in_default-split_at_checked.ensures.cases)
 
-pub returns-then-line-space-ne32 : goal.returns-then-line-space-ne32
-returns-then-line-space-ne32 c =
-    let a = c.args in
-    sym (count_no_space a.letters.now a.k a.line.now c.if-line-space-ne32.true)
+pub returns-in_default-strip_prefix : goal.returns-in_default-strip_prefix
+returns-in_default-strip_prefix c =
+    let cut = c.in-Some-split_at_checked in
+    let no_space = strip_prefix_is Decides-eqb cut.rest.now (bytes " ") None c.in_default-strip_prefix.ensures.cases in
+    sym (count_no_space c.args.letters.now c.args.k c.args.line.now c.in-Some.inside.now c.in-Some.ensures cut.word.now cut.rest.now cut.ensures.cases no_space)
 
-pub returns-then-not-of_letters : goal.returns-then-not-of_letters
-returns-then-not-of_letters c =
-    let Framed : Type 0 = let l = c.args.line.now in same_text l (framed (bytes "(count ") (bytes ")\n") l) ≡ true in
-    let framed-so : Framed = sym c.is_framed.ensures ∙ c.if-not-is_framed.false in
-    let a = c.args in
-    sym (count_letters a.letters.now a.k a.line.now framed-so c.if-n-k.false c.if-line-space-ne32.false refl
-    (sym c.of_letters.ensures ∙ c.if-not-of_letters.true))
+pub returns-then-of_letters : goal.returns-then-of_letters
+returns-then-of_letters c =
+    let cut = c.in-Some-split_at_checked in
+    let digits = c.in-Some-strip_prefix.digits in
+    let space = strip_prefix_is Decides-eqb cut.rest.now (bytes " ") (Some digits) c.in-Some-strip_prefix.ensures.cases in
+    let shape = count_rest c.args.letters.now c.args.k c.args.line.now c.in-Some.inside.now c.in-Some.ensures cut.word.now cut.rest.now cut.ensures.cases digits.now space in
+    c.is_number.ensures ∙ sym (shape ∙ rw (sym c.of_letters.ensures ∙ c.if-of_letters.true))
 
-pub returns : goal.returns
-returns c =
-    let Framed : Type 0 = let l = c.args.line.now in same_text l (framed (bytes "(count ") (bytes ")\n") l) ≡ true in
-    let framed-so : Framed = sym c.is_framed.ensures ∙ c.if-not-is_framed.false in
-    let a = c.args in
-    c.is_number.ensures
-    ∙ count_digits a.letters.now a.k a.line.now framed-so c.if-n-k.false c.if-line-space-ne32.false refl
-    (sym c.of_letters.ensures ∙ c.if-not-of_letters.false) refl refl
+pub returns-else-of_letters : goal.returns-else-of_letters
+returns-else-of_letters c =
+    let cut = c.in-Some-split_at_checked in
+    let digits = c.in-Some-strip_prefix.digits in
+    let space = strip_prefix_is Decides-eqb cut.rest.now (bytes " ") (Some digits) c.in-Some-strip_prefix.ensures.cases in
+    let shape = count_rest c.args.letters.now c.args.k c.args.line.now c.in-Some.inside.now c.in-Some.ensures cut.word.now cut.rest.now cut.ensures.cases digits.now space in
+    c.if-of_letters.false ∙ sym (shape ∙ rw (sym c.of_letters.ensures ∙ c.if-of_letters.false))
