@@ -1,8 +1,7 @@
--- The word of a code as it is written into a buffer: the two ends, the letters of a plain rank, the pair of a rank, the word within.
-use Rattle.std.proofs.Common.{◌≡◌, ◌∙◌, ap, ap₂, subst, sym, refl, List, ◌∷◌, ◌++◌, [], append_assoc, append-nil, ◌-◌, ℕ, ◌+◌, ◌≤◌, suc, ◌<◌, ◌^◌, ◌/◌, ◌%◌, ◌*◌, zero, min, div-lt_iff_lt-mul, pow-suc, div-add-mod', mod-lt, mul-le-mul_left, arith, set, length, take, drop, length-append, length-set, replicate, drop-cons, get_or-set_same, drop-set-lt, length-take-le, drop_at}
+-- The word of a code as it is written into a buffer: the letters of a plain rank, the pair of a rank, the word within.
+use Rattle.std.proofs.Common.{◌≡◌, ◌∙◌, ap, ap₂, subst, sym, refl, List, ◌∷◌, ◌++◌, [], append_assoc, ◌-◌, ℕ, ◌+◌, ◌≤◌, suc, ◌<◌, ◌^◌, ◌/◌, ◌%◌, ◌*◌, zero, min, div-lt_iff_lt-mul, pow-suc, div-add-mod', mod-lt, mul-le-mul_left, arith, set, length, take, drop, length-append, length-set, replicate, drop-cons, get_or-set_same, drop-set-lt, length-take-le, drop_at}
 use mathlib.Core.Path.{subst⁻¹}
 use borrow.Rule.Slice.PartMut.{put_mid}
-use lib.Seq.{set_split, drop-length}
 use Rattle.settings.specs.Limits.{Limits}
 use Rattle.settings.specs.Settings.{classes}
 use Rattle.settings.proofs.Limits.{k_at_most, limits_less}
@@ -21,20 +20,6 @@ use Rattle.encoding.proofs.Ends.{plain-snoc}
 use Rattle.encoding.proofs.Pairs.{rank_of_pair, rank_here, rank_next}
 use Rattle.encoding.proofs.Plain.{plain-word_of_plain, length-word_of_plain, ranks_word_of_plain, word_of_plain-plain}
 use Rattle.ranks.proofs.WordParts.{length_part}
-
--- ---- the two ends
-
-set_last : (y b : ℕ) (v : List ℕ) → set (y ∷ v) (length v) b ≡ take (length v) (y ∷ v) ++ (b ∷ [])
-set_last y b v = set_split (y ∷ v) (length v) b (omega arith) ∙ rw (drop-length v)
-
-pub ends_set : (out : List ℕ) (a b : ℕ) → 2 ≤ length out
-    → set (set out 0 a) (length out - 1) b ≡ a ∷ (take (length out - 2) (drop 1 out) ++ (b ∷ []))
-ends_set [] a b h = absurd (omega arith)
-ends_set (x ∷ []) a b h = absurd (omega arith)
-ends_set (x ∷ (y ∷ v)) a b h =
-    let e : length (x ∷ (y ∷ v)) - 1 ≡ suc (length v) = omega arith in
-    let f : length (x ∷ (y ∷ v)) - 2 ≡ length v = omega arith in
-    rw (e, f) (ap (λ (l : List ℕ). a ∷ l) (set_last y b v))
 
 -- ---- plain
 
@@ -70,9 +55,6 @@ module _ (s i q : ℕ) (hs : 1 < s) (hi : 0 < i) (h : q < s ^ i) where
       ∙ ap (λ (l : List ℕ). l ++ drop (suc (i - 1)) out) (snoc_of s (i - 1) q hs (subst (λ (x : ℕ). q < s ^ x) one_less h))
       ∙ append_assoc (word_of_plain s (i - 1) (q / s)) (q % s ∷ []) (drop (suc (i - 1)) out)
       ∙ ap (λ (l : List ℕ). word_of_plain s (i - 1) (q / s) ++ l) (sym d)
-
-pub plain-start : (l out : List ℕ) → l ≡ l ++ drop (length out) out
-plain-start l out = rw (drop-length out) (sym (append-nil l))
 
 pub plain_end : (s i left : ℕ) (w out : List ℕ) → i ≤ 0 → w ≡ word_of_plain s i left ++ drop i out → out ≡ w
 unfolding word_of_plain

@@ -52,10 +52,9 @@ pub record Equal (s : ℕ) (m : Mirror) (w : List ℕ) (i : ℕ) : Type 0 where
   pub equal : (j p : ℕ) → j < i → p + suc j ≡ length w → get_or w j 0 ≡ mirror_rank s m (get_or w p 0)
 
 module _ (s : ℕ) (m : Mirror) (w : List ℕ) (i : ℕ) (inv : Equal s m w i) where
-  pub half_equal : length w / 2 ≤ i → length w / 2 ≡ equal_pairs s m (length w) w
-  half_equal h =
-      let middle : length w / 2 ≡ i = omega (arith, inv.fits) in
-      middle ∙ sym (stops_at s m (length w) w refl i (record { fits = inv.fits; equal = inv.equal; differs = λ p g e. absurd (omega (arith, inv.fits)) }))
+  pub stop_middle : i ≡ length w / 2 → i ≡ equal_pairs s m (length w) w
+  stop_middle h =
+      sym (stops_at s m (length w) w refl i (record { fits = inv.fits; equal = inv.equal; differs = λ p g e. absurd (omega (arith, inv.fits)) }))
 
   pub stop_differs : (get_or w i 0 ≡ mirror_rank s m (get_or w (length w - 1 - i) 0) → ⊥) → i ≡ equal_pairs s m (length w) w
   stop_differs d =
@@ -65,17 +64,6 @@ module _ (s : ℕ) (m : Mirror) (w : List ℕ) (i : ℕ) (inv : Equal s m w i) w
         equal = inv.equal;
         differs = λ p g e f. let q : p ≡ length w - 1 - i = omega arith in d (f ∙ ap (λ (x : ℕ). mirror_rank s m (get_or w x 0)) q);
       }))
-
-  pub equal_next : i + 2 ≤ length w - i → get_or w i 0 ≡ mirror_rank s m (get_or w (length w - 1 - i) 0) → Equal s m w (i + 1)
-  equal_next h e =
-      record {
-        fits = omega (arith, inv.fits);
-        equal = λ j p g f.
-            elim (native.Mathlib.Decide.ℕ_discrete j i) as (λ _. get_or w j 0 ≡ mirror_rank s m (get_or w p 0)) [
-              | yes q ↦ let o : p ≡ length w - 1 - i = omega arith in rw (q, o) e
-              | no n ↦ inv.equal j p (omega arith) f
-            ];
-      }
 
 -- ---- the pair that differs
 

@@ -15,13 +15,15 @@ fn differing_at(w: &[u64], s: u64, m: Mirror) -> usize
     requires { Ranks s w.now }
     ensures { result ≡ equal_pairs s m (length w.now) w.now }
 {
+    // Stays: document 01 names this form ("loop yielding by break the index of the differing pair, or the middle").
     let n = w.len();
-    for i in 0..n / 2 {
-        if w[i] != ranks::mirror_rank(s, m, w[n - 1 - i]) {
-            return i;
+    let mut i = 0;
+    loop {
+        if i == n / 2 || w[i] != ranks::mirror_rank(s, m, w[n - 1 - i]) {
+            break i;
         }
+        i += 1;
     }
-    n / 2
 }
 
 // The value of the digits of a word whose outer pair l < r differs: R/s + 1, R mod s, and the inner letters.

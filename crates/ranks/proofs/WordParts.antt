@@ -1,5 +1,5 @@
 -- Parts of a word of ranks: one rank, a part and its ends, the digits of a part by its ends, and the word within.
-use Rattle.std.proofs.Common.{ap, ◌≡◌, ◌∙◌, cond, Bool, true, false, List, [], ◌∷◌, ◌++◌, ◌-◌, ℕ, ◌<◌, suc, ◌+◌, ◌≤◌, ◌/◌, ◌%◌, ◌*◌, ◌^◌, pow-suc, arith, eqb, length, get_or, take, drop, length-drop, length-take-le, drop-cons, take-suc, get_or-drop}
+use Rattle.std.proofs.Common.{ap, ◌≡◌, ◌∙◌, cond, Bool, true, false, List, [], ◌∷◌, ◌++◌, ℕ, ◌<◌, suc, ◌+◌, ◌≤◌, ◌/◌, ◌%◌, ◌*◌, ◌^◌, pow-suc, arith, eqb, length, get_or, take, drop, length-drop, length-take-le, drop-cons, take-suc, get_or-drop}
 use Rattle.laws.proofs.Each.{each_at}
 use Rattle.laws.proofs.Powers.{pow-fits}
 use Rattle.encoding.specs.Codes.{digits, pair_rank}
@@ -11,9 +11,6 @@ use Rattle.encoding.proofs.Recursion.{pair_value}
 
 pub ranks_at : (s : ℕ) (w : List ℕ) (i : ℕ) → Ranks s w → i < length w → get_or w i 0 < s
 ranks_at s w i h g = each_at (λ (a : ℕ). a < s) w i h g
-
-pub ranks_back : (s : ℕ) (w : List ℕ) (i : ℕ) → Ranks s w → i < length w → get_or w (length w - 1 - i) 0 < s
-ranks_back s w i h g = ranks_at s w (length w - 1 - i) h (omega arith)
 
 pub ranks_part : (s i n : ℕ) (w : List ℕ) → Ranks s w → Ranks s (part i n w)
 ranks_part s i n w h = ranks_take s n (drop i w) (ranks_drop s i w h)

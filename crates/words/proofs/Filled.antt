@@ -8,9 +8,6 @@ use Rattle.laws.proofs.Lists.{get_d_map_in}
 use Rattle.words.specs.Needs.{FilledBy}
 use Rattle.words.proofs.RanksByTable.{Bytes}
 
-pub filled_none : (A : ℕ → ℕ → Type 0) (bytes old : List ℕ) → FilledBy A bytes old old 0
-filled_none A bytes old = record { long = refl; each = λ i h. absurd (omega arith); rest = refl }
-
 module _ (A : ℕ → ℕ → Type 0) (bytes old new : List ℕ) where
   pub filled_next : (n x : ℕ) → FilledBy A bytes old new n → n < length old → A (get_or bytes n 0) x → FilledBy A bytes old (set new n x) (n + 1)
   filled_next n x W h e =

@@ -3,22 +3,13 @@
 use Rattle.std.proofs.Common.{◌≡◌, ap, refl, ap₂, Option, List, [], ◌∷◌, ℕ, ◌+◌, ◌<◌, suc, arith, length, get_or, take, drop, length-take, length-drop, get_or-take, get_or-drop}
 use lib.ListN.{length-map}
 use Rattle.laws.proofs.Lists.{get_d_map_in}
-use Rattle.settings.specs.RankTables.{as_rank, RanksOf, rank_by_table}
-use Rattle.settings.proofs.RankTables.{as_none, as_itself}
+use Rattle.settings.specs.RankTables.{RanksOf, rank_by_table}
 use Rattle.settings.specs.declared.RankTable.{RankTable}
 use Rattle.settings.specs.Settings.{rank_in}
 use Rattle.encoding.specs.Calls.{rank_or_zero, ranks_of}
 use Rattle.words.specs.Needs.{ranks_by}
 
--- ---- a rank as a byte
-
--- The rank that stands for a byte in a list of ranks.
-module _ (x : ℕ) where
-  pub zero_none : x ≡ 255 → 0 ≡ rank_or_zero (as_rank x)
-  zero_none e = rw (as_none x e)
-
-  pub zero_itself : (x ≡ 255 → ⊥) → x ≡ rank_or_zero (as_rank x)
-  zero_itself e = rw (as_itself x e)
+-- ---- one rank for each byte
 
 pub length-ranks_by : (rank : ℕ → Option ℕ) (bytes : List ℕ) → length (ranks_by rank bytes) ≡ length bytes
 unfolding ranks_by

@@ -1,20 +1,12 @@
--- `codes::to_code::differing_at` meets its contract (Scan).
-use Rattle.std.proofs.Common.{◌∙◌, sym, arith}
-use Rattle.codes.proofs.Scan.{equal_next, half_equal, stop_differs}
-use Rattle.ranks.proofs.WordParts.{ranks_back}
+-- `codes::to_code::differing_at` meets its contract: it stops at the middle or at a pair that differs (Scan).
+use Rattle.std.proofs.Common.{◌∙◌, sym}
+use Rattle.codes.proofs.Scan.{stop_middle, stop_differs}
 use Rattle.codes.proofs.to_code.differing_at.Goals as goal
-
-pub loop-i-init : goal.loop-i-init
-loop-i-init c = record { fits = omega arith; equal = λ j p g f. absurd (omega arith) }
-
-pub mirror_rank-requires : goal.mirror_rank-requires
-mirror_rank-requires c = ranks_back c.args.s c.args.w.now c.loop-i.i c.requires (omega arith)
-
-pub loop-i-preserved : goal.loop-i-preserved
-loop-i-preserved c = equal_next _ _ _ _ c.loop-i.invariant (omega arith) (c.if-w-i.false ∙ c.mirror_rank.ensures)
-
-pub returns-then-w-i : goal.returns-then-w-i
-returns-then-w-i c = stop_differs _ _ _ _ c.loop-i.invariant (λ e. c.if-w-i.true (e ∙ sym c.mirror_rank.ensures))
+use Rattle.codes.proofs.to_code.differing_at.Goals.{then-i-n-via-then-i-n, then-i-n-via-else-i-n+then-w-i}
 
 pub returns : goal.returns
-returns c = half_equal _ _ _ _ c.loop-i.invariant c.loop-i-test.false
+returns c =
+    elim c.then-i-n.branch [
+      | then-i-n-via-then-i-n w ↦ stop_middle _ _ _ _ c.loop-i.invariant w.if-i-n.true
+      | then-i-n-via-else-i-n+then-w-i w ↦ stop_differs _ _ _ _ c.loop-i.invariant (λ e. w.if-w-i.true (e ∙ sym w.mirror_rank.ensures))
+    ]

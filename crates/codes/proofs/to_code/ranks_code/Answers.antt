@@ -1,7 +1,7 @@
 -- `codes::to_code::ranks_code` meets its contract: the word or its mirror, whichever is lower, is coded (OwnAndMirror).
 use Rattle.std.proofs.Common.{arith}
 use Rattle.settings.proofs.Limits.{k_at_most}
-use Rattle.codes.proofs.OwnAndMirror.{fit_limits, mirrored_fits, own_least, own_answer, other_least, other_answer, lower_first}
+use Rattle.codes.proofs.OwnAndMirror.{fit_limits, mirrored_fits, own_answer, other_least, other_answer, lower_first}
 use Rattle.codes.proofs.to_code.ranks_code.Goals as goal
 
 pub mirrored-mirror-requires : goal.mirrored-mirror-requires
@@ -9,10 +9,6 @@ mirrored-mirror-requires c = (c.requires.0.ranks, omega (arith, k_at_most (fit_l
 
 pub plain_rank-requires-2 : goal.plain_rank-requires-2
 plain_rank-requires-2 c = mirrored_fits c.args.m c.requires.0 c.requires.1 c.mirrored-mirror.ensures
-
-pub canonical_code-code-requires : goal.canonical_code-code-requires
-canonical_code-code-requires c =
-    own_least c.args.m c.requires.0 c.requires.1 c.mirrored-mirror.ensures c.plain_rank.ensures c.plain_rank-2.ensures c.if-canonical.true
 
 pub canonical_code-code-requires-else-canonical : goal.canonical_code-code-requires-else-canonical
 canonical_code-code-requires-else-canonical c =
