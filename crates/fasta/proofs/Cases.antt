@@ -1,10 +1,6 @@
 -- The definitions, computed on files of a few bytes: the sentences of document 01's section "Sequence file (FASTA)", save those on the record reader (the
 -- crate `records`) and the order of the grounds (the crate `files`); and the items of FASTQ. By computation.
-use mathlib.Core.Path.{◌≡◌, refl}
-use mathlib.Core.Bool.{false}
-use Prim.Native.Nat.{ℕ}
-use Rattle.std.specs.Prelude.{Option, None, Some}
-use mathlib.Core.List.{List, [], ◌∷◌}
+use Rattle.std.proofs.Common.{◌≡◌, refl, false, ℕ, Option, None, Some, List, [], ◌∷◌}
 use Rattle.laws.specs.Text.{bytes}
 use Rattle.settings.specs.Grounds.{Ground}
 use Rattle.settings.specs.Settings.{is_in, capital_of, reads_u_as_t, read_as, place_from, rank_in}

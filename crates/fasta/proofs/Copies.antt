@@ -1,10 +1,6 @@
 -- Copies with T for U (document 02, K2), by what their bytes are: only letters' bytes differ (`items-copied`), so bytes and their copy have the same fault
 -- (`same_fault`) and, where U has T's rank, the same windows and the same five numbers (`same_windows`, `same_numbers`). Byte by byte and item by item.
-use mathlib.Core.Path.{◌≡◌, refl, sym, ap, ◌∙◌}
-use mathlib.Core.Bool.{Bool, true, false}
-use Rattle.std.specs.Prelude.{Option}
-use mathlib.Core.List.{List, [], ◌∷◌, map}
-use Prim.Native.Nat.{ℕ, suc}
+use Rattle.std.proofs.Common.{◌≡◌, refl, sym, ap, ◌∙◌, Bool, true, false, Option, List, [], ◌∷◌, map, ℕ, suc}
 use Rattle.lines.proofs.Mapped.{lf_mapped}
 use Rattle.settings.specs.Copies.{t_for_u, CopyWithT}
 use Rattle.settings.proofs.Copies.{byte_cases, same_at, same_lf, same_of_copies}

@@ -1,9 +1,5 @@
 -- The first fault of some items: a property of the grounds 10 and 11 at the places of the items is one of that fault. By induction over the items.
-use mathlib.Core.Bool.{Bool, true, false}
-use mathlib.Core.List.{List, [], ◌∷◌}
-use Prim.Native.Nat.{ℕ, suc, ◌+◌, ◌<◌, ◌≤◌}
-use native.Mathlib.Omega.{arith}
-use lib.ListN.{length}
+use Rattle.std.proofs.Common.{Bool, true, false, List, [], ◌∷◌, ℕ, suc, ◌+◌, ◌<◌, ◌≤◌, arith, length}
 use Rattle.settings.specs.Grounds.{Ground}
 use Rattle.settings.proofs.FirstGround.{Has, none_has, some_has}
 use Rattle.fasta.specs.declared.Item.{Item}

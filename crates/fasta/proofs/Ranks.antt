@@ -1,10 +1,5 @@
 -- The table of all bytes' ranks stands for the settings' ranks in all that is counted in a file, since only the bytes of letters are looked up.
-use mathlib.Core.Path.{◌≡◌, refl, ap}
-use Prim.Native.Nat.{ℕ}
-use native.Mathlib.Omega.{arith}
-use mathlib.Core.Bool.{Bool, true}
-use Rattle.std.specs.Prelude.{Option}
-use mathlib.Core.List.{List, [], ◌∷◌}
+use Rattle.std.proofs.Common.{◌≡◌, refl, ap, ℕ, arith, Bool, true, Option, List, [], ◌∷◌}
 use Rattle.settings.specs.Settings.{rank_in}
 use Rattle.settings.specs.RankTables.{rank_by_table, RanksOf}
 use Rattle.settings.specs.declared.RankTable.{RankTable}

@@ -1,12 +1,7 @@
 -- The theorem letters = windows + foreign + edge, for all items, and so for files of both kinds, every rank function and every k from 1. A run's letters are its
 -- windows and its edge letters (`run_split`); what stands in runs is the letters that are not foreign. Besides, a file has one item a byte
 -- (`items-length`) and no more windows than bytes (`windows-fit`).
-use mathlib.Core.Path.{◌≡◌, refl, ap, ◌∙◌}
-use Prim.Native.Nat.{ℕ, suc, ◌+◌, ◌≤◌}
-use native.Mathlib.Omega.{arith}
-use Rattle.std.specs.Prelude.{Option, None, Some}
-use mathlib.Core.List.{List, [], ◌∷◌}
-use lib.ListN.{length, length-append}
+use Rattle.std.proofs.Common.{◌≡◌, refl, ap, ◌∙◌, ℕ, suc, ◌+◌, ◌≤◌, arith, Option, None, Some, List, [], ◌∷◌, length, length-append}
 use Rattle.laws.proofs.Windows.{length-windows}
 use Rattle.fasta.specs.declared.Item.{Item}
 use Rattle.fasta.specs.declared.Item.TheVariants.{Opens, Skip, Stray, Letter}

@@ -1,13 +1,7 @@
 -- The modes that skip every byte of a line up to its LF, and what a stretch without LF is in them: so the scan and the count pass over it by a search for
 -- its end. By cases on the mode, and by induction over the stretch.
-use mathlib.Core.Path.{◌≡◌, refl, sym, ap, ◌∙◌}
-use Prim.Native.Nat.{ℕ, zero, suc, ◌+◌, ◌-◌, ◌<◌, ◌≤◌}
-use native.Mathlib.Omega.{arith}
-use mathlib.Core.Bool.{Bool, true, false≢true}
-use Rattle.std.specs.Prelude.{Option}
-use mathlib.Core.List.{List, ◌∷◌}
-use lib.ListN.{length, get_or, drop}
-use borrow.Author.Tests.{ne_eqb}
+use Rattle.std.proofs.Common.{◌≡◌, refl, sym, ap, ◌∙◌, ℕ, zero, suc, ◌+◌, ◌-◌, ◌<◌, ◌≤◌, arith, Bool, true, Option, List, ◌∷◌, length, get_or, drop, ne_eqb}
+use mathlib.Core.Bool.{false≢true}
 use Rattle.fasta.specs.declared.Item.{Item}
 use Rattle.fasta.specs.declared.Item.TheVariants.{Skip}
 use Rattle.fasta.specs.declared.Mode.{Mode}

@@ -1,15 +1,7 @@
 -- A file's windows and edge letters as its letters come in one by one: each settings letter either closes one window of its run or is
 -- one more edge letter. So the windows of all runs are what a single pass closes (`windows-stream`), and likewise the edge letters.
-use mathlib.Core.Path.{◌≡◌, refl, sym, ap, ◌∙◌}
-use Prim.Native.Nat.{ℕ, suc, ◌+◌, ◌-◌, ◌≤◌, min}
-use native.Mathlib.Omega.{arith}
-use mathlib.Core.Bool.{Bool, true, false, cond}
-use Rattle.std.specs.Prelude.{Option, None, Some}
-use mathlib.Core.List.{List, [], ◌∷◌, ◌++◌, append_assoc, append-nil}
-use lib.ListN.{length, take, drop, length-append}
-use lib.Seq.{take-append-le, take_all}
-use lib.Dec.{leb}
-use borrow.Author.Tests.{leb-true, leb-false}
+use Rattle.std.proofs.Common.{◌≡◌, refl, sym, ap, ◌∙◌, ℕ, suc, ◌+◌, ◌-◌, ◌≤◌, min, arith, Bool, true, false, cond, Option, None, Some, List, [], ◌∷◌, ◌++◌, append_assoc, append-nil, length, take, drop, length-append, take_all, leb, leb-true, leb-false}
+use lib.Seq.{take-append-le}
 use Rattle.laws.proofs.Windows.{windows-none}
 use Rattle.fasta.specs.Items.{on_first, runs, edge, windows, edges_of, windows_of}
 

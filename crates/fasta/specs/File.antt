@@ -1,7 +1,6 @@
 -- Document 01, "Sequence file (FASTA)", and document 02, K1: what each byte of a sequence file is, by the place in its line; and the first fault of
 -- FASTA. What is cut from a file once this is known is in Items; the grounds of FASTQ are in the crate fastq, and a file with its kind in the crate files.
-use Rattle.std.specs.Prelude.{ℕ, suc, Bool, true, ◌&&◌, ◌||◌, cond, List, [], ◌∷◌, leb, eqb}
-use Rattle.std.specs.Prelude.{Option, None, Some}
+use Rattle.std.specs.Prelude.{ℕ, suc, Bool, true, ◌&&◌, ◌||◌, cond, List, [], ◌∷◌, leb, eqb, Option, None, Some}
 use Rattle.settings.specs.Grounds.{Ground}
 use Rattle.lines.specs.Lines.{is_line_end}
 unfoldable pub use Rattle.lines.specs.Lines.{lf_next}

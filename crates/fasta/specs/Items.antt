@@ -1,7 +1,6 @@
 -- Document 01, "Sequence file (FASTA)": what is counted in a file and cut from it, once it is known what each of its bytes is.
 -- Nothing here depends on the file's kind. `rank` gives a letter's rank in the settings, none for a letter not in them.
-use Rattle.std.specs.Prelude.{ℕ, suc, ◌+◌, ◌-◌, min, List, [], ◌∷◌, ◌++◌, length}
-use Rattle.std.specs.Prelude.{Option, None, Some}
+use Rattle.std.specs.Prelude.{ℕ, suc, ◌+◌, ◌-◌, min, List, [], ◌∷◌, ◌++◌, length, Option, None, Some}
 unfoldable pub use Rattle.laws.specs.Windows.{windows}
 unfoldable pub use Rattle.lines.specs.Lines.{on_first}
 use Rattle.fasta.specs.declared.Item.{Item}

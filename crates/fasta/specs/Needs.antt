@@ -1,6 +1,5 @@
 -- What functions below the calls ask of each other and promise each other: the scan takes item by item. No claim and no call of document 01 rests on it.
-use Rattle.std.specs.Prelude.{ℕ, zero, suc, ◌+◌, ◌-◌, ◌≤◌, ◌≡◌, List, ◌∷◌, length, drop, Bool, true, false, cond, leb, eqb}
-use Rattle.std.specs.Prelude.{Option, None, Some}
+use Rattle.std.specs.Prelude.{ℕ, zero, suc, ◌+◌, ◌-◌, ◌≤◌, ◌≡◌, List, ◌∷◌, length, drop, Bool, true, false, cond, leb, eqb, Option, None, Some}
 use Rattle.settings.specs.Grounds.{Outcome, given, refused}
 use Rattle.fasta.specs.declared.Item.{Item}
 use Rattle.fasta.specs.declared.Item.TheVariants.{Opens, Skip, Stray, Letter}

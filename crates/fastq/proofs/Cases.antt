@@ -1,8 +1,5 @@
 -- The definitions, computed on files of a few bytes: the sentences of K1 on the grounds of a FASTQ file and their P. By computation.
-use mathlib.Core.Path.{◌≡◌, refl}
-use Rattle.std.specs.Prelude.{Option, None, Some}
-use mathlib.Core.List.{List, []}
-use Prim.Native.Nat.{ℕ}
+use Rattle.std.proofs.Common.{◌≡◌, refl, Option, None, Some, List, [], ℕ}
 use Rattle.laws.specs.Text.{bytes}
 use Rattle.lines.specs.Lines.{lf_next, on_first, lines, text_of, first_byte_is}
 use Rattle.settings.specs.Grounds.{Ground}

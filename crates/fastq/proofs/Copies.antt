@@ -1,11 +1,7 @@
 -- Copies with T for U (document 02, K2) of FASTQ files: bytes and their copy have the same first fault (`same_fastq_fault`). Line by line, from the grounds of
 -- a record, which take U for T everywhere.
-use mathlib.Core.Path.{◌≡◌, refl, ap, ◌∙◌}
-use mathlib.Core.Bool.{Bool}
-use mathlib.Core.List.{List, [], ◌∷◌, map}
-use Prim.Native.Nat.{ℕ, suc, ◌+◌}
-use lib.ListN.{length, length-map}
-use lib.Dec.{eqb}
+use Rattle.std.proofs.Common.{◌≡◌, refl, ap, ◌∙◌, Bool, List, [], ◌∷◌, map, ℕ, suc, ◌+◌, length, eqb}
+use lib.ListN.{length-map}
 use Rattle.lines.specs.Lines.{lines, text_of}
 use Rattle.lines.proofs.Mapped.{first_mapped, lines_mapped, text_mapped}
 use Rattle.settings.specs.Copies.{t_for_u, CopyWithT}

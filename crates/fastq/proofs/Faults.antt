@@ -1,13 +1,6 @@
 -- What is known of the first fault of a FASTQ file: a property of the grounds 15, 10, 16 and 17 with a P of at most the file's length is one of that fault
 -- (`fastq_has`). Record by record, from the definitions.
-use mathlib.Core.Path.{◌≡◌, ap}
-use mathlib.Core.Bool.{Bool, true, false, cond}
-use Rattle.std.specs.Prelude.{Some}
-use mathlib.Core.List.{List, [], ◌∷◌, ◌++◌}
-use Prim.Native.Nat.{ℕ, suc, ◌+◌, ◌<◌, ◌≤◌}
-use native.Mathlib.Omega.{arith}
-use lib.ListN.{length, length-append}
-use lib.Dec.{eqb}
+use Rattle.std.proofs.Common.{◌≡◌, ap, Bool, true, false, cond, Some, List, [], ◌∷◌, ◌++◌, ℕ, suc, ◌+◌, ◌<◌, ◌≤◌, arith, length, length-append, eqb}
 use Rattle.lines.specs.Lines.{lines, text_of, first_byte_is}
 use Rattle.lines.specs.Needs.{joined}
 use Rattle.lines.proofs.Lines.{joined-lines}

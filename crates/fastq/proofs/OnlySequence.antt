@@ -1,15 +1,8 @@
 -- "Only the sequence counts" (document 02, K1): in a file to which no ground of FASTQ applies, the items that count are those of its sequence lines
 -- (`only_the_sequence`). So its windows and its five numbers are theirs (`sequence_windows`, `sequence_numbers`), and a scan of its items meets no fault
 -- (`clean_items`): what follows the items is one for both kinds of file. Line by line, from the grounds of a record and the items of its bytes.
-use mathlib.Core.Path.{◌≡◌, refl, sym, ap, ◌∙◌}
-use Prim.Native.Nat.{ℕ, suc, ◌+◌}
-use mathlib.Core.Bool.{Bool, true, false, cond, ◌&&◌}
-use Rattle.std.specs.Prelude.{Option, None, Some}
+use Rattle.std.proofs.Common.{◌≡◌, refl, sym, ap, ◌∙◌, ℕ, suc, ◌+◌, Bool, true, false, cond, ◌&&◌, Option, None, Some, List, [], ◌∷◌, ◌++◌, map, append-nil, length, eqb, ne_eqb}
 use Rattle.std.proofs.lemmas.Option.{none-some}
-use mathlib.Core.List.{List, [], ◌∷◌, ◌++◌, map, append-nil}
-use lib.ListN.{length}
-use lib.Dec.{eqb}
-use borrow.Author.Tests.{ne_eqb}
 use Rattle.lines.specs.Lines.{lf_next, lines, text_of, first_byte_is}
 use Rattle.lines.specs.Needs.{joined}
 use Rattle.lines.proofs.Lines.{Ended, Open, Lines, joined-lines, lines-good}

@@ -1,12 +1,7 @@
 -- A sequence line that ends in LF has its first stray item at the first byte of its text that is no letter (`stray_is`): ground 10 of FASTQ is that of FASTA.
 -- By induction over the line.
-use mathlib.Core.Path.{◌≡◌, refl}
-use mathlib.Core.Bool.{Bool, true, false, cond, ◌&&◌, and-false}
-use Rattle.std.specs.Prelude.{Some}
-use mathlib.Core.List.{List, [], ◌∷◌}
-use Prim.Native.Nat.{ℕ, suc}
-use lib.Dec.{eqb}
-use borrow.Author.Tests.{ne_eqb}
+use Rattle.std.proofs.Common.{◌≡◌, refl, Bool, true, false, cond, ◌&&◌, Some, List, [], ◌∷◌, ℕ, suc, eqb, ne_eqb}
+use mathlib.Core.Bool.{and-false}
 use Rattle.lines.specs.Lines.{lf_next, text_of}
 use Rattle.lines.proofs.Lines.{Ended}
 use Rattle.lines.proofs.Lines.Ended.{lf, more}

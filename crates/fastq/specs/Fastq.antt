@@ -1,7 +1,6 @@
 -- Document 02, K1: the first ground for refusing a FASTQ file, from its lines, each with its end: "four lines a record, @ header, sequence on one line,
 -- + line, and quality of the same length". What its letters, windows and numbers are is defined for both kinds of file alike, in fasta.
-use Rattle.std.specs.Prelude.{ℕ, suc, ◌+◌, Bool, true, false, cond, ◌&&◌, List, [], ◌∷◌, ◌++◌, map, length, eqb, leb}
-use Rattle.std.specs.Prelude.{Option, None, Some}
+use Rattle.std.specs.Prelude.{ℕ, suc, ◌+◌, Bool, true, false, cond, ◌&&◌, List, [], ◌∷◌, ◌++◌, map, length, eqb, leb, Option, None, Some}
 use Rattle.lines.specs.Lines.{text_of, first_byte_is}
 use Rattle.settings.specs.Grounds.{Ground, ground_at, ◌or_else◌}
 use Rattle.fasta.specs.declared.Item.{Item}

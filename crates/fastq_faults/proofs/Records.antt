@@ -1,13 +1,6 @@
 -- The first fault of a FASTQ file as the functions meet it: the grounds of one record from the places of its lines (`LinesAt`), and the records one after the
 -- other (`record_step`). From the definitions and the laws of lines.
-use mathlib.Core.Path.{◌≡◌, refl, sym, ap, ◌∙◌}
-use mathlib.Core.Bool.{true, false}
-use Rattle.std.specs.Prelude.{Option, None, Some}
-use mathlib.Core.List.{List, [], ◌∷◌}
-use Prim.Native.Nat.{ℕ, ◌+◌, ◌-◌, ◌≤◌, ◌<◌}
-use native.Mathlib.Omega.{arith}
-use lib.ListN.{length, take, drop, length-drop}
-use borrow.Author.Tests.{eq-eqb, ne_eqb}
+use Rattle.std.proofs.Common.{◌≡◌, refl, sym, ap, ◌∙◌, true, false, Option, None, Some, List, [], ◌∷◌, ℕ, ◌+◌, ◌-◌, ◌≤◌, ◌<◌, arith, length, take, drop, length-drop, eq-eqb, ne_eqb}
 use Rattle.lines.specs.Lines.{lines, text_of, first_byte_is}
 use Rattle.lines.proofs.Lines.{first_of, rest_of, first_of_lines, lines_behind, lines_next, lines_end, line_inside, first_some, first_byte}
 use Rattle.lines.proofs.Texts.{text_is_part, text_short}

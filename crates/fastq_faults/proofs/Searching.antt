@@ -1,15 +1,6 @@
 -- The search for the first byte that fails a test: block by block and byte by byte (`block_passed`), and that what it finds is the first failing byte of the
 -- definitions (`fails_nowhere`, `fails_at`). By induction over the bytes.
-use mathlib.Core.Path.{◌≡◌, refl, ap, ◌∙◌}
-use mathlib.Core.Bool.{Bool, true, false}
-use Rattle.std.specs.Prelude.{None, Some}
-use mathlib.Core.List.{List, [], ◌∷◌}
-use Prim.Native.Nat.{ℕ, zero, suc, ◌+◌, ◌-◌, ◌≤◌, ◌<◌}
-use native.Mathlib.Omega.{arith}
-use lib.ListN.{length, drop, get_or, length-drop}
-use lib.Dec.{leb}
-use borrow.Author.Tests.{leb-true, leb-false}
-use Rattle.std.proofs.Common.{get_or-drop, get_or-take}
+use Rattle.std.proofs.Common.{◌≡◌, refl, ap, ◌∙◌, Bool, true, false, None, Some, List, [], ◌∷◌, ℕ, zero, suc, ◌+◌, ◌-◌, ◌≤◌, ◌<◌, arith, length, drop, get_or, length-drop, leb, leb-true, leb-false, get_or-drop, get_or-take}
 use Rattle.std.specs.Array.{IsFirstChunk}
 use Rattle.fastq.specs.Fastq.{first_failing}
 use Rattle.fastq_faults.specs.Needs.{AllPass}

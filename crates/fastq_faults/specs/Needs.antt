@@ -1,6 +1,5 @@
 -- What functions below the calls ask of each other; no sentence of the documents rests on it.
-use Rattle.std.specs.Prelude.{◌≡◌, Bool, true, List, ℕ, ◌+◌, ◌<◌, length, drop, get_or, eqb}
-use Rattle.std.specs.Prelude.{Option}
+use Rattle.std.specs.Prelude.{◌≡◌, Bool, true, List, ℕ, ◌+◌, ◌<◌, length, drop, get_or, eqb, Option}
 use Rattle.lines.specs.Needs.{first_line}
 use Rattle.settings.specs.Grounds.{Ground, ground_at, ◌or_else◌}
 use Rattle.fasta.specs.File.{is_letter}

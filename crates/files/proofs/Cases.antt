@@ -1,8 +1,5 @@
 -- The order of a scan's grounds, computed on a file of one stray byte, of either kind. By computation.
-use mathlib.Core.Path.{◌≡◌, refl}
-use Rattle.std.specs.Prelude.{Option, Some}
-use mathlib.Core.List.{List}
-use Prim.Native.Nat.{ℕ}
+use Rattle.std.proofs.Common.{◌≡◌, refl, Option, Some, List, ℕ}
 use Rattle.laws.specs.Text.{bytes}
 use Rattle.lines.specs.Lines.{lf_next, on_first, lines, text_of, first_byte_is}
 use Rattle.settings.specs.Grounds.{Ground}

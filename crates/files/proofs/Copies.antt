@@ -1,9 +1,6 @@
 -- Copies with T for U (document 02, K2) of files of both kinds: a file and its copy have the same first fault (`same_file_fault`) and, where the settings have
 -- T and no U, the same windows and numbers (`same_file_windows`, `same_file_numbers`); so a scan of either gives the same answer (`same_scan`).
-use mathlib.Core.Path.{◌≡◌, sym, ap, ◌∙◌}
-use mathlib.Core.Bool.{false, true}
-use mathlib.Core.List.{List}
-use Prim.Native.Nat.{ℕ}
+use Rattle.std.proofs.Common.{◌≡◌, sym, ap, ◌∙◌, false, true, List, ℕ}
 use Rattle.settings.specs.Grounds.{outcome}
 use Rattle.settings.specs.Settings.{reads_u_as_t, rank_in}
 use Rattle.settings.specs.Copies.{CopyWithT}

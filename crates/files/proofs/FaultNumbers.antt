@@ -1,12 +1,7 @@
 -- What is known of the first fault of a file of either kind: a property of every ground by which its kind can be refused, with a P of at most the file's
 -- length, is one of that fault (`fault_has`). So the numbers of the refusals that a file and a scan give are known, by kind. "Refusal 3 then never occurs"
 -- (document 02, K10). From the same of each kind.
-use mathlib.Core.Path.{◌≡◌, refl}
-use mathlib.Core.Bool.{true, false}
-use mathlib.Core.List.{List, [], ◌∷◌}
-use Prim.Native.Nat.{ℕ, ◌≤◌}
-use native.Mathlib.Omega.{arith}
-use lib.ListN.{length}
+use Rattle.std.proofs.Common.{◌≡◌, refl, true, false, List, [], ◌∷◌, ℕ, ◌≤◌, arith, length}
 use Rattle.settings.specs.Grounds.{Ground, ground, ◌or_else◌}
 use Rattle.settings.specs.Settings.{is_in, settings_ground, RefusedOnlyBy}
 use Rattle.settings.proofs.FirstGround.{Has, NumberIn, in_behind, test_has, then_has, settings_has}

@@ -1,12 +1,6 @@
 -- The scan of a FASTQ file, from `clean_items`; and the grounds of a scan one after the other, as `scan` meets them: what the settings' check answers, then
 -- the file's length, then its first fault. And that what a scan takes in adds up.
-use mathlib.Core.Path.{◌≡◌, sym}
-use Prim.Native.Nat.{ℕ, ◌+◌, ◌<◌, ◌≤◌}
-use mathlib.Core.Bool.{false}
-use Rattle.std.specs.Prelude.{None}
-use mathlib.Core.List.{List}
-use lib.ListN.{length}
-use borrow.Author.Tests.{lt-ltb, le-ltb}
+use Rattle.std.proofs.Common.{◌≡◌, sym, ℕ, ◌+◌, ◌<◌, ◌≤◌, false, None, List, length, lt-ltb, le-ltb}
 use Rattle.lines.specs.Lines.{lines}
 use Rattle.settings.specs.Grounds.{Ground, Outcome, given, refused, outcome}
 use Rattle.settings.specs.declared.Settings.{Settings}

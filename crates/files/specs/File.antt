@@ -1,7 +1,6 @@
 -- Document 01, "Sequence file (FASTA)", and document 02, K1: a sequence file of either kind, as a call is handed it: what each of its bytes is and its first
 -- fault. Only these two depend on the kind; windows and numbers are those of the items.
-use Rattle.std.specs.Prelude.{ℕ, false, List}
-use Rattle.std.specs.Prelude.{Option}
+use Rattle.std.specs.Prelude.{ℕ, false, List, Option}
 use Rattle.lines.specs.Lines.{lines}
 use Rattle.settings.specs.Grounds.{Ground}
 use Rattle.fasta.specs.declared.Item.{Item}

@@ -1,6 +1,5 @@
 -- Document 01, "Sequence file (FASTA)" and "Grounds for refusing", and document 02, K1: the first ground for refusing a scan.
-use Rattle.std.specs.Prelude.{ℕ, List}
-use Rattle.std.specs.Prelude.{Option}
+use Rattle.std.specs.Prelude.{ℕ, List, Option}
 use Rattle.settings.specs.Grounds.{Ground, ground, ◌or_else◌}
 use Rattle.settings.specs.Settings.{settings_ground}
 use Rattle.settings.specs.Limits.{too_long}

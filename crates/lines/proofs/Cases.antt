@@ -1,6 +1,5 @@
 -- The definitions, computed on texts of a few bytes. By computation.
-use mathlib.Core.Path.{◌≡◌, refl}
-use mathlib.Core.List.{[], ◌∷◌}
+use Rattle.std.proofs.Common.{◌≡◌, refl, [], ◌∷◌}
 use Rattle.laws.specs.Text.{bytes}
 use Rattle.lines.specs.Lines.{lf_next, on_first, lines, text_of}
 

@@ -1,21 +1,11 @@
 -- The lines of a text: from a place on, line by line (`lines_next`); where a line ends, as `after_line` steps to it (`line_behind`); all of them, which
 -- joined are the text (`joined-lines`), and of which the last alone may lack its LF (`lines-good`); and a line in front of a text (`lines_of`). By induction
 -- over the text and over the line.
-use mathlib.Core.Path.{◌≡◌, refl, sym, ap, ◌∙◌}
-use mathlib.Core.Bool.{Bool, true, false, cond}
-use mathlib.Core.List.{List, [], ◌∷◌, ◌++◌, append-nil}
-use Prim.Native.Nat.{ℕ, zero, suc, ◌+◌, ◌-◌, ◌≤◌, ◌<◌}
-use native.Mathlib.Numerals.{add-one}
-use native.Mathlib.Omega.{arith}
-use lib.ListN.{length, take, drop, get_or, length-drop, drop_of_length-le}
-use lib.Seq.{drop-cons, drop-drop}
-use lib.Dec.{eqb}
-use borrow.Author.Tests.{eqb-true, eqb-false, eq-eqb, ne_eqb}
-use denote.Ref.{Bor}
-use Rattle.std.specs.Prelude.{Option, None, Some, MatchOption}
+use Rattle.std.proofs.Common.{◌≡◌, refl, sym, ap, ◌∙◌, Bool, true, false, cond, List, [], ◌∷◌, ◌++◌, append-nil, ℕ, zero, suc, ◌+◌, ◌-◌, ◌≤◌, ◌<◌, add-one, arith, length, take, drop, get_or, length-drop, drop_of_length-le, drop-cons, drop-drop, eqb, eqb-true, eq-eqb, ne_eqb, Bor, Option, None, Some, MatchOption}
+use borrow.Author.Tests.{eqb-false}
 use Rattle.std.specs.List.{HoldsAt}
 use Rattle.lines.specs.Lines.{lf_next, on_first, lines, first_byte_is}
-use Rattle.lines.specs.Needs.{first_line, joined, NoLf}
+use Rattle.lines.specs.Needs.{first_line, joined, NoLf, LineEnd}
 
 -- ---- from a place on
 
@@ -124,7 +114,7 @@ lf_is_next (b ∷ t) = refl
 
 module _ (t : List ℕ) (i : ℕ) where
   -- The place behind the line is behind this LF.
-  pub lf_here : i < length t → get_or t i 0 ≡ 10 → i + length (first_line (drop i t)) ≡ i + 1
+  lf_here : i < length t → get_or t i 0 ≡ 10 → i + length (first_line (drop i t)) ≡ i + 1
   unfolding first_line
   lf_here h e = rw (drop-cons t i 0 h, eq-eqb (get_or t i 0) 10 e)
 
@@ -146,11 +136,22 @@ stretch t (suc n) i h b =
     ∙ ap (λ (x : ℕ). x + length (first_line (drop x t))) (sym e)
 
 -- Behind a stretch without LF the line ends where it does from the stretch's start.
-pub line_behind : (t : List ℕ) (i e : ℕ) → NoLf t i e → i ≤ length t → i + length (first_line (drop i t)) ≡ e + length (first_line (drop e t))
+line_behind : (t : List ℕ) (i e : ℕ) → NoLf t i e → i ≤ length t → i + length (first_line (drop i t)) ≡ e + length (first_line (drop e t))
 line_behind t i e N h =
     let n : i + (e - i) ≡ e = omega (arith, N.on) in
     let g = N.inside h in
     stretch t (e - i) i (omega arith) (λ j x y. N.bytes j x (omega arith)) ∙ ap (λ (x : ℕ). x + length (first_line (drop x t))) n
+
+-- So the place behind a line is behind its LF, or the text's end.
+module _ (t : List ℕ) (from e : ℕ) (some : from < length t) (E : LineEnd t from e) where
+  behind : from + length (first_line (drop from t)) ≡ e + length (first_line (drop e t))
+  behind = line_behind t from e E.none_before (omega (arith, some))
+
+  pub after_lf : e < length t → e + 1 ≡ from + length (first_line (drop from t))
+  after_lf h = sym (behind ∙ lf_here t e h (E.there h))
+
+  pub after_text : length t ≤ e → e ≡ from + length (first_line (drop from t))
+  after_text h = sym (behind ∙ lf_none t e h)
 
 -- A text's first line is the text's front of that length.
 pub first_is_front : (t : List ℕ) → first_line t ≡ take (length (first_line t)) t

@@ -1,10 +1,6 @@
 -- A text with other bytes in place of its own, of which LF alone stands for LF and CR alone for CR: its lines and their texts are those of the text, with
 -- the same bytes replaced. Byte by byte.
-use mathlib.Core.Path.{◌≡◌, refl}
-use mathlib.Core.Bool.{Bool, true, false, cond, ◌&&◌, ◌||◌}
-use mathlib.Core.List.{List, [], ◌∷◌, map}
-use Prim.Native.Nat.{ℕ}
-use lib.Dec.{eqb}
+use Rattle.std.proofs.Common.{◌≡◌, refl, Bool, true, false, cond, ◌&&◌, ◌||◌, List, [], ◌∷◌, map, ℕ, eqb}
 use Rattle.lines.specs.Lines.{lf_next, on_first, lines, text_of, first_byte_is}
 
 -- The first byte, where the test for it takes each byte for the one in its place.

@@ -1,19 +1,12 @@
 -- The text of a line, its bytes without the end: where it ends, by the line's last two bytes. By induction over lines that end in LF and lines that do not.
-use mathlib.Core.Path.{◌≡◌, refl, sym, ap, ◌∙◌}
-use mathlib.Core.Bool.{Bool, true, false, cond, ◌&&◌, ◌||◌, and-false, true≢false}
-use mathlib.Core.List.{List, [], ◌∷◌, ◌++◌}
-use mathlib.Core.Logic.{◌⊎◌, inl, inr, ⊎_elim}
-use Prim.Native.Nat.{ℕ, zero, suc, ◌+◌, ◌-◌, ◌≤◌, ◌<◌}
-use native.Mathlib.Omega.{arith}
-use lib.ListN.{length, take, drop, get_or, length-append}
-use lib.Seq.{take-take}
+use Rattle.std.proofs.Common.{◌≡◌, refl, sym, ap, ◌∙◌, Bool, true, false, cond, ◌&&◌, ◌||◌, true≢false, List, [], ◌∷◌, ◌++◌, ◌⊎◌, inl, inr, ⊎_elim, ℕ, zero, suc, ◌+◌, ◌-◌, ◌≤◌, ◌<◌, arith, length, take, drop, get_or, length-append, take-take, eqb, eqb-true, eq-eqb, ne_eqb}
+use mathlib.Core.Bool.{and-false}
 use Rattle.std.specs.List.{ends_with}
 use Rattle.std.proofs.lemmas.Bool.Decides.{Decides-eqb}
 use Rattle.std.proofs.lemmas.List.{get_or-append-add}
 use Rattle.std.proofs.lemmas.List.Prefix.{end_from_reads}
 use Rattle.std.proofs.lemmas.Slice.Eq.{ends_is}
-use lib.Dec.{eqb}
-use borrow.Author.Tests.{eqb-true, eqb-false, eq-eqb, ne_eqb}
+use borrow.Author.Tests.{eqb-false}
 use Rattle.lines.specs.Lines.{lf_next, text_of}
 use Rattle.lines.specs.Needs.{first_line}
 use Rattle.lines.proofs.Lines.{Ended, Open, ended_more, first_is_front}
@@ -132,14 +125,14 @@ module _ (t : List ℕ) where
   whole_line = first_line t
 
   -- "LF or CR LF", one behind the other.
-  pub text_crlf : ends_with eqb whole_line (13 ∷ 10 ∷ []) ≡ true → length (text_of whole_line) + 2 ≡ length whole_line
+  text_crlf : ends_with eqb whole_line (13 ∷ 10 ∷ []) ≡ true → length (text_of whole_line) + 2 ≡ length whole_line
   text_crlf e =
       let at = ends_at whole_line (13 ∷ 10 ∷ []) e in
       let n : length whole_line - 2 + 0 ≡ length whole_line - 2 = omega arith in
       let ended : Ended whole_line = ⊎_elim (λ E. E) (λ O. absurd (open_last O (length whole_line - 2 + 1) (omega (arith, at.0)) (at.1 1))) (first_kind t) in
       omega (arith, at.0, crlf_text ended (length whole_line - 2) (omega (arith, at.0)) (ap (λ (x : ℕ). get_or whole_line x 0) (sym n) ∙ at.1 0))
 
-  pub text_lf : ends_with eqb whole_line (13 ∷ 10 ∷ []) ≡ false → ends_with eqb whole_line (10 ∷ []) ≡ true → length (text_of whole_line) + 1 ≡ length whole_line
+  text_lf : ends_with eqb whole_line (13 ∷ 10 ∷ []) ≡ false → ends_with eqb whole_line (10 ∷ []) ≡ true → length (text_of whole_line) + 1 ≡ length whole_line
   text_lf other e =
       let at = ends_at whole_line (10 ∷ []) e in
       let ended : Ended whole_line = ⊎_elim (λ E. E) (λ O. absurd (open_last O (length whole_line - 1 + 0) (omega (arith, at.0)) (at.1 0))) (first_kind t) in
@@ -152,7 +145,7 @@ module _ (t : List ℕ) where
       pair m z g E (suc (suc i)) h = absurd (omega arith)
 
   -- A last line without LF, and no line.
-  pub text_open : ends_with eqb whole_line (10 ∷ []) ≡ false → length (text_of whole_line) ≡ length whole_line
+  text_open : ends_with eqb whole_line (10 ∷ []) ≡ false → length (text_of whole_line) ≡ length whole_line
   text_open other = ⊎_elim (λ E. absurd (ends_not whole_line (10 ∷ []) other (some E) (last E))) (λ O. ap length (open_text O)) (first_kind t)
     where
       some : Ended whole_line → 1 ≤ length whole_line
@@ -161,3 +154,28 @@ module _ (t : List ℕ) where
       last : Ended whole_line → (i : ℕ) → i < 1 → get_or whole_line (length whole_line - 1 + i) 0 ≡ get_or (10 ∷ []) i 0
       last E zero h = ended_last E (length whole_line - 1 + 0) (omega (arith, ended_some E))
       last E (suc i) h = absurd (omega arith)
+
+-- ---- where the text of a line ends, by the line as a part of the file, of which the place behind it is known
+
+module _ (f : List ℕ) (from after : ℕ) (e : after ≡ from + length (first_line (drop from f))) where
+  abbrev line_part : List ℕ
+  line_part = take (after - from) (drop from f)
+
+  part_is_line : line_part ≡ first_line (drop from f)
+  part_is_line =
+      let n : after - from ≡ length (first_line (drop from f)) = omega arith in
+      ap (λ (k : ℕ). take k (drop from f)) n ∙ sym (first_is_front (drop from f))
+
+  pub end_crlf : true ≡ ends_with eqb line_part (13 ∷ 10 ∷ []) → after - 2 ≡ from + length (text_of (first_line (drop from f)))
+  end_crlf x = let t = rw part_is_line at (sym x) in omega (arith, text_crlf (drop from f) t)
+
+  pub end_lf : false ≡ ends_with eqb line_part (13 ∷ 10 ∷ []) → true ≡ ends_with eqb line_part (10 ∷ [])
+      → after - 1 ≡ from + length (text_of (first_line (drop from f)))
+  end_lf x y = let s = rw part_is_line at (sym x) in let t = rw part_is_line at (sym y) in omega (arith, text_lf (drop from f) s t)
+
+  pub end_open : false ≡ ends_with eqb line_part (10 ∷ []) → after ≡ from + length (text_of (first_line (drop from f)))
+  end_open x = let t = rw part_is_line at (sym x) in omega (arith, text_open (drop from f) t)
+
+  -- No line.
+  pub end_none : after ≤ from → after ≡ from + length (text_of (first_line (drop from f)))
+  end_none h = omega (arith, text_short (first_line (drop from f)))

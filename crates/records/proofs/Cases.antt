@@ -1,7 +1,5 @@
 -- The definitions, computed on files of a few bytes: which records the reader gives and where it moves, by the sentences of document 01. By computation.
-use mathlib.Core.Path.{◌≡◌, refl}
-use Rattle.std.specs.Prelude.{None, Some}
-use mathlib.Core.List.{[], ◌∷◌}
+use Rattle.std.proofs.Common.{◌≡◌, refl, None, Some, [], ◌∷◌}
 use Rattle.laws.specs.Text.{bytes}
 use Rattle.records.specs.Records.{is_header, first_from, record_to, record_from, offset_after, headers_from, all_records, record_number}
 

@@ -2,21 +2,13 @@
 -- reading (`reads_all`), and it is the only one (`reads_only`); so a reader that `new` made reads all records of the file and nothing else
 -- (`reads_whole`, `reads_whole_only`). Each record's end is past its header, and no header stands between. Then the record with a
 -- number, which the call after so many gives (`number_is`).
-use mathlib.Core.Path.{◌≡◌, refl, sym, ap, subst, ◌∙◌}
-use Prim.Native.Nat.{ℕ, zero, suc, ◌+◌, ◌-◌, ◌<◌, ◌≤◌}
-use native.Mathlib.Numerals.{add-one}
+use Rattle.std.proofs.Common.{◌≡◌, refl, sym, ap, subst, ◌∙◌, ℕ, zero, suc, ◌+◌, ◌-◌, ◌<◌, ◌≤◌, add-one, arith, Bool, true, false, cond, ◌||◌, Option, None, Some, List, [], ◌∷◌, ◌++◌, map, append-nil, length, get_or, eqb, Bor, ne_eqb, eqb-true, lt-ltb, le-ltb}
 use native.Mathlib.Decide.{dec_lt, ℕ_discrete}
-use native.Mathlib.Omega.{arith}
-use mathlib.Core.Bool.{Bool, true, false, cond, ◌||◌, and-false, and-eq-true_iff}
-use Rattle.std.specs.Prelude.{Option, None, Some}
-use mathlib.Core.List.{List, [], ◌∷◌, ◌++◌, map, append-nil}
+use mathlib.Core.Bool.{and-false, and-eq-true_iff}
 use Rattle.std.specs.Iterator.{Yields, SkipsThenYields}
 use Rattle.std.proofs.lemmas.Option.{slice_get_past}
-use lib.ListN.{length, get_or, length-map}
+use lib.ListN.{length-map}
 use Rattle.std.specs.List.{slice_get}
-use lib.Dec.{eqb}
-use denote.Ref.{Bor}
-use borrow.Author.Tests.{ne_eqb, eqb-true, lt-ltb, le-ltb}
 use Rattle.records.specs.declared.Record.{Record}
 use Rattle.records.specs.declared.Reader.{Reader}
 use Rattle.records.specs.Records.{Parts, parts_of, of_found, end_of, is_lf, is_header, first_from, header_at, line_end, header_length, record_to, record_of, record_from, offset_after, headers_from, records_from, all_records, record_number, Starts, Gives, Moves, Reads, ended, given}

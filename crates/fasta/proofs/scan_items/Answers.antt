@@ -1,8 +1,6 @@
 -- `fasta::scan_items` meets its contract. The invariant, `Scanning`: the answer for the file is that of the items that are left, from the
 -- numbers reached. Bytes that the mode skips leave it as it is.
-use mathlib.Core.Path.{◌∙◌}
-use native.Mathlib.Omega.{arith}
-use borrow.Author.Rules.{rules}
+use Rattle.std.proofs.Common.{◌∙◌, arith, rules}
 use Rattle.settings.proofs.Outcomes.{passed_on}
 use Rattle.fasta.proofs.Scans.{start, done, skip_on, at_fault, goes_on}
 use Rattle.fasta.proofs.scan_items.Goals as goal

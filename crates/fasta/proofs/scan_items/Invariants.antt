@@ -1,6 +1,5 @@
 -- The loops of this function: what holds at each turn, and what falls.
-use Prim.Native.Nat.{◌-◌, ◌≤◌}
-use lib.ListN.{length}
+use Rattle.std.proofs.Common.{◌-◌, ◌≤◌, length}
 use Rattle.settings.specs.RankTables.{rank_by_table}
 use Rattle.fasta.proofs.Scans.{Scanning}
 use Rattle.fasta.proofs.scan_items.Given as goal

@@ -1,11 +1,9 @@
 -- `fastq_faults::fastq_fault` meets its contract. The invariant: the file's first fault is the first from the record at `header` on.
-use mathlib.Core.Path.{◌≡◌, sym, ◌∙◌}
-use Rattle.std.specs.Prelude.{Some, Result}
+use Rattle.std.proofs.Common.{◌≡◌, sym, ◌∙◌, Some, Result, arith}
 use Rattle.std.specs.Result.{IsErrAnd}
 use Rattle.std.proofs.lemmas.Result.{err_from_is_err_and}
 use Rattle.settings.specs.declared.Refusal.{Refusal}
 use Rattle.settings.specs.Grounds.{fault_of, ground_of}
-use native.Mathlib.Omega.{arith}
 use Rattle.fastq_faults.proofs.Records.{faulty_record, clean_record, later_record, no_record}
 use Rattle.fastq_faults.proofs.fastq_fault.Goals as goal
 

@@ -1,7 +1,5 @@
 -- The loops of this function: what holds at each turn, and what falls.
-use mathlib.Core.Path.{◌≡◌}
-use Prim.Native.Nat.{◌-◌}
-use lib.ListN.{length, drop}
+use Rattle.std.proofs.Common.{◌≡◌, ◌-◌, length, drop}
 use Rattle.lines.specs.Lines.{lines}
 use Rattle.fastq.specs.Fastq.{fastq_fault}
 use Rattle.fastq_faults.proofs.fastq_fault.Given as goal

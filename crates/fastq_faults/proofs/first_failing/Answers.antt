@@ -1,7 +1,5 @@
 -- `fastq_faults::first_failing` meets its contract: a block of which all bytes pass is passed over.
-use native.Mathlib.Omega.{arith}
-use lib.ListN.{length-drop}
-use lib.Seq.{take_all}
+use Rattle.std.proofs.Common.{arith, length-drop, take_all}
 use Rattle.fastq_faults.proofs.Searching.{block_passed}
 use Rattle.fastq_faults.proofs.first_failing.Goals as goal
 

@@ -1,6 +1,5 @@
 -- `fastq_faults::quality_fault` meets its contract: the lengths first, then the bytes.
-use borrow.Author.Rules.{rules}
-use Rattle.std.specs.Prelude.{None}
+use Rattle.std.proofs.Common.{rules, None}
 use Rattle.fastq.specs.Fastq.{is_quality}
 use Rattle.fastq_faults.proofs.Searching.{fails_at, fails_nowhere}
 use Rattle.fastq_faults.proofs.Records.{length_differs, length_agrees}

@@ -1,7 +1,5 @@
 -- `fastq_faults::text_fault` meets its contract: the first stray byte, and where there is none what `quality_fault` answers.
-use mathlib.Core.Path.{◌∙◌}
-use borrow.Author.Rules.{rules}
-use Rattle.std.specs.Prelude.{None}
+use Rattle.std.proofs.Common.{◌∙◌, rules, None}
 use Rattle.fasta.specs.File.{is_letter}
 use Rattle.fastq_faults.proofs.Searching.{fails_at, fails_nowhere}
 use Rattle.fastq_faults.proofs.Records.{stray_or_quality}

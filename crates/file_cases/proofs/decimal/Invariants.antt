@@ -1,5 +1,5 @@
 -- `file_cases::decimal` meets its contract. The invariant: the number read so far is below 10^12.
-use Prim.Native.Nat.{◌<◌}
+use Rattle.std.proofs.Common.{◌<◌}
 use Rattle.file_cases.proofs.decimal.Given as goal
 
 abbrev pub invariant-loop-b : goal.invariant-loop-b

@@ -1,5 +1,5 @@
 -- The loops of this function: what holds at each turn. Each byte written fills one place of the buffer.
-use mathlib.Core.Path.{◌≡◌}
+use Rattle.std.proofs.Common.{◌≡◌}
 use Rattle.file_cases.proofs.unescape.Given as goal
 
 abbrev pub invariant-loop-place : goal.invariant-loop-place

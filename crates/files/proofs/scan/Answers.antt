@@ -1,6 +1,5 @@
 -- `files::scan` meets its contract: the grounds of proofs/ScanGrounds.antt, one at each test, and then what `scan_file` answers.
-use mathlib.Core.Path.{◌∙◌}
-use native.Mathlib.Omega.{arith}
+use Rattle.std.proofs.Common.{◌∙◌, arith}
 use Rattle.settings.proofs.Outcomes.{passed_on}
 use Rattle.files.proofs.ScanGrounds.{bad_settings, few_letters, some_k, long_file, scanned}
 use Rattle.files.proofs.scan.Goals as goal

@@ -1,5 +1,5 @@
 -- `files::scan_fastq` meets its contract: a file without a fault has no item that the scan refuses.
-use mathlib.Core.Path.{◌∙◌}
+use Rattle.std.proofs.Common.{◌∙◌}
 use Rattle.files.proofs.ScanGrounds.{scan_clean}
 use Rattle.files.proofs.scan_fastq.Goals as goal
 

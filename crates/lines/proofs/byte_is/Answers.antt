@@ -1,5 +1,5 @@
 -- `lines::byte_is` meets its contract: by what `get` says of the place.
-use borrow.Author.Rules.{rules}
+use Rattle.std.proofs.Common.{rules}
 use Rattle.lines.proofs.Lines.{byte_got}
 use Rattle.lines.proofs.byte_is.Goals as goal
 

@@ -1,7 +1,6 @@
 -- The loops of this function: what holds at each turn.
-use Rattle.std.proofs.Common.{◌≡◌, take}
+use Rattle.std.proofs.Common.{◌≡◌, take, eqb}
 use Rattle.std.specs.List.{list_any}
-use lib.Dec.{eqb}
 use Rattle.lines.proofs.has_lf.Given as goal
 
 abbrev pub invariant-loop-b : goal.invariant-loop-b

@@ -1,9 +1,5 @@
 -- `lines::line_end` meets its contract. The invariant: no byte from `from` up to i is LF.
-use mathlib.Core.Path.{◌≡◌, sym, ◌∙◌}
-use native.Mathlib.Omega.{arith}
-use Rattle.std.proofs.Common.{rules, tests}
-use lib.ListN.{length-drop}
-use lib.Seq.{take_all}
+use Rattle.std.proofs.Common.{◌≡◌, sym, ◌∙◌, arith, rules, tests, length-drop, take_all}
 use Rattle.std.proofs.lemmas.Iterator.{IsFirst-from_position, YieldsList-from_slice}
 use Rattle.lines.proofs.Searching.{no_lf_none, block_past, end_behind, end_found}
 use Rattle.lines.proofs.line_end.Goals as goal

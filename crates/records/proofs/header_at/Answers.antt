@@ -1,6 +1,5 @@
 -- `records::header_at` meets its contract. The invariant: the next header is still to be found in what is left.
-use mathlib.Core.Path.{sym, ◌∙◌}
-use native.Mathlib.Omega.{arith}
+use Rattle.std.proofs.Common.{sym, ◌∙◌, arith}
 use Rattle.records.specs.Records.{is_header}
 use Rattle.records.proofs.Searches.{first_here, first_next, no_header_left}
 use Rattle.records.proofs.header_at.Goals as goal

@@ -1,5 +1,5 @@
 -- The loops of this function: what holds at each turn.
-use mathlib.Core.Path.{◌≡◌}
+use Rattle.std.proofs.Common.{◌≡◌}
 use Rattle.records.specs.Records.{header_at}
 use Rattle.records.proofs.header_at.Given as goal
 

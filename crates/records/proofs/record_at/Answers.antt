@@ -1,6 +1,5 @@
 -- `records::record_at` meets its contract: the next header with its line end makes the record, by the contracts of its calls.
-use mathlib.Core.Path.{ap, ◌∙◌}
-use Rattle.std.specs.Prelude.{Some}
+use Rattle.std.proofs.Common.{ap, ◌∙◌, Some}
 use Rattle.records.specs.Records.{Parts}
 use Rattle.records.proofs.Searches.{line_end_is, some_record, no_record}
 use Rattle.records.proofs.record_at.Goals as goal

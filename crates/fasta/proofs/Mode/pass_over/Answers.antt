@@ -1,5 +1,5 @@
 -- `Mode::pass_over` meets its contract: a stretch without LF is skipped where the mode passes over its bytes.
-use mathlib.Core.Path.{sym, ◌∙◌}
+use Rattle.std.proofs.Common.{sym, ◌∙◌}
 use Rattle.fasta.proofs.Skipping.{skips-passed, skips-none}
 use Rattle.fasta.proofs.Mode.pass_over.Goals as goal
 

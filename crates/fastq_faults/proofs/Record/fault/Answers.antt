@@ -1,6 +1,5 @@
 -- `Record::fault` meets its contract: a ground at each test, in their order.
-use mathlib.Core.Path.{◌∙◌}
-use native.Mathlib.Omega.{arith}
+use Rattle.std.proofs.Common.{◌∙◌, arith}
 use Rattle.fastq_faults.proofs.Records.{first_lacks, third_lacks, fourth_lacks, lines_there, texts_inside}
 use Rattle.fastq_faults.proofs.Record.fault.Goals as goal
 

@@ -1,6 +1,5 @@
 -- `Reader::next` meets its contract: a record ends within the file, behind the offset.
-use borrow.Author.Rules.{rules}
-use native.Mathlib.Omega.{arith}
+use Rattle.std.proofs.Common.{rules, arith}
 use Rattle.records.proofs.Reading.{ends_within}
 use Rattle.records.proofs.ReaderIterator.next.Goals as goal
 
