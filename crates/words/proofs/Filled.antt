@@ -1,5 +1,5 @@
 -- A list that a function's answers of bytes are written to: one more (`filled_next`), and all, where the function is known (`filled_with`).
-use Rattle.std.proofs.Common.{◌≡◌, refl, sym, ap, ◌∙◌, List, map, ◌++◌, ℕ, ◌<◌, ◌≤◌, ◌+◌, arith, length, get_or, set, take, drop, length-set, length-take-le, take-append-drop}
+use Rattle.std.proofs.Common.{◌≡◌, sym, ap, ◌∙◌, List, map, ◌++◌, ℕ, ◌<◌, ◌≤◌, ◌+◌, arith, length, get_or, set, take, drop, length-set, length-take-le, take-append-drop}
 use Rattle.std.proofs.lemmas.List.{length-map}
 use Rattle.std.proofs.lemmas.Grind.{same_number_lists}
 use lib.Seq.{drop-drop, drop-set-lt, get_or-take}

@@ -1,10 +1,7 @@
--- The ranks of a word of letters, and their mirror, where `word_code`, `write_mirror` and `plain_of` have them; and an array whose first places hold the ranks,
--- as `fill_ranks_by` leaves it.
-use Rattle.std.proofs.Common.{refl, ◌≡◌, ◌∙◌, ap, List, ◌++◌, ℕ, ◌≤◌, arith, length, take, drop}
-use mathlib.Core.Path.{subst⁻¹}
+-- The ranks of a word of letters, and their mirror, as `word_code`, `write_mirror` and `plain_of` have them.
+use Rattle.std.proofs.Common.{refl, ◌≡◌, ◌∙◌, ap, List, ◌++◌, ℕ, ◌≤◌, arith, length, drop}
 use Rattle.settings.specs.Limits.{Limits}
 use Rattle.settings.proofs.Limits.{k_at_most}
-use Rattle.laws.proofs.Buffers.{front_is, front_fits, front_length}
 use Rattle.encoding.specs.Calls.{ranks_of, in_capitals}
 use Rattle.encoding.specs.Codes.{code}
 use Rattle.ranks.specs.Needs.{FitWord}
@@ -43,27 +40,3 @@ module _ (letters word : List ℕ) {own : List ℕ} (f : Limits (length letters)
     pub mirror_written : (old new : List ℕ) → new ≡ in_capitals letters mirrored ++ drop (length mirrored) old
         → new ≡ in_capitals letters (mirror (length letters) m (ranks_of letters word)) ++ drop (length word) old
     mirror_written old new x = x ∙ rw (mirrored_long, mirror_is, is)
-
--- ---- an array that begins with them
-
-pub record OwnArray (letters word own : List ℕ) : Type 0 where
-  pub within : Limits (length letters) (length word)
-  pub rest : List ℕ
-  pub holds : own ≡ ranks_of letters word ++ rest
-
-pub as_own : (letters word : List ℕ) → Limits (length letters) (length word) → (own d : List ℕ) → own ≡ ranks_of letters word ++ d
-    → OwnArray letters word own
-as_own letters word f own d e = record { within = f; rest = d; holds = e }
-
-module _ {letters word own : List ℕ} (A : OwnArray letters word own) where
-  pub own_is : take (length word) own ≡ ranks_of letters word
-  own_is = front_is (ranks_of letters word) A.rest A.holds (length-ranks_of letters word)
-
-  pub own_fits : length word ≤ length own
-  own_fits = front_fits (ranks_of letters word) A.rest A.holds (length-ranks_of letters word)
-
-  pub own_length : length (take (length word) own) ≡ length word
-  own_length = front_length (ranks_of letters word) A.rest A.holds (length-ranks_of letters word)
-
-  pub own_word : FitWord (length letters) (take (length word) own)
-  own_word = subst⁻¹ (FitWord (length letters)) own_is (as_word letters word A.within)

@@ -113,6 +113,7 @@ pub fn write_word(letters: &[u8], k: usize, m: Mirror, q: u64, out: &mut [u8])
     requires { Limits (length letters.now) k × (q < classes (length letters.now) m k) × (k ≤ length out.old) }
     ensures { out.new ≡ in_capitals letters.now (word_of (length letters.now) m k q) ++ drop k out.old }
 {
+    // Stays: no heap, and the code's word has k letters, at most 62.
     let mut places = [0u64; 64];
     let ranks = &mut places[..k];
     fill_word(ranks, letters.len() as u64, m, q);

@@ -1,12 +1,6 @@
 -- `words::pick` meets its contract: refused where coding either word is, and else the one of lower plain rank (PickAnswers).
-use Rattle.std.proofs.Common.{refl}
-use Rattle.words.proofs.PickAnswers.{neither_picked, first_within, second_within, first_taken, second_taken}
+use Rattle.words.proofs.PickAnswers.{first_within, second_within, first_taken, second_taken}
 use Rattle.words.proofs.pick.Goals as goal
-
-pub returns-then-not-can_pick : goal.returns-then-not-can_pick
-returns-then-not-can_pick c =
-    let a = c.args in
-    neither_picked a.letters.now a.k a.mirror a.first a.second _ c.if-not-can_pick.ensures refl refl
 
 pub plain_of-requires : goal.plain_of-requires
 plain_of-requires c = let a = c.args in first_within a.letters.now a.k a.mirror a.first a.second c.if-not-can_pick.ensures
