@@ -6,7 +6,7 @@ use Rattle.kernels.specs.declared.Kernel.TheVariants.{TwoBit}
 use Rattle.kernels.specs.declared.Coder.{Coder}
 use Rattle.windows.specs.Windows.{window_codes}
 use Rattle.windows.specs.Needs.{Fills}
-use Rattle.two_bit.specs.Needs.{TwoBitInput}
+use Rattle.two_bit.specs.Needs.{CountsPalindromes}
 
 four_exponent : (k : ℕ) → 4 ^ k ≤ 2 ^ 62 → k ≤ 31
 four_exponent k h =
@@ -17,14 +17,14 @@ module _ (c : Coder) (two : c.kernel ≡ TwoBit) where
   taken : (c.s ≡ 4) × (c.mirror ≡ Complement)
   taken = c.takes two
 
-  pub two_bit_input : {ranks : List ℕ} → Ranks c.s ranks → TwoBitInput c.k c.palindromes ranks
-  two_bit_input {ranks} R =
-      record {
-        ranks = subst (λ (s : ℕ). Ranks s ranks) taken.0 R;
-        some = c.some;
-        small = four_exponent c.k (subst (λ (s : ℕ). s ^ c.k ≤ 2 ^ 62) taken.0 c.limits.small);
-        count = c.count ∙ rw (taken.0, taken.1);
-      }
+  pub two_bit_ranks : (ranks : List ℕ) → Ranks c.s ranks → Ranks 4 ranks
+  two_bit_ranks ranks R = subst (λ (s : ℕ). Ranks s ranks) taken.0 R
+
+  pub two_bit_small : c.k ≤ 31
+  two_bit_small = four_exponent c.k (subst (λ (s : ℕ). s ^ c.k ≤ 2 ^ 62) taken.0 c.limits.small)
+
+  pub two_bit_count : CountsPalindromes c.k c.palindromes
+  two_bit_count = c.count ∙ rw (taken.0, taken.1)
 
   pub two_bit_codes : (ranks : List ℕ) {o new : List ℕ} → Fills (window_codes 4 Complement c.k ranks) o new
       → Fills (window_codes c.s c.mirror c.k ranks) o new

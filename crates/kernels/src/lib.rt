@@ -15,6 +15,7 @@ ghost use Rattle.any_alphabet.specs.Needs.{Powers, CountsPalindromes};
 ghost use Rattle.kernels.specs.Kernels.{Takes, GoodSettings};
 
 use settings::{Mirror, RankTable, Settings};
+use two_bit::TwoBit;
 
 // How codes are worked out: by the kernel for every alphabet, or by two-bit numbers, which four letters under complement alone have.
 #[derive(Clone, Copy)]
@@ -102,13 +103,14 @@ impl Coder {
                 self.palindromes,
                 out,
             ),
-            Kernel::TwoBit => two_bit::fill(
-                ranks,
-                self.k as u64,
-                self.palindromes,
-                &self.mirrors,
-                out,
-            ),
+            Kernel::TwoBit => {
+                let words = TwoBit {
+                    k: self.k as u64,
+                    palindromes: self.palindromes,
+                    mirrors: &self.mirrors,
+                };
+                words.fill(ranks, out);
+            }
         }
     }
 }

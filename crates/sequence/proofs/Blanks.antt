@@ -1,15 +1,9 @@
 -- Runs of letters, and the windows that have another byte: a window has only letters where the run that ends with it is as long as it is.
-use mathlib.Core.Path.{◌≡◌, refl, sym, ap, ◌∙◌}
-use mathlib.Core.Bool.{Bool, true, false, cond, ◌&&◌, and-true, and-false, and_assoc, and-eq-true_iff}
-use mathlib.Core.List.{List, [], ◌∷◌, ◌++◌, map}
-use Rattle.std.specs.Prelude.{Option, None, Some, is_some}
+use Rattle.std.proofs.Common.{◌≡◌, refl, sym, ap, ◌∙◌, Bool, true, false, cond, ◌&&◌, List, [], ◌∷◌, ◌++◌, map, Option, None, Some, is_some, ℕ, zero, suc, ◌+◌, ◌-◌, ◌<◌, ◌≤◌, add-one, arith, length, get_or, take, drop, set, length-set, length-append, length-drop, drop_of_length-le, drop-cons, get_or-take, get_or-drop, get_or-set_other, get_or-append-add, ext_get_or, length-take-le}
+use mathlib.Core.Bool.{and-true, and-false, and_assoc, and-eq-true_iff}
 use Rattle.std.specs.Option.{unwrap_or}
-use Prim.Native.Nat.{ℕ, zero, suc, ◌+◌, ◌-◌, ◌<◌, ◌≤◌}
 use native.Mathlib.Decide.{ℕ_discrete, dec_le}
-use native.Mathlib.Numerals.{add-one}
-use native.Mathlib.Omega.{arith}
-use lib.ListN.{length, get_or, take, drop, set, length-set, length-append, length-drop, drop_of_length-le, get_or-append}
-use lib.Seq.{drop-cons, get_or-take, get_or-drop, get_or-set_other, get_or-append-add, ext_get_or, length-take-le, take_all}
+use lib.ListN.{get_or-append}
 use Rattle.laws.proofs.Buffers.{set_next}
 use Rattle.laws.proofs.Lists.{map_take, map_drop}
 use Rattle.encoding.specs.Words.{Mirror}
@@ -25,6 +19,7 @@ use Rattle.windows.specs.Needs.{Fills}
 use Rattle.words.specs.Needs.{ranks_by}
 use Rattle.sequence.specs.Needs.{all_ranked, code_by, Run, Blanked}
 use Rattle.windows.proofs.Windows.{window_at, length_codes}
+use Rattle.windows.proofs.Lasts.{lasts, last_inside, lasts_end, last_at}
 use Rattle.ranks.proofs.WordParts.{length_part}
 use Rattle.sequence.proofs.RankTables.{length-ranks_by}
 
@@ -81,9 +76,6 @@ blanked_nothing table k bytes old all =
         rw (at_part bytes j k p q) (ranked_at (rank_by_table table) bytes all (j + p) (omega arith)))
 
 -- ---- runs
-
-pub run_none : (table : RankTable) (bytes : List ℕ) → Run table bytes 0 0
-run_none table bytes = record { upto = omega arith; letters = λ p h g. absurd (omega arith); stop = λ p e. absurd (omega arith) }
 
 module _ {table : RankTable} {bytes : List ℕ} {i run : ℕ} (R : Run table bytes i run) where
   -- The next byte is a letter.
@@ -189,38 +181,20 @@ module _ {table : RankTable} {k : ℕ} {bytes old : List ℕ} (some : 1 ≤ k) w
   blanked_all {new} {run} {j} A end = let n : length bytes + 1 - k ≡ j = omega (arith, A.inside) in rw n A.blanked
 
 -- The bytes that end a window, one after the other.
-module _ (k : ℕ) (bytes : List ℕ) where
-  abbrev ends : List ℕ
-  ends = take (length bytes - (k - 1)) (drop (k - 1) bytes)
-
-  ends-are : ends ≡ drop (k - 1) bytes
-  ends-are = take_all (length bytes - (k - 1)) (drop (k - 1) bytes) (omega (arith, length-drop (k - 1) bytes))
-
-  n_ends : 1 ≤ k → k ≤ length bytes → length ends ≡ length bytes + 1 - k
-  n_ends some long = ap length ends-are ∙ omega (arith, length-drop (k - 1) bytes)
-
-  end_at : 1 ≤ k → (j : ℕ) → get_or ends j 0 ≡ get_or bytes (j + k - 1) 0
-  end_at some j =
-      let place : k - 1 + j ≡ j + k - 1 = omega arith in
-      ap (λ (l : List ℕ). get_or l j 0) ends-are ∙ get_or-drop (k - 1) bytes j 0 ∙ rw place
-
 module _ {table : RankTable} {k : ℕ} {bytes old : List ℕ} (some : 1 ≤ k) (long : k ≤ length bytes) where
   pub blanking_first : {run : ℕ} → Run table (take (k - 1) bytes) (length (take (k - 1) bytes)) run → Blanking table k bytes old old run 0
   blanking_first R = blanking_none some long (run_front (k - 1) (omega arith) R)
 
-  pub blanking_byte : length bytes + 1 - k ≤ length old → {new : List ℕ} {run j r x : ℕ} → Blanking table k bytes old new run j → j < length (ends k bytes)
-      → r ≡ cond (is_some (rank_by_table table (get_or (ends k bytes) j 0))) (run + 1) 0
+  pub blanking_byte : length bytes + 1 - k ≤ length old → {new : List ℕ} {run j r x : ℕ} → Blanking table k bytes old new run j → j < length (lasts k bytes)
+      → r ≡ cond (is_some (rank_by_table table (get_or (lasts k bytes) j 0))) (run + 1) 0
       → (k ≤ r → x ≡ get_or new j 0) × (r < k → x ≡ no_code)
       → Blanking table k bytes old (set new j x) r (j + 1)
   blanking_byte room {new} {run} {j} {r} {x} A h e f =
-      blanking_next some r x room A (omega (arith, n_ends k bytes some long)) (run_next A.ran (e ∙ rw (end_at k bytes some j))) f
+      blanking_next some r x room A (last_inside k bytes some long h) (run_next A.ran (e ∙ rw (last_at k bytes some j))) f
 
-  pub blanking_done : {new : List ℕ} {run j : ℕ} → Blanking table k bytes old new run j → length (ends k bytes) ≤ j
+  pub blanking_done : {new : List ℕ} {run j : ℕ} → Blanking table k bytes old new run j → length (lasts k bytes) ≤ j
       → Blanked table k bytes old new (length bytes + 1 - k)
-  blanking_done A h = blanked_all some A (omega (arith, n_ends k bytes some long))
-
-pub blanked_none : (table : RankTable) (k : ℕ) (bytes old : List ℕ) → length bytes < k → Blanked table k bytes old old (length bytes + 1 - k)
-blanked_none table k bytes old h = let z : length bytes + 1 - k ≡ 0 = omega arith in rw z (blank_none table k bytes old)
+  blanking_done A h = blanked_all some A (lasts_end k bytes some long h)
 
 -- ---- codes, then blanks
 

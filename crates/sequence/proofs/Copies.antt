@@ -1,10 +1,7 @@
 -- Copies with T for U (document 02, K2) of sequences: where the settings have T and no U, a call along a sequence and one along its copy answer and leave the
 -- same, on both paths, of which the contract is one (`same_sequence`). Byte by byte and window by window.
-use mathlib.Core.Path.{◌≡◌, refl, sym, ap, ◌∙◌}
-use mathlib.Core.Bool.{true}
-use mathlib.Core.List.{List, [], ◌∷◌, map}
-use Prim.Native.Nat.{ℕ}
-use lib.ListN.{length, length-map}
+use Rattle.std.proofs.Common.{◌≡◌, refl, sym, ap, ◌∙◌, true, List, [], ◌∷◌, map, ℕ, length}
+use lib.ListN.{length-map}
 use Rattle.laws.specs.Windows.{windows}
 use Rattle.laws.proofs.Windows.{windows-mapped}
 use Rattle.settings.specs.Grounds.{Outcome}

@@ -1,14 +1,7 @@
--- A sequence in batches: the ranks of a batch in the first places of an array, its numbers, and how the numbers of the batches follow each other.
+-- A sequence in batches: the numbers of a batch, and how the numbers of the batches follow each other.
 -- From the windows of the first letters and of the later ones (`windows_take`, `windows_drop` of the crate windows).
-use mathlib.Core.Path.{◌≡◌, refl, sym, ap, ◌∙◌}
-use mathlib.Core.List.{List, [], ◌++◌, map, append-nil}
-use mathlib.Core.Bool.{Bool, true}
-use Rattle.std.specs.Prelude.{Option}
-use Prim.Native.Nat.{ℕ, ◌+◌, ◌-◌, ◌<◌, ◌≤◌, min}
-use native.Mathlib.Omega.{arith}
-use lib.ListN.{length, take, drop, length-drop, drop_of_length-le}
-use lib.Seq.{take_all}
-use Rattle.laws.proofs.Buffers.{front_is, front_fits, Written, written_none, written_more, written_length, written_all}
+use Rattle.std.proofs.Common.{◌≡◌, sym, ap, ◌∙◌, List, [], ◌++◌, map, append-nil, Bool, true, ℕ, ◌+◌, ◌-◌, ◌<◌, ◌≤◌, min, arith, length, take, drop, length-drop, drop_of_length-le, take_all}
+use Rattle.laws.proofs.Buffers.{Written, written_none, written_more, written_length, written_all}
 use Rattle.laws.proofs.Lists.{map_take, map_drop}
 use Rattle.encoding.specs.Words.{Mirror}
 use Rattle.laws.specs.Windows.{windows}
@@ -21,20 +14,7 @@ use Rattle.words.specs.Needs.{ranks_by}
 use Rattle.sequence.specs.Needs.{all_ranked, code_by, Blanked}
 use Rattle.windows.proofs.Windows.{windows_take, windows_drop, length_codes}
 use Rattle.ranks.proofs.WordParts.{length_part}
-use Rattle.sequence.proofs.RankTables.{length-ranks_by}
 use Rattle.sequence.proofs.Blanks.{blanked_codes, blanked_nothing}
-
--- ---- the ranks of a batch, R, written over the first places of an array
-
-module _ (rank : ℕ → Option ℕ) (bytes array R : List ℕ) (is : R ≡ ranks_by rank bytes) where
-  n_ranks : length R ≡ length bytes
-  n_ranks = ap length is ∙ length-ranks_by rank bytes
-
-  pub ranks_in_array : take (length bytes) (R ++ drop (length bytes) array) ≡ ranks_by rank bytes
-  ranks_in_array = front_is R (drop (length bytes) array) refl n_ranks ∙ is
-
-  pub ranks_fit : length bytes ≤ length (R ++ drop (length bytes) array)
-  ranks_fit = front_fits R (drop (length bytes) array) refl n_ranks
 
 -- ---- the numbers of a batch
 

@@ -1,13 +1,6 @@
 -- The table of all bytes' ranks stands for the settings' ranks in the numbers of all windows of bytes (`codes_by_table`). From the laws of ranks by a table of
 -- words.
-use mathlib.Core.Path.{◌≡◌, ap, refl, ap₂}
-use mathlib.Core.Bool.{Bool, cond, true, false, ◌&&◌}
-use mathlib.Core.List.{List, map, [], ◌∷◌}
-use Prim.Native.Nat.{ℕ, ◌<◌, suc}
-use native.Mathlib.Omega.{arith}
-use lib.Dec.{leb}
-use lib.ListN.{length, take}
-use Rattle.std.specs.Prelude.{is_some}
+use Rattle.std.proofs.Common.{◌≡◌, ap, refl, ap₂, Bool, cond, true, false, ◌&&◌, List, map, [], ◌∷◌, ℕ, ◌<◌, suc, arith, leb, length, take, is_some}
 use Rattle.encoding.specs.Calls.{rank_or_zero}
 use Rattle.words.specs.Needs.{ranks_by}
 use Rattle.words.proofs.LetterLoops.{or_zero_below}

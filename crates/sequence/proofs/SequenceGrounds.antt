@@ -1,10 +1,5 @@
 -- The grounds of the calls along a sequence one after the other, as the calls meet them, and the numbers by a coder of the settings.
-use mathlib.Core.Path.{◌≡◌, sym, ap, ◌∙◌}
-use mathlib.Core.List.{List}
-use Rattle.std.specs.Prelude.{None}
-use Prim.Native.Nat.{ℕ, ◌+◌, ◌-◌, ◌<◌, ◌≤◌}
-use borrow.Author.Tests.{lt-ltb, le-ltb}
-use lib.ListN.{length}
+use Rattle.std.proofs.Common.{◌≡◌, sym, ap, ◌∙◌, List, None, ℕ, ◌+◌, ◌-◌, ◌<◌, ◌≤◌, lt-ltb, le-ltb, length}
 use Rattle.settings.specs.declared.Refusal.{Refusal}
 use Rattle.settings.specs.declared.Settings.{Settings}
 use Rattle.settings.specs.Grounds.{given, refused, ground_of, ground_at, too_short, outcome}

@@ -1,13 +1,7 @@
 -- What is claimed of the codes along a sequence. Each theorem stands below its statement in words; docs/CLAIMS.md cites them by name. The contracts
 -- of `codes` and `codes_two_bit` are one definition, `FillsCodes`.
-use mathlib.Core.Path.{◌≡◌, refl, sym, ap, ◌∙◌}
-use mathlib.Core.Bool.{Bool, true, false, cond}
-use mathlib.Core.List.{List, ◌++◌, map, map-append}
-use mathlib.Core.Logic.{◌↔◌}
-use Rattle.std.specs.Prelude.{None}
-use Prim.Native.Nat.{ℕ, suc, ◌+◌, ◌-◌, ◌<◌, ◌≤◌}
-use native.Mathlib.Omega.{arith}
-use lib.ListN.{length, get_or, take, drop}
+use Rattle.std.proofs.Common.{◌≡◌, refl, sym, ap, ◌∙◌, Bool, true, false, cond, List, ◌++◌, map, ◌↔◌, None, ℕ, suc, ◌+◌, ◌-◌, ◌<◌, ◌≤◌, arith, length, get_or, take, drop}
+use mathlib.Core.List.{map-append}
 use Rattle.laws.specs.Text.{bytes}
 use Rattle.settings.specs.Settings.{mirror_of, settings_ground}
 use Rattle.settings.proofs.SettingsGrounds.{limits}

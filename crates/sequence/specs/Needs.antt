@@ -1,7 +1,6 @@
 -- What functions below the calls along a sequence ask of each other and promise each other; the contracts of `codes` and `codes_two_bit` do not rest on it:
 -- the ranks and codes of bytes by a table of ranks, and the windows with a byte that is no letter.
-use Rattle.std.specs.Prelude.{◌≡◌, Bool, true, false, cond, ◌&&◌, List, [], ◌∷◌, map, ℕ, ◌+◌, ◌<◌, ◌≤◌, length, get_or}
-use Rattle.std.specs.Prelude.{Option, is_some}
+use Rattle.std.specs.Prelude.{◌≡◌, Bool, true, false, cond, ◌&&◌, List, [], ◌∷◌, map, ℕ, ◌+◌, ◌<◌, ◌≤◌, length, get_or, Option, is_some}
 use Rattle.settings.specs.declared.RankTable.{RankTable}
 use Rattle.settings.specs.RankTables.{rank_by_table}
 use Rattle.encoding.specs.Words.{Mirror}

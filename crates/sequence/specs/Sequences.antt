@@ -1,6 +1,5 @@
 -- Document 01, "Codes along a sequence", with the grounds for refusing the call: what both paths, the general and the two-bit one, promise.
-use Rattle.std.specs.Prelude.{ℕ, Bool, true, cond, ◌&&◌, List, [], ◌∷◌, map, length}
-use Rattle.std.specs.Prelude.{Option, is_some}
+use Rattle.std.specs.Prelude.{ℕ, Bool, true, cond, ◌&&◌, List, [], ◌∷◌, map, length, Option, is_some}
 use Rattle.settings.specs.Grounds.{Ground, Outcome, ground, ground_at, too_short, ◌or_else◌, Overwrites}
 use Rattle.settings.specs.Settings.{rank_in, mirror_of, settings_ground}
 use Rattle.settings.specs.Limits.{too_long}

@@ -1,10 +1,6 @@
 -- The codes of all windows as they are written into a lent list. By two-bit numbers: one a turn from the first on. By the kernel for every alphabet: the
 -- first before the loop, then one a turn.
-use mathlib.Core.Path.{◌≡◌, sym, ◌∙◌}
-use mathlib.Core.List.{List}
-use Prim.Native.Nat.{ℕ, ◌+◌, ◌-◌, ◌<◌, ◌≤◌}
-use native.Mathlib.Omega.{arith}
-use lib.ListN.{length, set, length-set}
+use Rattle.std.proofs.Common.{◌≡◌, sym, ◌∙◌, List, ℕ, ◌+◌, ◌-◌, ◌<◌, ◌≤◌, arith, length, set, length-set}
 use Rattle.laws.proofs.Buffers.{Written, written_none, written_first, written_next, written_rest, written_length, written_all}
 use Rattle.encoding.specs.Words.{Mirror}
 use Rattle.encoding.specs.Codes.{code}

@@ -1,9 +1,5 @@
 -- Parts of a list of ranks: their plain rank and their mirror's with a letter more at either end.
-use mathlib.Core.Path.{◌≡◌, ap, ◌∙◌}
-use mathlib.Core.List.{List}
-use Prim.Native.Nat.{ℕ, suc, ◌+◌, ◌*◌, ◌^◌, ◌<◌, ◌≤◌}
-use native.Mathlib.Omega.{arith}
-use lib.ListN.{length, get_or}
+use Rattle.std.proofs.Common.{◌≡◌, ap, ◌∙◌, List, ℕ, suc, ◌+◌, ◌*◌, ◌^◌, ◌<◌, ◌≤◌, arith, length, get_or}
 use Rattle.encoding.specs.Words.{Mirror, Ranks, mirror_rank, mirror, plain}
 use Rattle.encoding.proofs.Ends.{plain-snoc, length-mirror, mirror-cons, mirror-snoc}
 use Rattle.encoding.proofs.Canonical.{plain-below, Ranks-mirror}

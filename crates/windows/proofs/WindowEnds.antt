@@ -1,14 +1,8 @@
 -- The code of a window by its ends: of k letters at place j of a list d of ranks, with first letter l and r the last one as the mirror shows it.
 -- Where l and r differ it is a sum of the pair's rank and the plain rank of the letters between or of their mirror; where they are equal it goes
 -- on with the window within. From encoding's CodesByEnds.
-use mathlib.Core.Path.{◌≡◌, sym, ap, ◌∙◌}
-use mathlib.Core.List.{List, [], ◌∷◌, ◌++◌}
-use mathlib.Core.Logic.{◌≢◌}
-use Prim.Native.Nat.{ℕ, zero, suc, ◌+◌, ◌-◌, ◌*◌, ◌/◌, ◌^◌, ◌<◌, ◌≤◌, min, max}
-use native.Mathlib.Nat.{pow-suc}
+use Rattle.std.proofs.Common.{◌≡◌, sym, ap, ◌∙◌, List, [], ◌∷◌, ◌++◌, ◌≢◌, ℕ, zero, suc, ◌+◌, ◌-◌, ◌*◌, ◌/◌, ◌^◌, ◌<◌, ◌≤◌, min, max, pow-suc, arith, length, get_or}
 use native.Mathlib.Decide.{dec_le}
-use native.Mathlib.Omega.{arith}
-use lib.ListN.{length, get_or}
 use lib.Arith.{digits_div, lt_of_le-ne}
 use Rattle.settings.specs.Settings.{classes}
 use Rattle.encoding.specs.Words.{Mirror, Ranks, mirror_rank, mirror, plain}

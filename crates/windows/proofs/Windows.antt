@@ -1,12 +1,8 @@
 -- The windows of a list: the later and the first of them, the one at a place, and the law for batches: a list cut into pieces that overlap by
 -- k - 1 letters has the windows of the pieces, one piece after the other.
-use mathlib.Core.Path.{◌≡◌, refl, sym, ap, ap₂, ◌∙◌}
-use mathlib.Core.List.{List, [], ◌∷◌, ◌++◌, map}
-use Prim.Native.Nat.{ℕ, zero, suc, ◌+◌, ◌-◌, ◌≤◌}
+use Rattle.std.proofs.Common.{◌≡◌, refl, sym, ap, ap₂, ◌∙◌, List, [], ◌∷◌, ◌++◌, map, ℕ, zero, suc, ◌+◌, ◌-◌, ◌≤◌, arith, length, get_or, take, drop, length-drop, take-append-drop, take-take, length-take-le}
 use native.Mathlib.Decide.{dec_le}
-use native.Mathlib.Omega.{arith}
-use lib.ListN.{length, get_or, take, drop, length-drop, length-map, take-append-drop}
-use lib.Seq.{take-take, length-take-le}
+use lib.ListN.{length-map}
 use Rattle.laws.proofs.Windows.{windows-none, windows-first, length-windows}
 use Rattle.laws.specs.Windows.{windows}
 

@@ -1,9 +1,8 @@
--- `two_bit::differing_letters` meets its contract. The highest bit in which two numbers differ tells the highest letter (TwoBit).
-use mathlib.Core.Path.{refl}
-use native.Mathlib.Omega.{arith}
-use lib.Bits.{bit_xor, xor_lt}
+-- `two_bit::differing_letters` meets its contract. The highest bit in which two numbers differ tells the highest letter (TwoRanks).
+use Rattle.std.proofs.Common.{refl, arith, bit_xor}
+use lib.Bits.{xor_lt}
 use lib.Count.{count_leading_zeros, leading_le}
-use Rattle.two_bit.proofs.TwoBit.{differ_at}
+use Rattle.two_bit.proofs.TwoRanks.{differ_at}
 use Rattle.two_bit.proofs.differing_letters.Goals as goal
 
 pub overflow_cast-z : goal.overflow_cast-z

@@ -1,7 +1,7 @@
--- `two_bit::low_letters` meets its contract. A mask of 2i ones is a remainder by 4^i (TwoBit).
+-- `two_bit::low_letters` meets its contract. A mask of 2i ones is a remainder by 4^i (TwoRanks).
 use native.Mathlib.Nat.{one-le-pow}
-use native.Mathlib.Omega.{arith}
-use Rattle.two_bit.proofs.TwoBit.{low_is}
+use Rattle.std.proofs.Common.{arith}
+use Rattle.two_bit.proofs.TwoRanks.{low_is}
 use Rattle.two_bit.proofs.low_letters.Goals as goal
 
 pub overflow_sub-result : goal.overflow_sub-result

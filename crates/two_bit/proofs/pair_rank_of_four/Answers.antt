@@ -1,5 +1,5 @@
--- `two_bit::pair_rank_of_four` meets its contract: a case for each first letter (TwoBit).
-use Rattle.two_bit.proofs.TwoBit.{pair_rank_four}
+-- `two_bit::pair_rank_of_four` meets its contract: a case for each first letter (TwoRanks).
+use Rattle.two_bit.proofs.TwoRanks.{pair_rank_four}
 use Rattle.two_bit.proofs.pair_rank_of_four.Goals as goal
 
 pub returns : goal.returns

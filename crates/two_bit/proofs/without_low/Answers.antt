@@ -1,5 +1,5 @@
--- `two_bit::without_low` meets its contract. A shift by 2i bits is a quotient by 4^i (TwoBit).
-use Rattle.two_bit.proofs.TwoBit.{four_div}
+-- `two_bit::without_low` meets its contract. A shift by 2i bits is a quotient by 4^i (TwoRanks).
+use Rattle.two_bit.proofs.TwoRanks.{four_div}
 use Rattle.two_bit.proofs.without_low.Goals as goal
 
 pub returns : goal.returns
