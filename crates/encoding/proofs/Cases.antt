@@ -11,6 +11,7 @@ use Rattle.encoding.specs.Exact.{ExactRank, ExactShift, ExactPairs, NothingCutOf
 use Rattle.encoding.specs.WordsOfCodes.{word_of_plain, pair_of_rank, middle_of_code, word_of}
 use Rattle.encoding.specs.Calls.{ranks_of, in_capitals, foreign_from, code_ground, read_ground, mirror_ground, coding, reading, word_bytes, mirror_bytes, first_picked}
 use Rattle.encoding.proofs.Exact.{nothing_cut_off}
+use Rattle.settings.specs.Given.{the_settings}
 
 -- 0, 1, .. and so on, n numbers from i.
 abbrev numbers : ℕ → ℕ → List ℕ
@@ -19,13 +20,13 @@ numbers i (suc n) = i ∷ numbers (suc i) n
 
 -- What coding a word answers, and what reading a code writes.
 abbrev code_of : String → ℕ → ℕ → String → Outcome ℕ
-code_of letters k mirror word = coding (bytes letters) k mirror (bytes word)
+code_of letters k mirror word = coding (the_settings (bytes letters) k mirror) (bytes word)
 
 abbrev codes_of : String → ℕ → ℕ → List String → List (Outcome ℕ)
 codes_of letters k mirror words = map (code_of letters k mirror) words
 
 abbrev words_of : String → ℕ → ℕ → ℕ → List (List ℕ)
-words_of letters k mirror n = map (word_bytes (bytes letters) k mirror) (numbers 0 n)
+words_of letters k mirror n = map (word_bytes (the_settings (bytes letters) k mirror)) (numbers 0 n)
 
 -- Each code from 0 up is given to just one of these words.
 abbrev InOrder : String → ℕ → ℕ → ℕ → List String → Type 0
@@ -46,22 +47,22 @@ pub starred_cases : record {
   -- ABC, reversal, k 2, codes 0 to 5: AA BB CC AB AC BC.
   reversal_2 : InOrder "ABC" 2 0 6 ("AA" ∷ "BB" ∷ "CC" ∷ "AB" ∷ "AC" ∷ "BC" ∷ []);
   -- ACGT, complement, k 31: code 2,305,843,009,213,693,951 is G, 29 T, A; the next is refused 8.
-  complement_31 : word_bytes (bytes "ACGT") 31 1 2305843009213693951 ≡ bytes "GTTTTTTTTTTTTTTTTTTTTTTTTTTTTTA";
+  complement_31 : word_bytes (the_settings (bytes "ACGT") 31 1) 2305843009213693951 ≡ bytes "GTTTTTTTTTTTTTTTTTTTTTTTTTTTTTA";
   complement_31_code : code_of "ACGT" 31 1 "GTTTTTTTTTTTTTTTTTTTTTTTTTTTTTA" ≡ given 2305843009213693951;
-  complement_31_read : reading (bytes "ACGT") 31 1 2305843009213693951 31 ≡ given 31;
-  complement_31_next : reading (bytes "ACGT") 31 1 2305843009213693952 31 ≡ refused (8, 0);
+  complement_31_read : reading (the_settings (bytes "ACGT") 31 1) 2305843009213693951 31 ≡ given 31;
+  complement_31_next : reading (the_settings (bytes "ACGT") 31 1) 2305843009213693952 31 ≡ refused (8, 0);
   -- Document 02, K10: "ABC, k 1: B 0, A and C 1".
   odd_1 : codes_of "ABC" 1 1 ("B" ∷ "A" ∷ "C" ∷ []) ≡ (given 0 ∷ given 1 ∷ given 1 ∷ []);
   -- ABC, complement, k 3: 15 codes, each read and coded back, the three palindromes first; the next is refused 8.
   odd_3 :
       InOrder "ABC" 3 1 15
       ("ABC" ∷ "BBB" ∷ "CBA" ∷ "AAC" ∷ "BAB" ∷ "CAA" ∷ "AAB" ∷ "ABB" ∷ "ACB" ∷ "AAA" ∷ "ABA" ∷ "ACA" ∷ "BAA" ∷ "BBA" ∷ "BCA" ∷ []);
-  odd_3_next : reading (bytes "ABC") 3 1 15 3 ≡ refused (8, 0);
+  odd_3_next : reading (the_settings (bytes "ABC") 3 1) 15 3 ≡ refused (8, 0);
   -- ABC, complement, k 39, the largest: code 2,026,277,577,090,618,866 is B, 37 C, A; the next is refused 8, and k 40 is refused 4.
-  odd_39 : word_bytes (bytes "ABC") 39 1 2026277577090618866 ≡ bytes "BCCCCCCCCCCCCCCCCCCCCCCCCCCCCCCCCCCCCCA";
+  odd_39 : word_bytes (the_settings (bytes "ABC") 39 1) 2026277577090618866 ≡ bytes "BCCCCCCCCCCCCCCCCCCCCCCCCCCCCCCCCCCCCCA";
   odd_39_code : code_of "ABC" 39 1 "BCCCCCCCCCCCCCCCCCCCCCCCCCCCCCCCCCCCCCA" ≡ given 2026277577090618866;
-  odd_39_next : reading (bytes "ABC") 39 1 2026277577090618867 39 ≡ refused (8, 0);
-  odd_40 : reading (bytes "ABC") 40 1 0 40 ≡ refused (4, 0);
+  odd_39_next : reading (the_settings (bytes "ABC") 39 1) 2026277577090618867 39 ≡ refused (8, 0);
+  odd_40 : reading (the_settings (bytes "ABC") 40 1) 0 40 ≡ refused (4, 0);
   -- Document 02, K2: "ACGT, complement, k 2, UA has code 3", as TA has; "U and u have T's rank"; "Words that we write keep T".
   read_as_T : codes_of "ACGT" 2 1 ("UA" ∷ "uA" ∷ "TA" ∷ []) ≡ (given 3 ∷ given 3 ∷ given 3 ∷ []);
   written_with_T : mirror_bytes (bytes "ACGT") 1 (bytes "AUu") ≡ bytes "AAT";
@@ -103,9 +104,9 @@ starred_cases = record {
 -- letters the place of the first.
 pub number_order : record {
   coded_5_9 : code_of "ACGT" 2 1 "N" ≡ refused (5, 0);
-  read_7_8 : reading (bytes "ACGT") 2 1 10 1 ≡ refused (7, 2);
-  mirrored_5_7 : mirror_ground (bytes "ACGT") 2 1 (bytes "A") 1 ≡ Some (5, 0);
-  mirrored_7_9 : mirror_ground (bytes "ACGT") 2 1 (bytes "AN") 1 ≡ Some (7, 2);
+  read_7_8 : reading (the_settings (bytes "ACGT") 2 1) 10 1 ≡ refused (7, 2);
+  mirrored_5_7 : mirror_ground (the_settings (bytes "ACGT") 2 1) (bytes "A") 1 ≡ Some (5, 0);
+  mirrored_7_9 : mirror_ground (the_settings (bytes "ACGT") 2 1) (bytes "AN") 1 ≡ Some (7, 2);
   first_place : code_of "ACGT" 4 1 "ANAN" ≡ refused (9, 1);
 }
 unfolding is_capital is_in different_capitals good_letters capital_of reads_u_as_t read_as place_from is_odd half_up classes bad_size settings_ground foreign_from code_ground read_ground

@@ -6,6 +6,7 @@ use Rattle.settings.specs.Settings.{rank_in, mirror_of, classes, settings_ground
 use Rattle.encoding.specs.Words.{mirror, plain}
 use Rattle.encoding.specs.Codes.{code}
 use Rattle.encoding.specs.WordsOfCodes.{word_of}
+use Rattle.settings.specs.Given.{Given}
 
 -- ---- from bytes to ranks and back
 
@@ -42,44 +43,44 @@ foreign_from letters n [] = None
 foreign_from letters n (b ∷ bs) = here_or (rank_in letters b) n (foreign_from letters (suc n) bs)
 
 -- Coding a word: the grounds 1, 2, 4, 5 and 9.
-unfoldable pub code_ground : (letters : List ℕ) (k mirror : ℕ) (word : List ℕ) → Option Ground
-code_ground letters k mirror word =
-    settings_ground letters k mirror
-    or_else ground 5 (wrong_length k word)
-    or_else ground_at 9 (foreign_from letters 0 word)
+unfoldable pub code_ground : (settings : Given) (word : List ℕ) → Option Ground
+code_ground settings word =
+    settings_ground settings
+    or_else ground 5 (wrong_length settings.k word)
+    or_else ground_at 9 (foreign_from settings.letters 0 word)
 
 -- Reading a code: the grounds 1, 2, 4, 7 and 8.
-unfoldable pub read_ground : (letters : List ℕ) (k mirror q room : ℕ) → Option Ground
-read_ground letters k mirror q room =
-    settings_ground letters k mirror
-    or_else ground_at 7 (too_short room k)
-    or_else ground 8 (not (ltb q (classes (length letters) (mirror_of mirror) k)))
+unfoldable pub read_ground : (settings : Given) (q room : ℕ) → Option Ground
+read_ground settings q room =
+    settings_ground settings
+    or_else ground_at 7 (too_short room settings.k)
+    or_else ground 8 (not (ltb q (classes (length settings.letters) (mirror_of settings.mirror) settings.k)))
 
 -- Mirroring a word: the grounds 1, 2, 4, 5, 7 and 9.
-unfoldable pub mirror_ground : (letters : List ℕ) (k mirror : ℕ) (word : List ℕ) (room : ℕ) → Option Ground
-mirror_ground letters k mirror word room =
-    settings_ground letters k mirror
-    or_else ground 5 (wrong_length k word)
-    or_else ground_at 7 (too_short room k)
-    or_else ground_at 9 (foreign_from letters 0 word)
+unfoldable pub mirror_ground : (settings : Given) (word : List ℕ) (room : ℕ) → Option Ground
+mirror_ground settings word room =
+    settings_ground settings
+    or_else ground 5 (wrong_length settings.k word)
+    or_else ground_at 7 (too_short room settings.k)
+    or_else ground_at 9 (foreign_from settings.letters 0 word)
 
 -- The pick is refused where coding either word is; which ground it is does not show.
-unfoldable pub pick_ground : (letters : List ℕ) (k mirror : ℕ) (first second : List ℕ) → Option Ground
-pick_ground letters k mirror first second = code_ground letters k mirror first or_else code_ground letters k mirror second
+unfoldable pub pick_ground : (settings : Given) (first second : List ℕ) → Option Ground
+pick_ground settings first second = code_ground settings first or_else code_ground settings second
 
 -- ---- answers
 
 -- "Word coding answers the code."
-unfoldable pub coding : (letters : List ℕ) (k mirror : ℕ) (word : List ℕ) → Outcome ℕ
-coding letters k m word = outcome (code_ground letters k m word) (code (length letters) (mirror_of m) k (ranks_of letters word))
+unfoldable pub coding : (settings : Given) (word : List ℕ) → Outcome ℕ
+coding settings word = outcome (code_ground settings word) (code (length settings.letters) (mirror_of settings.mirror) settings.k (ranks_of settings.letters word))
 
 -- Reading answers how many bytes it wrote, which is k.
-abbrev pub reading : (letters : List ℕ) (k mirror q room : ℕ) → Outcome ℕ
-reading letters k m q room = outcome (read_ground letters k m q room) k
+abbrev pub reading : (settings : Given) (q room : ℕ) → Outcome ℕ
+reading settings q room = outcome (read_ground settings q room) settings.k
 
 -- "A code below the number of classes gives its canonical word, in capitals"
-unfoldable pub word_bytes : (letters : List ℕ) (k mirror q : ℕ) → List ℕ
-word_bytes letters k m q = in_capitals letters (word_of (length letters) (mirror_of m) k q)
+unfoldable pub word_bytes : (settings : Given) (q : ℕ) → List ℕ
+word_bytes settings q = in_capitals settings.letters (word_of (length settings.letters) (mirror_of settings.mirror) settings.k q)
 
 -- "Mirroring writes a word's mirror in capitals"
 unfoldable pub mirror_bytes : (letters : List ℕ) (mirror : ℕ) (word : List ℕ) → List ℕ

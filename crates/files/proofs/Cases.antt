@@ -10,11 +10,12 @@ use Rattle.files.specs.declared.Kind.TheVariants.{Fasta, Fastq}
 use Rattle.files.specs.File.{file_of}
 use Rattle.settings.specs.Limits.{too_long}
 use Rattle.files.specs.Scan.{scan_ground}
+use Rattle.settings.specs.Given.{the_settings}
 
 -- The grounds of a scan under some settings, of a FASTA file with a stray byte.
 unfoldable ground_before_stray : (letters : List ℕ) (k mirror : ℕ) → Option Ground
 unfolding is_letter lf_next line_item item next items_from fault_from is_capital is_in different_capitals good_letters bad_size settings_ground too_long scan_ground
-ground_before_stray letters k mirror = scan_ground letters k mirror (file_of Fasta (bytes "*"))
+ground_before_stray letters k mirror = scan_ground (the_settings letters k mirror) (file_of Fasta (bytes "*"))
 
 -- "Checks go in number order": the settings' grounds, then those of the file. Ground 6, which comes between them, is of files too long to be written here:
 -- `long_file` in ScanGrounds shows it.
@@ -47,7 +48,7 @@ odd_bad_byte = refl
 unfoldable ground_before_record : (letters : List ℕ) (k mirror : ℕ) → Option Ground
 unfolding lf_next on_first lines text_of first_byte_is is_letter is_there unless_at first_failing is_quality record_fault fastq_fault
     is_capital is_in different_capitals good_letters bad_size settings_ground too_long scan_ground
-ground_before_record letters k mirror = scan_ground letters k mirror (file_of Fastq (bytes "*"))
+ground_before_record letters k mirror = scan_ground (the_settings letters k mirror) (file_of Fastq (bytes "*"))
 
 record_bad_k : ground_before_record (bytes "ACGT") 32 1 ≡ Some (4, 0)
 unfolding ground_before_record

@@ -14,6 +14,7 @@ use Rattle.files.specs.File.{File, start_of, fault_of, file_fault, file_windows,
 use Rattle.settings.specs.Limits.{too_long}
 use Rattle.files.specs.Scan.{scan_ground}
 use Rattle.files.specs.Copies.{FileCopy}
+use Rattle.settings.specs.Given.{the_settings}
 
 fault_of_kind : (kind : Kind) {bytes copy : List ℕ} → CopyWithT bytes copy → fault_of kind bytes ≡ fault_of kind copy
 fault_of_kind Fasta = same_fault Start false 0
@@ -31,7 +32,7 @@ module _ {file copy : File} (C : FileCopy file copy) where
     same_file_numbers = rw C.kind (same_numbers (rank_in letters) (same_rank letters reads) k (start_of file.kind) C.bytes)
 
     pub same_scan : (mirror : ℕ)
-        → outcome (scan_ground letters k mirror file) (file_numbers (rank_in letters) k file)
-        ≡ outcome (scan_ground letters k mirror copy) (file_numbers (rank_in letters) k copy)
+        → outcome (scan_ground (the_settings letters k mirror) file) (file_numbers (rank_in letters) k file)
+        ≡ outcome (scan_ground (the_settings letters k mirror) copy) (file_numbers (rank_in letters) k copy)
     unfolding scan_ground too_long
     same_scan mirror = rw (same_length C.bytes, same_file_fault, same_file_numbers)

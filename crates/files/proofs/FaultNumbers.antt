@@ -15,6 +15,7 @@ use Rattle.files.specs.declared.Kind.TheVariants.{Fasta, Fastq}
 use Rattle.files.specs.File.{File, fault_of, file_fault}
 use Rattle.settings.specs.Limits.{too_long}
 use Rattle.files.specs.Scan.{scan_ground}
+use Rattle.settings.specs.Given.{the_settings}
 
 -- The numbers of the faults of a kind of file: 11 does not occur in FASTQ, nor 15 to 17 in FASTA.
 abbrev pub fault_numbers : Kind → List ℕ
@@ -42,10 +43,10 @@ fault_numbers_lem file = fault_has (NumberIn (fault_numbers file.kind)) (length 
 abbrev pub scan_numbers : Kind → List ℕ
 scan_numbers kind = 1 ∷ 2 ∷ 4 ∷ 6 ∷ fault_numbers kind
 
-pub scan_numbers_lem : (letters : List ℕ) (k m : ℕ) (file : File) → RefusedOnlyBy (scan_numbers file.kind) (scan_ground letters k m file)
+pub scan_numbers_lem : (letters : List ℕ) (k m : ℕ) (file : File) → RefusedOnlyBy (scan_numbers file.kind) (scan_ground (the_settings letters k m) file)
 unfolding is_in scan_ground
 scan_numbers_lem letters k m file =
     let Q = NumberIn (scan_numbers file.kind) in
-    then_has Q (settings_ground letters k m) (ground 6 (too_long file.bytes) or_else file_fault file) (settings_has Q letters k m refl refl refl)
+    then_has Q (settings_ground (the_settings letters k m)) (ground 6 (too_long file.bytes) or_else file_fault file) (settings_has Q letters k m refl refl refl)
     (λ _. then_has Q (ground 6 (too_long file.bytes)) (file_fault file) (test_has Q 6 (too_long file.bytes) refl)
     (λ _ f e. in_behind f.0 (1 ∷ 2 ∷ 4 ∷ 6 ∷ []) (fault_numbers file.kind) (fault_numbers_lem file f e)))

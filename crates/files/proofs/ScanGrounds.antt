@@ -3,7 +3,7 @@
 use Rattle.std.proofs.Common.{◌≡◌, sym, ℕ, ◌+◌, ◌<◌, ◌≤◌, false, None, List, length, lt-ltb, le-ltb}
 use Rattle.lines.specs.Lines.{lines}
 use Rattle.settings.specs.Grounds.{Ground, Outcome, given, refused, outcome}
-use Rattle.settings.specs.declared.Settings.{Settings}
+use Rattle.settings.specs.declared.Checked.{Checked}
 use Rattle.settings.specs.Settings.{rank_in, settings_ground, settings_of}
 use Rattle.settings.specs.RankTables.{rank_by_table, RanksOf}
 use Rattle.settings.specs.declared.RankTable.{RankTable}
@@ -19,6 +19,7 @@ use Rattle.fastq.proofs.OnlySequence.{clean_items}
 use Rattle.files.specs.File.{File, start_of, items, file_fault, file_numbers}
 use Rattle.settings.specs.Limits.{too_long}
 use Rattle.files.specs.Scan.{scan_ground}
+use Rattle.settings.specs.Given.{the_settings}
 
 -- ---- FASTQ
 
@@ -30,9 +31,9 @@ scan_clean f n e = rw (clean_items f (sym e), sym e)
 -- ---- both kinds
 
 -- Where the settings' check answers settings, so that no ground of theirs applies.
-module _ (letters : List ℕ) (k mirror : ℕ) {st : Settings} (checked : given st ≡ outcome (settings_ground letters k mirror) (settings_of letters k mirror)) where
-  none_applies : settings_ground letters k mirror ≡ None
-  none_applies = (passed (settings_of letters k mirror) (settings_ground letters k mirror) checked).none_applies_lem
+module _ (letters : List ℕ) (k mirror : ℕ) {st : Checked} (checked : given st ≡ outcome (settings_ground (the_settings letters k mirror)) (settings_of (the_settings letters k mirror))) where
+  none_applies : settings_ground (the_settings letters k mirror) ≡ None
+  none_applies = (passed (settings_of (the_settings letters k mirror)) (settings_ground (the_settings letters k mirror)) checked).none_applies_lem
 
   pub few_letters : length letters ≤ 16
   few_letters = (good_settings letters k mirror none_applies).few
@@ -42,14 +43,14 @@ module _ (letters : List ℕ) (k mirror : ℕ) {st : Settings} (checked : given 
 
 module _ (letters : List ℕ) (k mirror : ℕ) (file : File) where
   abbrev answer : Outcome Numbers
-  answer = outcome (scan_ground letters k mirror file) (file_numbers (rank_in letters) k file)
+  answer = outcome (scan_ground (the_settings letters k mirror) file) (file_numbers (rank_in letters) k file)
 
   -- A refusal of the settings is the answer, whatever the file is.
-  pub bad_settings : (f : Ground) → refused f ≡ outcome (settings_ground letters k mirror) (settings_of letters k mirror) → refused f ≡ answer
+  pub bad_settings : (f : Ground) → refused f ≡ outcome (settings_ground (the_settings letters k mirror)) (settings_of (the_settings letters k mirror)) → refused f ≡ answer
   unfolding scan_ground
-  bad_settings f e = refused_on f (settings_of letters k mirror) (file_numbers (rank_in letters) k file) (settings_ground letters k mirror) _ e
+  bad_settings f e = refused_on f (settings_of (the_settings letters k mirror)) (file_numbers (rank_in letters) k file) (settings_ground (the_settings letters k mirror)) _ e
 
-  module _ {st : Settings} (checked : given st ≡ outcome (settings_ground letters k mirror) (settings_of letters k mirror)) where
+  module _ {st : Checked} (checked : given st ≡ outcome (settings_ground (the_settings letters k mirror)) (settings_of (the_settings letters k mirror))) where
     pub long_file : 16777216 < length file.bytes → refused (6, 0) ≡ answer
     unfolding scan_ground too_long
     long_file h = rw (none_applies letters k mirror checked, lt-ltb 16777216 (length file.bytes) h)
@@ -67,10 +68,10 @@ module _ (letters : List ℕ) (k mirror : ℕ) (file : File) where
 
 -- What a scan takes in adds up: letters = windows + foreign + edge, for every answer that is no refusal.
 pub taken_adds : (letters : List ℕ) (k mirror : ℕ) (file : File) (n : Numbers)
-    → given n ≡ outcome (scan_ground letters k mirror file) (file_numbers (rank_in letters) k file)
+    → given n ≡ outcome (scan_ground (the_settings letters k mirror) file) (file_numbers (rank_in letters) k file)
     → n.letters ≡ n.windows + n.foreign + n.edge
 unfolding scan_ground
 taken_adds letters k mirror file n e =
-    let p = passed (file_numbers (rank_in letters) k file) (scan_ground letters k mirror file) e in
-    let h = (good_settings letters k mirror (first_none (settings_ground letters k mirror) _ p.none_applies_lem)).some_k in
+    let p = passed (file_numbers (rank_in letters) k file) (scan_ground (the_settings letters k mirror) file) e in
+    let h = (good_settings letters k mirror (first_none (settings_ground (the_settings letters k mirror)) _ p.none_applies_lem)).some_k in
     rw p.value (letters_are (rank_in letters) k (items file) h)

@@ -10,6 +10,7 @@ use Rattle.fasta.specs.declared.Numbers.{Numbers}
 use Rattle.fasta.specs.Items.{windows_in, numbers_in}
 use Rattle.fasta.specs.File.{items_from, fault_from}
 use Rattle.fastq.specs.Fastq.{fastq_fault}
+use Rattle.files.specs.declared.SequenceFile.{SequenceFile}
 use Rattle.files.specs.declared.Kind.{Kind}
 use Rattle.files.specs.declared.Kind.TheVariants.{Fasta, Fastq}
 
@@ -20,6 +21,10 @@ pub record File : Type 0 where
 
 abbrev pub file_of : Kind → List ℕ → File
 file_of kind bytes = record { kind = kind; bytes = bytes }
+
+-- What a function is handed as a file.
+abbrev pub as_file : SequenceFile → File
+as_file file = file_of file.kind file.bytes.now
 
 -- Where a file's first byte stands: at the start of a line, or of a record of four lines.
 abbrev pub start_of : Kind → Mode

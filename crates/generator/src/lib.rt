@@ -3,12 +3,13 @@
 #![tactic(auto)]
 
 ghost use Rattle.std.specs.Prelude.{◌≡◌, ◌+◌, ◌*◌, ◌/◌, ◌%◌, ◌^◌, ◌≤◌, min, length};
+ghost use Rattle.settings.specs.Given.{as_given};
 ghost use Rattle.settings.specs.Grounds.{outcome_of};
 ghost use Rattle.testload.specs.TestLoad.{stepped, drawn_rank, drawn_letters, in_lines, state_after, record_text, test_load, Generates};
 ghost use Rattle.texts.specs.Needs.{Writes};
 ghost use Rattle.generator.specs.Needs.{SomeLetters, records_length};
 
-use settings::Refusal;
+use settings::{Refusal, Settings};
 use texts::Writer;
 
 // The state after one letter more.
@@ -109,17 +110,15 @@ fn needed_length(records: usize, each: usize) -> usize
 
 // Writes the test load to the start of the buffer. Refused by the first of the grounds 1, 2, 4, 6 and 7.
 pub fn generate(
-    letters: &[u8],
-    k: usize,
-    mirror: u64,
+    settings: &Settings,
     start: u64,
     records: usize,
     each: usize,
     out: &mut [u8],
 ) -> Result<usize, Refusal>
-    ensures { Generates letters.now k mirror (test_load letters.now start records each) out.old (outcome_of result) out.new }
+    ensures { Generates (as_given settings.now) (test_load settings.now.letters.now start records each) out.old (outcome_of result) out.new }
 {
-    settings::check(letters, k, mirror)?;
+    settings.check()?;
     let needed = needed_length(records, each);
     if needed > settings::MOST_BYTES {
         return Err(Refusal::TooLarge);
@@ -128,6 +127,6 @@ pub fn generate(
         return Err(Refusal::ShortBuffer(needed));
     }
     let mut w = Writer::new(out);
-    put_records(&mut w, letters, start, records, each);
+    put_records(&mut w, settings.letters, start, records, each);
     Ok(needed)
 }

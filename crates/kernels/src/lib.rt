@@ -14,7 +14,7 @@ ghost use Rattle.packed.specs.Mirrors.{MirrorTable};
 ghost use Rattle.any_alphabet.specs.Needs.{Powers, CountsPalindromes};
 ghost use Rattle.kernels.specs.Kernels.{Takes, GoodSettings};
 
-use settings::{Mirror, RankTable, Settings};
+use settings::{Checked, Mirror, RankTable};
 use two_bit::TwoBit;
 
 // How codes are worked out: by the kernel for every alphabet, or by two-bit numbers, which four letters under complement alone have.
@@ -70,7 +70,7 @@ impl Coder {
     ghost use Rattle.kernels.specs.Coders.{CoderOf};
 
     // The coder of good settings, by a kernel that takes them.
-    pub fn new(letters: &[u8], st: Settings, kernel: Kernel) -> Coder
+    pub fn new(letters: &[u8], st: Checked, kernel: Kernel) -> Coder
         requires good { GoodSettings letters.now st }
         requires takes { Takes kernel st.s st.mirror }
         ensures { CoderOf letters.now st kernel result }

@@ -10,12 +10,13 @@ use Rattle.tally_book.specs.Demand.{sum}
 use Rattle.texts.specs.Decimals.{decimal_from, decimal}
 use Rattle.survey.specs.Line.{survey_line}
 use Rattle.listing.specs.Listing.{count_line, count_lines, total_line, listing_of, listing}
+use Rattle.settings.specs.Given.{the_settings}
 
 -- The listing of a table. A case that unfolds it computes with all that its `unfolding` line names.
 unfoldable listed : (letters : List ℕ) (k mirror : ℕ) (table : List ℕ) → List ℕ
 unfolding listing_of survey_line decimal decimal_from count_lines count_line total_line sum word_bytes in_capitals word_of word_of_plain pair_of_rank middle_of_code
     mirror_rank classes is_odd half_up
-listed letters k mirror table = listing letters k mirror table
+listed letters k mirror table = listing (the_settings letters k mirror) table
 
 -- The counts of the classes AT CG GC TA AG AC AA CC CA GA after the worked example's file, and two later places that are not listed.
 abbrev worked_counts : List ℕ

@@ -15,6 +15,7 @@ use Rattle.survey.specs.Line.{mirror_name, survey_line}
 use Rattle.listing.specs.Listing.{count_line, class_line, count_lines, total_line, listing_of}
 use Rattle.listing.specs.Needs.{AllCounts, line_length, lines_length, longest}
 use Rattle.listing.proofs.Lines.{counts-add-up}
+use Rattle.settings.specs.Given.{the_settings}
 
 -- Each of some numbers fits 32 bits.
 abbrev pub SmallCounts : List ℕ → Type 0
@@ -50,28 +51,28 @@ mirror-length : (m : ℕ) → length (mirror_name m) ≤ 10
 mirror-length zero = omega arith
 mirror-length (suc m) = omega arith
 
-pub survey_length : (letters : List ℕ) (k m : ℕ) → length letters ≤ 16 → k ≤ 62 → class_count letters k m ≤ 16777216 → length (survey_line letters k m) ≤ 83
+pub survey_length : (letters : List ℕ) (k m : ℕ) → length letters ≤ 16 → k ≤ 62 → class_count (the_settings letters k m) ≤ 16777216 → length (survey_line (the_settings letters k m)) ≤ 83
 unfolding survey_line
 survey_length letters k m h g few =
     simp length-append
-    (omega (arith, decimal-length 1 k (omega arith), mirror-length m, decimal-length 7 (class_count letters k m) (omega (arith, few))))
+    (omega (arith, decimal-length 1 k (omega arith), mirror-length m, decimal-length 7 (class_count (the_settings letters k m)) (omega (arith, few))))
 
 total_length : (n : ℕ) → n < 10000000000000000000 → length (total_line n) ≤ 28
 unfolding total_line
 total_length n h = simp length-append (omega (arith, decimal-length 18 n (omega arith)))
 
-module _ (letters : List ℕ) (k m : ℕ) (counts : List ℕ) (A : AllCounts letters k m counts) where
+module _ (letters : List ℕ) (k m : ℕ) (counts : List ℕ) (A : AllCounts (the_settings letters k m) counts) where
   -- A listing is as long as its lines.
-  listing_is : length (listing_of letters k m counts)
-      ≡ length (survey_line letters k m) + lines_length k counts + length (total_line (sum counts))
+  listing_is : length (listing_of (the_settings letters k m) counts)
+      ≡ length (survey_line (the_settings letters k m)) + lines_length k counts + length (total_line (sum counts))
   unfolding listing_of
   listing_is =
       let lines =
-      lines_are k (word_bytes letters k m) (class_count letters k m) (λ q below. word_bytes_length letters k m q A.good below) 0 counts
+      lines_are k (word_bytes (the_settings letters k m)) (class_count (the_settings letters k m)) (λ q below. word_bytes_length letters k m q A.good below) 0 counts
       (omega (arith, A.one_a_class)) in
       simp length-append (omega (arith, lines))
 
-  survey_short : length (survey_line letters k m) ≤ 83
+  survey_short : length (survey_line (the_settings letters k m)) ≤ 83
   survey_short =
       let g = good_settings letters k m A.good in
       survey_length letters k m g.few g.short_k (omega (arith, A.one_a_class, A.few))
@@ -85,15 +86,15 @@ module _ (letters : List ℕ) (k m : ℕ) (counts : List ℕ) (A : AllCounts let
         let short = (good_settings letters k m A.good).short_k in
         sum_le (lines-add-up k) 82 counts (λ i. line_short k (get_or counts i 0) short (small i))
 
-    pub listing_length : length (listing_of letters k m counts) ≤ longest (length counts)
+    pub listing_length : length (listing_of (the_settings letters k m) counts) ≤ longest (length counts)
     listing_length = omega (arith, listing_is, survey_short, all_lines_short, total_short)
 
     -- The place after the survey line and the total, written from the start one after the other, and the length of the lines between: their sum is the
     -- length of the listing, and not too large.
-    pub parts_are : {u v w : Writer} {lines : ℕ} → u.at ≡ 0 → Writes u v (survey_line letters k m) → Writes v w (total_line (sum counts))
+    pub parts_are : {u v w : Writer} {lines : ℕ} → u.at ≡ 0 → Writes u v (survey_line (the_settings letters k m)) → Writes v w (total_line (sum counts))
         → lines ≡ lines_length k counts
-        → (w.at + lines ≡ length (listing_of letters k m counts)) × (w.at + lines ≤ longest 16777216)
+        → (w.at + lines ≡ length (listing_of (the_settings letters k m) counts)) × (w.at + lines ≤ longest 16777216)
     parts_are start P Q lines =
         let a = (then P Q).puts.place in
-        let b = length-append (survey_line letters k m) (total_line (sum counts)) in
+        let b = length-append (survey_line (the_settings letters k m)) (total_line (sum counts)) in
         (omega (arith, a, b, lines, listing_is, survey_short, total_short), omega (arith, a, b, lines, survey_short, all_lines_short, total_short, A.few))

@@ -15,6 +15,7 @@ use Rattle.words.proofs.ReadAnswers.{word_bytes_length}
 use Rattle.tally_book.specs.Table.{class_count}
 use Rattle.tally_book.specs.Demand.{sum}
 use Rattle.listing.specs.Listing.{count_line, class_line, count_lines}
+use Rattle.settings.specs.Given.{the_settings}
 
 -- ---- one line
 
@@ -23,21 +24,21 @@ counted_line word = past_zero (λ (n : ℕ). class_line word n ≡ count_line wo
 
 -- A buffer that starts with the canonical word of code q.
 pub record HoldsWord (letters : List ℕ) (k m q : ℕ) (buffer : List ℕ) : Type 0 where
-  pub start : take k buffer ≡ word_bytes letters k m q
+  pub start : take k buffer ≡ word_bytes (the_settings letters k m) q
   pub long : k ≤ length buffer
 
 -- Reading a code leaves its word at the start of a buffer that has room for any word.
-pub word_read : {letters : List ℕ} {k m q : ℕ} {answer : Outcome ℕ} {old new : List ℕ} → settings_ground letters k m ≡ None
-    → q < class_count letters k m
+pub word_read : {letters : List ℕ} {k m q : ℕ} {answer : Outcome ℕ} {old new : List ℕ} → settings_ground (the_settings letters k m) ≡ None
+    → q < class_count (the_settings letters k m)
     → 62 ≤ length old
-    → Overwrites (read_ground letters k m q (length old)) k (word_bytes letters k m q) old answer new
+    → Overwrites (read_ground (the_settings letters k m) q (length old)) k (word_bytes (the_settings letters k m) q) old answer new
     → HoldsWord letters k m q new
 word_read {letters} {k} {m} {q} {answer} {old} {new} good below room O =
     let fits : k ≤ length old = omega (arith, (good_settings letters k m good).short_k) in
     let word = word_bytes_length letters k m q good below in
-    let holds : new ≡ word_bytes letters k m q ++ drop (length (word_bytes letters k m q)) old =
+    let holds : new ≡ word_bytes (the_settings letters k m) q ++ drop (length (word_bytes (the_settings letters k m) q)) old =
     O.leaves ∙ rw (reading_none letters k m good q (length old) fits below) in
-    record { start = front_is (word_bytes letters k m q) _ holds word; long = front_fits (word_bytes letters k m q) _ holds word }
+    record { start = front_is (word_bytes (the_settings letters k m) q) _ holds word; long = front_fits (word_bytes (the_settings letters k m) q) _ holds word }
 
 -- ---- the lines by rising code
 

@@ -1,6 +1,6 @@
 -- What the listing answers and leaves at each of its tests; and how long the listing of a table is, where it is not refused (`listing-fits`).
 use Rattle.std.proofs.Common.{◌≡◌, refl, ◌∙◌, ℕ, zero, suc, ◌<◌, ◌≤◌, arith, None, Some, List, [], ◌∷◌, length, take, length-take-le, lt-ltb, le-ltb}
-use Rattle.settings.specs.declared.Settings.{Settings}
+use Rattle.settings.specs.declared.Checked.{Checked}
 use Rattle.settings.specs.Grounds.{Ground, Outcome, given, refused, outcome}
 use Rattle.settings.specs.Settings.{settings_ground, settings_of}
 use Rattle.settings.proofs.Outcomes.{kept_by, set_by}
@@ -12,6 +12,7 @@ use Rattle.texts.proofs.Writing.{from_start}
 use Rattle.listing.specs.Listing.{listing_of, listing, listing_ground, Lists}
 use Rattle.listing.specs.Needs.{AllCounts, ListsCounts, longest}
 use Rattle.listing.proofs.Lengths.{SmallCounts, listing_length}
+use Rattle.settings.specs.Given.{the_settings}
 
 -- ---- a text that is written whole or not at all
 
@@ -27,42 +28,42 @@ module _ {text old : List ℕ} {needed : ℕ} (needed_is : needed ≡ length tex
 -- ---- the call
 
 -- The first q places of a table, one a class, are the counts of all classes.
-pub all_counts : (letters : List ℕ) (k m q : ℕ) (t : List ℕ) → settings_ground letters k m ≡ None → q ≡ class_count letters k m → q ≤ 16777216 → q ≤ length t
-    → AllCounts letters k m (take q t)
+pub all_counts : (letters : List ℕ) (k m q : ℕ) (t : List ℕ) → settings_ground (the_settings letters k m) ≡ None → q ≡ class_count (the_settings letters k m) → q ≤ 16777216 → q ≤ length t
+    → AllCounts (the_settings letters k m) (take q t)
 all_counts letters k m q t good q_is few long =
     let n = length-take-le q t long in
     record { good = good; one_a_class = n ∙ q_is; few = omega (arith, n) }
 
 -- The same with settings that the check gave.
-pub table_counts : (letters : List ℕ) (k m : ℕ) (table : List ℕ) (st : Settings) → given st ≡ outcome (settings_ground letters k m) (settings_of letters k m)
+pub table_counts : (letters : List ℕ) (k m : ℕ) (table : List ℕ) (st : Checked) → given st ≡ outcome (settings_ground (the_settings letters k m)) (settings_of (the_settings letters k m))
     → st.classes ≤ 16777216
     → st.classes ≤ length table
-    → AllCounts letters k m (take st.classes table)
+    → AllCounts (the_settings letters k m) (take st.classes table)
 table_counts letters k m table st e few long =
     let good = known letters k m st e in
     all_counts letters k m st.classes table good.none_applies_lem good.classes_are few long
 
 module _ (letters : List ℕ) (k m : ℕ) (table old : List ℕ) where
-  refused_by : (f : Ground) → listing_ground letters k m table (length old) ≡ Some f → Lists letters k m table old (refused f) old
-  refused_by f e = kept_by _ (length (listing letters k m table)) (listing letters k m table) old f e
+  refused_by : (f : Ground) → listing_ground (the_settings letters k m) table (length old) ≡ Some f → Lists (the_settings letters k m) table old (refused f) old
+  refused_by f e = kept_by _ (length (listing (the_settings letters k m) table)) (listing (the_settings letters k m) table) old f e
 
-  pub settings_refused : (f : Ground) → refused f ≡ outcome (settings_ground letters k m) (settings_of letters k m) → Lists letters k m table old (refused f) old
+  pub settings_refused : (f : Ground) → refused f ≡ outcome (settings_ground (the_settings letters k m)) (settings_of (the_settings letters k m)) → Lists (the_settings letters k m) table old (refused f) old
   unfolding listing_ground
   settings_refused f e = refused_by f (rw (clear_settings letters k m (length table) f e))
 
-  module _ (st : Settings) (e : given st ≡ outcome (settings_ground letters k m) (settings_of letters k m)) where
-    pub many_classes : 16777216 < st.classes → Lists letters k m table old (refused (6, 0)) old
+  module _ (st : Checked) (e : given st ≡ outcome (settings_ground (the_settings letters k m)) (settings_of (the_settings letters k m))) where
+    pub many_classes : 16777216 < st.classes → Lists (the_settings letters k m) table old (refused (6, 0)) old
     unfolding listing_ground
     many_classes h = refused_by (6, 0) (rw (clear_many letters k m (length table) st e h))
 
     module _ (few : st.classes ≤ 16777216) where
-      pub short_table : length table < st.classes → Lists letters k m table old (refused (7, st.classes)) old
+      pub short_table : length table < st.classes → Lists (the_settings letters k m) table old (refused (7, st.classes)) old
       unfolding listing_ground
       short_table h = refused_by (7, st.classes) (rw (clear_short letters k m (length table) st e few h))
 
       pub listed : {answer : Outcome ℕ} {new : List ℕ} → st.classes ≤ length table
-          → ListsCounts (listing_of letters k m (take st.classes table)) old answer new
-          → Lists letters k m table old answer new
+          → ListsCounts (listing_of (the_settings letters k m) (take st.classes table)) old answer new
+          → Lists (the_settings letters k m) table old answer new
       unfolding listing_ground
       listed long L = rw (clear_passed letters k m (length table) st e few long) (rw (known letters k m st e).classes_are at L)
 
@@ -75,10 +76,10 @@ small_take (suc n) (x ∷ xs) h zero = h 0
 small_take (suc n) (x ∷ xs) h (suc i) = small_take n xs (λ j. h (suc j)) i
 
 -- Where the grounds before the text's do not apply, a listing has no more bytes than `longest` gives for 16,777,216 classes.
-pub listing-fits : (letters : List ℕ) (k m : ℕ) (table : List ℕ) → clear_ground letters k m (length table) ≡ None → SmallCounts table
-    → length (listing letters k m table) ≤ longest 16777216
+pub listing-fits : (letters : List ℕ) (k m : ℕ) (table : List ℕ) → clear_ground (the_settings letters k m) (length table) ≡ None → SmallCounts table
+    → length (listing (the_settings letters k m) table) ≤ longest 16777216
 listing-fits letters k m table passed small =
-    let n = class_count letters k m in
+    let n = class_count (the_settings letters k m) in
     let good = settings_good letters k m _ passed in
     let all = all_counts letters k m n table good refl (classes_bounded letters k m _ passed) (places_enough letters k m _ passed) in
     omega (arith, listing_length letters k m (take n table) all (small_take n table small), all.few)

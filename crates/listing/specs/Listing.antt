@@ -8,6 +8,7 @@ use Rattle.tally_book.specs.Table.{clear_ground}
 use Rattle.tally_book.specs.Demand.{sum, counts}
 use Rattle.texts.specs.Decimals.{decimal}
 use Rattle.survey.specs.Line.{survey_line}
+use Rattle.settings.specs.Given.{Given}
 
 -- (count AC 2) and LF
 unfoldable pub count_line : (word : List ℕ) (n : ℕ) → List ℕ
@@ -28,20 +29,20 @@ unfoldable pub total_line : ℕ → List ℕ
 total_line n = bytes "(total " ++ (decimal n ++ bytes ")\n")
 
 -- The listing of the counts of all classes, by code.
-unfoldable pub listing_of : (letters : List ℕ) (k mirror : ℕ) (counts : List ℕ) → List ℕ
-listing_of letters k m cs = survey_line letters k m ++ (count_lines (word_bytes letters k m) 0 cs ++ total_line (sum cs))
+unfoldable pub listing_of : (settings : Given) (counts : List ℕ) → List ℕ
+listing_of settings cs = survey_line settings ++ (count_lines (word_bytes settings) 0 cs ++ total_line (sum cs))
 
 -- The listing of a table: of "the table's places below the number of classes".
-abbrev pub listing : (letters : List ℕ) (k mirror : ℕ) (table : List ℕ) → List ℕ
-listing letters k m table = listing_of letters k m (counts letters k m table)
+abbrev pub listing : (settings : Given) (table : List ℕ) → List ℕ
+listing settings table = listing_of settings (counts settings table)
 
 -- The grounds for refusing a listing: 1, 2, 4, 6 and the table's 7, which are those of a clearing; "the table before others", then the 7 of the
 -- text's buffer.
-unfoldable pub listing_ground : (letters : List ℕ) (k mirror : ℕ) (table : List ℕ) (room : ℕ) → Option Ground
-listing_ground letters k m table room =
-    clear_ground letters k m (length table) or_else ground_at 7 (too_short room (length (listing letters k m table)))
+unfoldable pub listing_ground : (settings : Given) (table : List ℕ) (room : ℕ) → Option Ground
+listing_ground settings table room =
+    clear_ground settings (length table) or_else ground_at 7 (too_short room (length (listing settings table)))
 
 -- The contract of the listing: "The library writes the listing whole into a lent byte buffer"; it answers how many bytes it wrote.
-abbrev pub Lists : (letters : List ℕ) (k mirror : ℕ) (table old : List ℕ) (answer : Outcome ℕ) (new : List ℕ) → Type 0
-Lists letters k m table old answer new =
-    Overwrites (listing_ground letters k m table (length old)) (length (listing letters k m table)) (listing letters k m table) old answer new
+abbrev pub Lists : (settings : Given) (table old : List ℕ) (answer : Outcome ℕ) (new : List ℕ) → Type 0
+Lists settings table old answer new =
+    Overwrites (listing_ground settings table (length old)) (length (listing settings table)) (listing settings table) old answer new

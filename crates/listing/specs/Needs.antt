@@ -5,11 +5,12 @@ use Rattle.settings.specs.Grounds.{Outcome, ground_at, too_short, Overwrites}
 use Rattle.settings.specs.Settings.{settings_ground}
 use Rattle.tally_book.specs.Table.{class_count}
 use Rattle.texts.specs.Decimals.{decimal}
+use Rattle.settings.specs.Given.{Given}
 
 -- The counts of all classes under good settings, as many as a table may have.
-pub record AllCounts (letters : List ℕ) (k mirror : ℕ) (counts : List ℕ) : Type 0 where
-  pub good : settings_ground letters k mirror ≡ None
-  pub one_a_class : length counts ≡ class_count letters k mirror
+pub record AllCounts (settings : Given) (counts : List ℕ) : Type 0 where
+  pub good : settings_ground settings ≡ None
+  pub one_a_class : length counts ≡ class_count settings
   pub few : length counts ≤ 16777216
 
 -- A text is written whole to which only the 7 of its buffer may still apply.

@@ -4,6 +4,7 @@
 
 ghost use Rattle.std.specs.Prelude.{◌≡◌, ◌<◌, ◌≤◌, length};
 ghost use Rattle.std.specs.Prelude.{None};
+ghost use Rattle.settings.specs.Given.{as_given};
 ghost use Rattle.settings.specs.Grounds.{outcome_of};
 ghost use Rattle.settings.specs.Settings.{settings_ground};
 ghost use Rattle.encoding.specs.Calls.{word_bytes};
@@ -14,7 +15,7 @@ ghost use Rattle.listing.specs.Listing.{count_line, class_line, count_lines, tot
 ghost use Rattle.listing.specs.Needs.{AllCounts, ListsCounts, line_length, lines_length, longest};
 
 use ranks::Code;
-use settings::Refusal;
+use settings::{Refusal, Settings};
 use texts::Writer;
 
 // The line of a word and its count.
@@ -28,25 +29,25 @@ fn put_count_line(w: &mut Writer, word: &[u8], n: u32)
 }
 
 // The line of the class with code q, if it has a count.
-fn put_class(w: &mut Writer, letters: &[u8], k: usize, mirror: u64, q: u64, n: u32)
-    requires { (settings_ground letters.now k mirror ≡ None) × (q < class_count letters.now k mirror) }
-    ensures { Writes w.old w.new (class_line (word_bytes letters.now k mirror q) n) }
+fn put_class(w: &mut Writer, settings: &Settings, q: u64, n: u32)
+    requires { (settings_ground (as_given settings.now) ≡ None) × (q < class_count (as_given settings.now)) }
+    ensures { Writes w.old w.new (class_line (word_bytes (as_given settings.now) q) n) }
 {
     if n > 0 {
         let mut word = [0u8; 64];
         // The settings are good and the class is there, so that nothing is refused.
-        let _ = words::word_of(letters, k, mirror, Code(q), &mut word);
-        put_count_line(w, &word[..k], n);
+        let _ = words::word_of(settings, Code(q), &mut word);
+        put_count_line(w, &word[..settings.k], n);
     }
 }
 
 // The lines of the classes with a count above 0, by rising code.
-fn put_counts(w: &mut Writer, letters: &[u8], k: usize, mirror: u64, counts: &[u32])
-    requires { AllCounts letters.now k mirror counts.now }
-    ensures { Writes w.old w.new (count_lines (word_bytes letters.now k mirror) 0 counts.now) }
+fn put_counts(w: &mut Writer, settings: &Settings, counts: &[u32])
+    requires { AllCounts (as_given settings.now) counts.now }
+    ensures { Writes w.old w.new (count_lines (word_bytes (as_given settings.now)) 0 counts.now) }
 {
     for (q, n) in counts.iter().enumerate() {
-        put_class(w, letters, k, mirror, q as u64, *n);
+        put_class(w, settings, q as u64, *n);
     }
 }
 
@@ -68,13 +69,13 @@ fn put_total(w: &mut Writer, counts: &[u32])
 }
 
 // The listing of the counts of all classes. For `program`, past its checks: good settings and one count a class.
-pub fn put_listing(w: &mut Writer, letters: &[u8], k: usize, mirror: u64, counts: &[u32])
-    requires { AllCounts letters.now k mirror counts.now }
-    ensures writes { Writes w.old w.new (listing_of letters.now k mirror counts.now) }
-    ensures counts_len_bound { length (listing_of letters.now k mirror counts.now) ≤ longest (length counts.now) }
+pub fn put_listing(w: &mut Writer, settings: &Settings, counts: &[u32])
+    requires { AllCounts (as_given settings.now) counts.now }
+    ensures writes { Writes w.old w.new (listing_of (as_given settings.now) counts.now) }
+    ensures counts_len_bound { length (listing_of (as_given settings.now) counts.now) ≤ longest (length counts.now) }
 {
-    survey_writer::put_survey(w, letters, k, mirror, counts.len());
-    put_counts(w, letters, k, mirror, counts);
+    survey_writer::put_survey(w, settings, counts.len());
+    put_counts(w, settings, counts);
     put_total(w, counts);
 }
 
@@ -103,47 +104,35 @@ fn lines_length(k: usize, counts: &[u32]) -> usize
 }
 
 // The length of the listing of the counts of all classes. No word is worked out for it, and nothing is written.
-fn listing_length(letters: &[u8], k: usize, mirror: u64, counts: &[u32]) -> usize
-    requires { AllCounts letters.now k mirror counts.now }
-    ensures { result ≡ length (listing_of letters.now k mirror counts.now) }
+fn listing_length(settings: &Settings, counts: &[u32]) -> usize
+    requires { AllCounts (as_given settings.now) counts.now }
+    ensures { result ≡ length (listing_of (as_given settings.now) counts.now) }
 {
     let mut w = Writer::new(&mut []);
-    survey_writer::put_survey(&mut w, letters, k, mirror, counts.len());
+    survey_writer::put_survey(&mut w, settings, counts.len());
     put_total(&mut w, counts);
-    w.place() + lines_length(k, counts)
+    w.place() + lines_length(settings.k, counts)
 }
 
 // The listing of the counts of all classes, whole or, where the buffer is too short for it, not at all.
-fn list_counts(
-    letters: &[u8],
-    k: usize,
-    mirror: u64,
-    counts: &[u32],
-    text: &mut [u8],
-) -> Result<usize, Refusal>
-    requires { AllCounts letters.now k mirror counts.now }
-    ensures { ListsCounts (listing_of letters.now k mirror counts.now) text.old (outcome_of result) text.new }
+fn list_counts(settings: &Settings, counts: &[u32], text: &mut [u8]) -> Result<usize, Refusal>
+    requires { AllCounts (as_given settings.now) counts.now }
+    ensures { ListsCounts (listing_of (as_given settings.now) counts.now) text.old (outcome_of result) text.new }
 {
-    let needed = listing_length(letters, k, mirror, counts);
+    let needed = listing_length(settings, counts);
     if text.len() < needed {
         return Err(Refusal::ShortBuffer(needed));
     }
     let mut w = Writer::new(text);
-    put_listing(&mut w, letters, k, mirror, counts);
+    put_listing(&mut w, settings, counts);
     Ok(needed)
 }
 
 // Writes the listing of a table to the start of the text's buffer. Refused by the first of the grounds 1, 2, 4, 6 and 7.
-pub fn list(
-    letters: &[u8],
-    k: usize,
-    mirror: u64,
-    table: &[u32],
-    text: &mut [u8],
-) -> Result<usize, Refusal>
-    ensures { Lists letters.now k mirror table.now text.old (outcome_of result) text.new }
+pub fn list(settings: &Settings, table: &[u32], text: &mut [u8]) -> Result<usize, Refusal>
+    ensures { Lists (as_given settings.now) table.now text.old (outcome_of result) text.new }
 {
-    let st = settings::check(letters, k, mirror)?;
+    let st = settings.check()?;
     if st.classes > settings::MOST_CLASSES {
         return Err(Refusal::TooLarge);
     }
@@ -151,5 +140,5 @@ pub fn list(
     if table.len() < classes {
         return Err(Refusal::ShortBuffer(classes));
     }
-    list_counts(letters, k, mirror, &table[..classes], text)
+    list_counts(settings, &table[..classes], text)
 }

@@ -10,11 +10,12 @@ use Rattle.loading.specs.declared.Next.TheVariants.{Survey, CountOrTotal, Nothin
 use Rattle.loading.specs.Loading.{code_in, count_in, next_after, line_fault, text_fault, loaded_counts}
 use denote.Ref.{Bor}
 use Rattle.lines.specs.Lines.{lines}
+use Rattle.settings.specs.Given.{Given, the_settings}
 
 -- Good settings with few enough classes for a table.
-pub record ForTable (letters : List ℕ) (k mirror : ℕ) : Type 0 where
-  pub good : settings_ground letters k mirror ≡ None
-  pub few : class_count letters k mirror ≤ 16777216
+pub record ForTable (settings : Given) : Type 0 where
+  pub good : settings_ground settings ≡ None
+  pub few : class_count settings ≤ 16777216
 
 -- The numbers of what belongs next are small, so that no sum of counts wraps.
 abbrev pub Bounded : Next → Type 0
@@ -28,9 +29,9 @@ pub record ClassLine (letters : List ℕ) (k : ℕ) (l : List ℕ) : Type 0 wher
   pub shaped : is_count_line letters k l ≡ true
 
 -- What a line at an offset is judged to be: passed, with what belongs after it; or at fault.
-abbrev pub StepIs : (letters : List ℕ) (k mirror : ℕ) → Next → (at : ℕ) → List ℕ → Result Next Refusal → Type 0
-StepIs letters k m next at l (Ok after) = (line_fault letters k m next at l ≡ None) × (after ≡ next_after letters k m next l) × Bounded after
-StepIs letters k m next at l (Err f) = line_fault letters k m next at l ≡ Some (ground_of f)
+abbrev pub StepIs : (settings : Given) → Next → (at : ℕ) → List ℕ → Result Next Refusal → Type 0
+StepIs settings next at l (Ok after) = (line_fault settings next at l ≡ None) × (after ≡ next_after settings next l) × Bounded after
+StepIs settings next at l (Err f) = line_fault settings next at l ≡ Some (ground_of f)
 
 -- The first line of a text and what stands behind it.
 pub record FirstLine (text line after : List ℕ) : Type 0 where
@@ -48,17 +49,17 @@ abbrev pub is_right : (canonical : Bool) (code n low : ℕ) → Bool
 is_right canonical q n low = canonical && (leb low q && (leb 1 n && leb n 4294967295))
 
 -- The line of a class that is long enough, with a code and a count that have a place.
-pub record ClassRead (letters : List ℕ) (k mirror : ℕ) (l : List ℕ) : Type 0 where
-  pub long : 10 + k ≤ length l
-  pub below : code_in letters k mirror l < class_count letters k mirror
-  pub few : count_in k l ≤ 4294967295
+pub record ClassRead (settings : Given) (l : List ℕ) : Type 0 where
+  pub long : 10 + settings.k ≤ length l
+  pub below : code_in settings l < class_count settings
+  pub few : count_in settings.k l ≤ 4294967295
 
 -- A text without a ground, and counts of all classes.
 pub record SetsCounts (text letters : List ℕ) (k mirror : ℕ) (counts : List ℕ) : Type 0 where
-  pub no_fault : text_fault letters k mirror text ≡ None
-  pub one_a_class : length counts ≡ class_count letters k mirror
+  pub no_fault : text_fault (the_settings letters k mirror) text ≡ None
+  pub one_a_class : length counts ≡ class_count (the_settings letters k mirror)
 
 -- A load into counts, one a class, to which only the text's grounds may still apply.
-abbrev pub LoadsCounts : (letters : List ℕ) (k mirror : ℕ) (text counts : List ℕ) (answer : Outcome ℕ) (counts' : List ℕ) → Type 0
-LoadsCounts letters k m text counts answer counts' =
-    Overwrites (text_fault letters k m text) (class_count letters k m) (loaded_counts letters k m text) counts answer counts'
+abbrev pub LoadsCounts : (settings : Given) (text counts : List ℕ) (answer : Outcome ℕ) (counts' : List ℕ) → Type 0
+LoadsCounts settings text counts answer counts' =
+    Overwrites (text_fault settings text) (class_count settings) (loaded_counts settings text) counts answer counts'

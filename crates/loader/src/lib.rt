@@ -96,15 +96,13 @@ fn load_counts(judge: &Judge, counts: &mut [u32], text: &[u8]) -> Result<usize, 
 // Loads a listing into a table: its counts replace the old ones, 0 for a class not listed. Refused by the first of the grounds 1, 2, 4, 6 and 7, and then by
 // that of the text's first line at fault, 20, 21 or 22.
 pub fn load(
-    letters: &[u8],
-    k: usize,
-    mirror: u64,
+    settings: &Settings,
     table: &mut [u32],
     text: &[u8],
 ) -> Result<usize, Refusal>
-    ensures { Loads letters.now k mirror text.now table.old (outcome_of result) table.new }
+    ensures { Loads (as_given settings.now) text.now table.old (outcome_of result) table.new }
 {
-    let settings = settings::check(letters, k, mirror)?;
+    let settings = settings.check()?;
     if settings.classes > MOST_CLASSES {
         return Err(Refusal::TooLarge);
     }
@@ -112,6 +110,6 @@ pub fn load(
     if table.len() < classes {
         return Err(Refusal::ShortBuffer(classes));
     }
-    let judge = Judge::new(letters, mirror, settings);
+    let judge = Judge::new(settings.letters, settings.mirror, settings);
     load_counts(&judge, &mut table[..classes], text)
 }

@@ -18,6 +18,7 @@ use Rattle.survey.specs.Line.{survey_line}
 use Rattle.listing.specs.Listing.{total_line}
 use Rattle.loading.specs.Shapes.{all_digits, is_number, of_letters, is_count_line, is_total_line, is_classes_end, classes_last, is_survey_line}
 use Rattle.loading.specs.Loading.{good_count, next_after, line_fault, load_fault, load_ground, loaded_from, loaded_counts}
+use Rattle.settings.specs.Given.{the_settings}
 
 -- The ground for refusing a text, with a table of so many places, and its counts, under ACGT, 2, complement. A case that unfolds one computes with all that
 -- its `unfolding` line names.
@@ -27,13 +28,13 @@ unfolding is_capital is_in different_capitals good_letters capital_of place_from
     starts_with stretch value_byte sized mirror_number number_of form_of form_from form_at next_form too_many clear_ground same_word decimal_from decimal total_line
     on_first lines unless_at all_digits is_number of_letters is_count_line is_total_line is_classes_end in_order classes_last is_survey_line survey_line
     good_count next_after line_fault load_fault load_ground
-ground_for room text = load_ground (bytes "ACGT") 2 1 room text
+ground_for room text = load_ground (the_settings (bytes "ACGT") 2 1) room text
 
 unfoldable counts_of : List ℕ → List ℕ
 unfolding is_capital is_in different_capitals good_letters capital_of place_from reads_u_as_t read_as is_odd half_up classes
     mirror_rank mirror plain canonical pair_rank digits differing_pair shift odd_shift code_of_canonical code ranks_of spelt
     same_word on_first lines all_digits is_number is_total_line loaded_from loaded_counts
-counts_of text = loaded_counts (bytes "ACGT") 2 1 text
+counts_of text = loaded_counts (the_settings (bytes "ACGT") 2 1) text
 
 -- A text behind the survey line of these settings, which has 63 bytes.
 abbrev behind : String → List ℕ

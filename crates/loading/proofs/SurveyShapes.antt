@@ -28,6 +28,7 @@ use Rattle.loading.proofs.Lines.{ended_by, past}
 use Rattle.loading.proofs.Numbers.{number_is_decimal, decimal-is_number, decimal-no_lf}
 use Rattle.loading.proofs.Words.{letters_no_lf}
 use Rattle.loading.proofs.Shapes.{inner-is}
+use Rattle.settings.specs.Given.{the_settings}
 
 -- ---- the end with the number of classes
 
@@ -151,18 +152,18 @@ unfolding is_in
 mirror-no_lf zero = refl
 mirror-no_lf (suc m) = refl
 
-module _ (letters : List ℕ) (k m : ℕ) (good : settings_ground letters k m ≡ None) where
-  pub survey_shape : is_survey_line (survey_line letters k m) ≡ true
+module _ (letters : List ℕ) (k m : ℕ) (good : settings_ground (the_settings letters k m) ≡ None) where
+  pub survey_shape : is_survey_line (survey_line (the_settings letters k m)) ≡ true
   survey_shape =
       let P = values_good letters k m good in
-      let n = (settings_of letters k m).classes in
-      survey_there (survey_line letters k m) (decimal n) P.letters_good P.k_good P.mirror_good (decimal-is_number n).0 (printed_line letters k m)
+      let n = (settings_of (the_settings letters k m)).classes in
+      survey_there (survey_line (the_settings letters k m)) (decimal n) P.letters_good P.k_good P.mirror_good (decimal-is_number n).0 (printed_line (the_settings letters k m))
 
-  pub survey_one_line : Ended (survey_line letters k m)
+  pub survey_one_line : Ended (survey_line (the_settings letters k m))
   unfolding survey_line is_in
   survey_one_line =
-      let n = (settings_of letters k m).classes in
-      ended_by (line_of (printed_forms letters k m ++ (form (bytes "classes") (decimal n) ∷ [])))
+      let n = (settings_of (the_settings letters k m)).classes in
+      ended_by (line_of (printed_forms (the_settings letters k m) ++ (form (bytes "classes") (decimal n) ∷ [])))
       (simp (append_assoc, append-nil)
       (rw (
         past 10 letters _ (letters_no_lf letters k m good),
@@ -174,11 +175,11 @@ module _ (letters : List ℕ) (k m : ℕ) (good : settings_ground letters k m �
   -- 21, "when the survey line differs from the settings or their number of classes": a line of the shape is the line that is printed under the settings, byte by
   -- byte, exactly where its letters, k, mirror and number of classes are theirs.
   pub survey_same : (l : List ℕ) (S : SurveyShape l)
-      → (l ≡ survey_line letters k m) ↔ ((S.letters ≡ letters) × (S.k ≡ k) × (S.mirror ≡ m) × (spelt 0 S.digits ≡ (settings_of letters k m).classes))
+      → (l ≡ survey_line (the_settings letters k m)) ↔ ((S.letters ≡ letters) × (S.k ≡ k) × (S.mirror ≡ m) × (spelt 0 S.digits ≡ (settings_of (the_settings letters k m)).classes))
   survey_same l S = (there, back)
     where
       n : ℕ
-      n = (settings_of letters k m).classes
+      n = (settings_of (the_settings letters k m)).classes
 
       k_text_lem : S.k ≡ k → S.k_text ≡ decimal k
       k_text_lem e = k_spelt S.k_text S.k_good ∙ ap decimal e
@@ -186,25 +187,25 @@ module _ (letters : List ℕ) (k m : ℕ) (good : settings_ground letters k m �
       mirror_text_lem : S.mirror ≡ m → S.mirror_text ≡ mirror_name m
       mirror_text_lem e = mirror-named S.mirror_good.number (omega (arith, e, (good_settings letters k m good).low)) ∙ ap mirror_name e
 
-      there : l ≡ survey_line letters k m
+      there : l ≡ survey_line (the_settings letters k m)
           → (S.letters ≡ letters) × (S.k ≡ k) × (S.mirror ≡ m) × (spelt 0 S.digits ≡ n)
       there e =
           let P = values_good letters k m good in
           let own = S.line ∙ line_parts S.letters S.k_text S.mirror_text S.digits in
-          let printed = e ∙ printed_line letters k m in
+          let printed = e ∙ printed_line (the_settings letters k m) in
           let (a, b, c) = one_row _ _ S.letters_good S.k_good S.mirror_good own P.letters_good P.k_good P.mirror_good printed in
           let after : List ℕ → List ℕ = λ d. bytes " (classes " ++ (d ++ bytes "))\n") in
-          let front : unclosed (settings_forms S.letters S.k_text S.mirror_text) ≡ unclosed (printed_forms letters k m) =
+          let front : unclosed (settings_forms S.letters S.k_text S.mirror_text) ≡ unclosed (printed_forms (the_settings letters k m)) =
           rw (a, k_text_lem b, mirror_text_lem c) in
-          let same : unclosed (printed_forms letters k m) ++ after S.digits ≡ unclosed (printed_forms letters k m) ++ after (decimal n) =
+          let same : unclosed (printed_forms (the_settings letters k m)) ++ after S.digits ≡ unclosed (printed_forms (the_settings letters k m)) ++ after (decimal n) =
           ap (λ (x : List ℕ). x ++ after S.digits) (sym front) ∙ sym own ∙ printed in
           let digits : S.digits ≡ decimal n =
           append_cancel_right S.digits (decimal n) (bytes "))\n")
-          (append_cancel_left (bytes " (classes ") _ _ (append_cancel_left (unclosed (printed_forms letters k m)) _ _ same)) in
+          (append_cancel_left (bytes " (classes ") _ _ (append_cancel_left (unclosed (printed_forms (the_settings letters k m))) _ _ same)) in
           (a, b, c, ap (spelt 0) digits ∙ (decimal-is_number n).1)
 
-      back : (S.letters ≡ letters) × (S.k ≡ k) × (S.mirror ≡ m) × (spelt 0 S.digits ≡ n) → l ≡ survey_line letters k m
+      back : (S.letters ≡ letters) × (S.k ≡ k) × (S.mirror ≡ m) × (spelt 0 S.digits ≡ n) → l ≡ survey_line (the_settings letters k m)
       back h =
           let digits : S.digits ≡ decimal n = number_is_decimal S.digits S.number ∙ ap decimal h.3 in
           S.line ∙ line_parts S.letters S.k_text S.mirror_text S.digits
-          ∙ rw (h.0, k_text_lem h.1, mirror_text_lem h.2, digits) (sym (printed_line letters k m))
+          ∙ rw (h.0, k_text_lem h.1, mirror_text_lem h.2, digits) (sym (printed_line (the_settings letters k m)))

@@ -16,6 +16,7 @@ use Rattle.tally_book.specs.Table.{class_count, place_of}
 use Rattle.tally_book.specs.Book.{same_word}
 use Rattle.tally_book.proofs.WordLists.{same_word_lem, word_same}
 use Rattle.loading.specs.Shapes.{of_letters}
+use Rattle.settings.specs.Given.{the_settings}
 
 -- ---- a word
 
@@ -58,7 +59,7 @@ module _ (letters : List ℕ) (capitals : different_capitals letters ≡ true) w
 
 -- ---- a canonical word and its code
 
-module _ (letters : List ℕ) (k m : ℕ) (good : settings_ground letters k m ≡ None) where
+module _ (letters : List ℕ) (k m : ℕ) (good : settings_ground (the_settings letters k m) ≡ None) where
   capitals : different_capitals letters ≡ true
   capitals = capitals_differ letters k m good
 
@@ -77,7 +78,7 @@ module _ (letters : List ℕ) (k m : ℕ) (good : settings_ground letters k m �
   -- A canonical word in the settings' letters is what its code is printed as.
   pub canonical_text : (word : List ℕ) → length word ≡ k → of_letters letters word ≡ true
       → canonical (length letters) (mirror_of m) (ranks_of letters word) ≡ ranks_of letters word
-      → word ≡ word_bytes letters k m (place_of letters k m (ranks_of letters word))
+      → word ≡ word_bytes (the_settings letters k m) (place_of (the_settings letters k m) (ranks_of letters word))
   unfolding word_bytes
   canonical_text word h o c =
       sym (ap (in_capitals letters) (word_of_own_code (length letters) (mirror_of m) k (limits letters k m good) (ranks_of letters word) (word_is word h) ∙ c)
@@ -87,10 +88,10 @@ module _ (letters : List ℕ) (k m : ℕ) (good : settings_ground letters k m �
   pub record PrintedWord (q : ℕ) (word : List ℕ) : Type 0 where
     pub letters_only : of_letters letters word ≡ true
     pub own : canonical (length letters) (mirror_of m) (ranks_of letters word) ≡ ranks_of letters word
-    pub code_is : place_of letters k m (ranks_of letters word) ≡ q
+    pub code_is : place_of (the_settings letters k m) (ranks_of letters word) ≡ q
     pub no_lf : is_in 10 word ≡ false
 
-  pub text_canonical : (q : ℕ) → q < class_count letters k m → PrintedWord q (word_bytes letters k m q)
+  pub text_canonical : (q : ℕ) → q < class_count (the_settings letters k m) → PrintedWord q (word_bytes (the_settings letters k m) q)
   unfolding word_bytes
   text_canonical q h =
       let W = word_of_code (length letters) (mirror_of m) k (limits letters k m good) q h in

@@ -7,6 +7,7 @@ use Rattle.survey.specs.Grammar.{LettersText, KText, MirrorText}
 use Rattle.tally_book.specs.Table.{class_count}
 use Rattle.listing.specs.Listing.{count_line, total_line, listing_of}
 use Rattle.loading.specs.Shapes.{is_number, of_letters}
+use Rattle.settings.specs.Given.{Given}
 
 -- "the survey line is of the form the program reads, classes last": a line of the program's grammar with the form of a number as its last, and LF. That
 -- `is_survey_line` finds just these is a theorem.
@@ -37,8 +38,8 @@ pub record TotalShape (l : List ℕ) : Type 0 where
   pub line : l ≡ total_line n
 
 -- The text is the listing of some counts, one a class, each a 32-bit number.
-pub record ListingOfCounts (letters : List ℕ) (k mirror : ℕ) (text : List ℕ) : Type 0 where
+pub record ListingOfCounts (settings : Given) (text : List ℕ) : Type 0 where
   pub counts : List ℕ
-  pub one_a_class : length counts ≡ class_count letters k mirror
+  pub one_a_class : length counts ≡ class_count settings
   pub small : (i : ℕ) → get_or counts i 0 < 4294967296
-  pub is : text ≡ listing_of letters k mirror counts
+  pub is : text ≡ listing_of settings counts

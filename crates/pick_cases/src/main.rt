@@ -3,6 +3,7 @@
 
 #![tactic(auto)]
 
+use settings::Settings;
 use std::io::{self, Write};
 
 fn show<W: Write>(
@@ -13,7 +14,8 @@ fn show<W: Write>(
     first: &[u8],
     second: &[u8],
 ) -> io::Result<()> {
-    out.write_all(words::pick(letters, k, mirror, first, second))?;
+    let settings = Settings { letters, k, mirror };
+    out.write_all(words::pick(&settings, first, second))?;
     out.write_all(b"\n")
 }
 

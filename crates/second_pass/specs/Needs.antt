@@ -11,6 +11,7 @@ use Rattle.counts.specs.declared.Way.{Way}
 use Rattle.counts.specs.declared.Way.TheVariants.{In, Out}
 use Rattle.counts.specs.Needs.{by_way}
 use Rattle.batches.specs.Needs.{codes_of_file}
+use Rattle.settings.specs.Given.{Given}
 
 -- The codes of all windows of a file of its kind, by a coder.
 abbrev pub codes_of : Coder → File → List ℕ
@@ -32,9 +33,9 @@ pub record TableUnlessRefused (way : Way) (n : Numbers) (places : List ℕ) (cla
   pub later : drop classes t' ≡ drop classes t
 
 -- A call to which only its last ground may still apply.
-pub record CalledUnlessRefused (letters : List ℕ) (k mirror : ℕ) (t : List ℕ) (c : Call) (answer : Outcome Numbers) (t' : List ℕ) : Type 0 where
-  pub answers : answer ≡ outcome (last_ground letters k mirror t c) (file_numbers (rank_in letters) k (call_file c))
-  pub leaves : t' ≡ unless_refused (last_ground letters k mirror t c) (table_after letters k mirror t c) t
+pub record CalledUnlessRefused (settings : Given) (t : List ℕ) (c : Call) (answer : Outcome Numbers) (t' : List ℕ) : Type 0 where
+  pub answers : answer ≡ outcome (last_ground settings t c) (file_numbers (rank_in settings.letters) settings.k (call_file c))
+  pub leaves : t' ≡ unless_refused (last_ground settings t c) (table_after settings t c) t
 
 -- The scan found no fault, and these numbers.
 pub record CleanFile (letters : List ℕ) (k : ℕ) (file : File) (n : Numbers) : Type 0 where

@@ -12,6 +12,7 @@ use Rattle.settings.specs.Settings.{mirror_of}
 use Rattle.laws.specs.Windows.{windows}
 use Rattle.sequence.specs.Needs.{all_ranked, code_by}
 use Rattle.sequence.specs.Sequences.{all_letters, code_or_none, sequence_codes}
+use Rattle.settings.specs.Given.{the_settings}
 
 -- Two functions that agree on words of bytes give the windows of bytes the same numbers.
 same_codes : (f g : List ℕ → ℕ) (k : ℕ) → ((word : List ℕ) → Bytes word → f word ≡ g word) → (bytes : List ℕ) → Bytes bytes
@@ -41,13 +42,13 @@ module _ {letters : List ℕ} {table : RankTable} (T : RanksOf letters table) wh
   letters_by_table [] B = refl
   letters_by_table (b ∷ bs) B = ap₂ (λ (x y : Bool). x && y) (ap is_some (same_first T B)) (letters_by_table bs (tail_bytes B))
 
-  code_by_table : (k mir : ℕ) (word : List ℕ) → Bytes word → code_by (rank_by_table table) (length letters) (mirror_of mir) k word ≡ code_or_none letters k mir word
+  code_by_table : (k mir : ℕ) (word : List ℕ) → Bytes word → code_by (rank_by_table table) (length letters) (mirror_of mir) k word ≡ code_or_none (the_settings letters k mir) word
   unfolding code_by code_or_none
   code_by_table k mir word B = rw (letters_by_table word B, ranks_by_table T word B)
 
   -- The numbers of all windows.
   pub codes_by_table : (k mir : ℕ) (bytes : List ℕ) → Bytes bytes
-      → map (code_by (rank_by_table table) (length letters) (mirror_of mir) k) (windows k bytes) ≡ sequence_codes letters k mir bytes
+      → map (code_by (rank_by_table table) (length letters) (mirror_of mir) k) (windows k bytes) ≡ sequence_codes (the_settings letters k mir) bytes
   unfolding sequence_codes
   codes_by_table k mir bytes B =
-      same_codes (code_by (rank_by_table table) (length letters) (mirror_of mir) k) (code_or_none letters k mir) k (λ word W. code_by_table k mir word W) bytes B
+      same_codes (code_by (rank_by_table table) (length letters) (mirror_of mir) k) (code_or_none (the_settings letters k mir)) k (λ word W. code_by_table k mir word W) bytes B

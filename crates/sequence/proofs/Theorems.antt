@@ -16,23 +16,24 @@ use Rattle.laws.specs.Windows.{windows}
 use Rattle.windows.specs.Windows.{window_codes}
 use Rattle.sequence.specs.Sequences.{no_code, all_letters, code_or_none, sequence_codes, FillsCodes}
 use Rattle.windows.proofs.Windows.{length_codes, window_at, pieces}
+use Rattle.settings.specs.Given.{the_settings}
 
 -- ---- which number stands at which place
 
 module _ (letters : List ℕ) (k m : ℕ) (sequence : List ℕ) (some_k : 1 ≤ k) where
   -- There is one number for each start where k bytes fit.
-  pub how_many : length (sequence_codes letters k m sequence) ≡ length sequence + 1 - k
+  pub how_many : length (sequence_codes (the_settings letters k m) sequence) ≡ length sequence + 1 - k
   unfolding sequence_codes
-  how_many = length_codes k some_k (code_or_none letters k m) sequence
+  how_many = length_codes k some_k (code_or_none (the_settings letters k m)) sequence
 
   -- Place j has the number of the k bytes from j.
-  pub at_place : (j : ℕ) → j + k ≤ length sequence → get_or (sequence_codes letters k m sequence) j 0 ≡ code_or_none letters k m (take k (drop j sequence))
+  pub at_place : (j : ℕ) → j + k ≤ length sequence → get_or (sequence_codes (the_settings letters k m) sequence) j 0 ≡ code_or_none (the_settings letters k m) (take k (drop j sequence))
   unfolding sequence_codes
-  at_place j inside = window_at k some_k (code_or_none letters k m) j sequence inside
+  at_place j inside = window_at k some_k (code_or_none (the_settings letters k m)) j sequence inside
 
 -- Under good settings 2^64 - 1 is no code: it stands exactly for the words of k bytes of which one is no letter of the settings.
-pub no_code_lem : (letters : List ℕ) (k m : ℕ) → settings_ground letters k m ≡ None → (word : List ℕ) → length word ≡ k
-    → (code_or_none letters k m word ≡ no_code) ↔ (all_letters letters word ≡ false)
+pub no_code_lem : (letters : List ℕ) (k m : ℕ) → settings_ground (the_settings letters k m) ≡ None → (word : List ℕ) → length word ≡ k
+    → (code_or_none (the_settings letters k m) word ≡ no_code) ↔ (all_letters letters word ≡ false)
 unfolding code_or_none
 no_code_lem letters k m good word l = go (all_letters letters word)
   where
@@ -65,7 +66,7 @@ pieces_codes s m k some_k a run h =
 -- A call of the general path with ACGT, k and mirror 1 and one of the two-bit path with k, on the same sequence and the same list: they answer the
 -- same number or the same refusal, and leave the same list.
 pub paths_agree : (k : ℕ) (sequence old : List ℕ) (general two-bit : Outcome ℕ) (list list' : List ℕ)
-    → FillsCodes (bytes "ACGT") k 1 sequence old general list
-    → FillsCodes (bytes "ACGT") k 1 sequence old two-bit list'
+    → FillsCodes (the_settings (bytes "ACGT") k 1) sequence old general list
+    → FillsCodes (the_settings (bytes "ACGT") k 1) sequence old two-bit list'
     → (general ≡ two-bit) × (list ≡ list')
 paths_agree k sequence old general two-bit list list' g t = (g.answers ∙ sym t.answers, g.leaves ∙ sym t.leaves)

@@ -10,6 +10,7 @@ use lib.Dec.{eqb, ltb}
 use lib.ListN.{length}
 use Rattle.settings.specs.Grounds.{Ground, ground, ground_at, too_short, ◌or_else◌}
 use Rattle.settings.specs.Settings.{is_in, good_letters, bad_size, settings_ground, RefusedOnlyBy}
+use Rattle.settings.specs.Given.{the_settings}
 
 -- The ground that applies, where one does, has the property Q.
 abbrev pub Has : (Ground → Type 0) → Option Ground → Type 0
@@ -36,7 +37,7 @@ module _ (Q : Ground → Type 0) where
   then_has (Some h) later a b = a
 
   -- The settings' grounds are 1, 2 and 4, with the P 0.
-  pub settings_has : (letters : List ℕ) (k m : ℕ) → Q (1, 0) → Q (2, 0) → Q (4, 0) → Has Q (settings_ground letters k m)
+  pub settings_has : (letters : List ℕ) (k m : ℕ) → Q (1, 0) → Q (2, 0) → Q (4, 0) → Has Q (settings_ground (the_settings letters k m))
   unfolding settings_ground
   settings_has letters k m one two four =
       let g2 = ground 2 (ltb 1 m) in
@@ -46,11 +47,11 @@ module _ (Q : Ground → Type 0) where
 
   -- After these many calls have 6 by some test, then 7 for some length.
   pub sizes_has : (letters : List ℕ) (k m : ℕ) (large : Bool) (room needed : ℕ) → Q (1, 0) → Q (2, 0) → Q (4, 0) → Q (6, 0)
-      → (settings_ground letters k m ≡ None → ground 6 large ≡ None → (p : ℕ) → too_short room needed ≡ Some p → Q (7, p))
-      → Has Q (settings_ground letters k m or_else ground 6 large or_else ground_at 7 (too_short room needed))
+      → (settings_ground (the_settings letters k m) ≡ None → ground 6 large ≡ None → (p : ℕ) → too_short room needed ≡ Some p → Q (7, p))
+      → Has Q (settings_ground (the_settings letters k m) or_else ground 6 large or_else ground_at 7 (too_short room needed))
   sizes_has letters k m large room needed one two four six seven =
       let g7 = ground_at 7 (too_short room needed) in
-      then_has (settings_ground letters k m) (ground 6 large or_else g7) (settings_has letters k m one two four)
+      then_has (settings_ground (the_settings letters k m)) (ground 6 large or_else g7) (settings_has letters k m one two four)
       (λ passed. then_has (ground 6 large) g7 (test_has 6 large six) (λ few. place_has 7 (too_short room needed) (seven passed few)))
 
 -- ---- a number of a list, so that `Has (NumberIn ns)` is `RefusedOnlyBy ns`
@@ -65,7 +66,7 @@ in_behind i [] ns e = e
 in_behind i (m ∷ ms) ns e = rw (in_behind i ms ns e) (or-true (eqb m i))
 
 -- Settings are refused 1, 2 or 4: "Refusal 3 then never occurs" (document 02, K10).
-pub settings_numbers : (letters : List ℕ) (k m : ℕ) → RefusedOnlyBy (1 ∷ 2 ∷ 4 ∷ []) (settings_ground letters k m)
+pub settings_numbers : (letters : List ℕ) (k m : ℕ) → RefusedOnlyBy (1 ∷ 2 ∷ 4 ∷ []) (settings_ground (the_settings letters k m))
 unfolding is_in
 settings_numbers letters k m = settings_has (NumberIn (1 ∷ 2 ∷ 4 ∷ [])) letters k m refl refl refl
 
@@ -86,7 +87,7 @@ place_small n i o h = place_has (PlaceUpTo n) i o h
 pub then_small : (n : ℕ) (g later : Option Ground) → Small n g → (g ≡ None → Small n later) → Small n (g or_else later)
 then_small n g later a b = then_has (PlaceUpTo n) g later a b
 
-pub settings_small : (letters : List ℕ) (k m n : ℕ) → Small n (settings_ground letters k m)
+pub settings_small : (letters : List ℕ) (k m n : ℕ) → Small n (settings_ground (the_settings letters k m))
 settings_small letters k m n = settings_has (PlaceUpTo n) letters k m (omega arith) (omega arith) (omega arith)
 
 -- The P of ground 7 is the length needed.

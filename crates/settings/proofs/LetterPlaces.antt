@@ -13,6 +13,7 @@ use Rattle.settings.specs.Settings.{is_capital, is_in, different_capitals, capit
 use Rattle.settings.proofs.Letters.{some_letters}
 use Rattle.settings.proofs.Ranks.{with_U, read_own, read_other}
 use Rattle.settings.proofs.SettingsGrounds.{good_settings}
+use Rattle.settings.specs.Given.{the_settings}
 
 -- Each of different capitals is a capital.
 pub in_capital : (b : ℕ) (ls : List ℕ) → different_capitals ls ≡ true → is_in b ls ≡ true → (65 ≤ b) × (b ≤ 90)
@@ -87,5 +88,5 @@ module _ (letters : List ℕ) (capitals : different_capitals letters ≡ true) w
   rank_at_lem i h = rw (read_capital (get_or letters i 0) (in_at letters i h)) (own_place 0 letters i capitals h ∙ ap (λ (x : ℕ). Some x) (omega arith))
 
 -- The letters of settings that pass the check are different capitals.
-pub capitals_differ : (letters : List ℕ) (k m : ℕ) → settings_ground letters k m ≡ None → different_capitals letters ≡ true
+pub capitals_differ : (letters : List ℕ) (k m : ℕ) → settings_ground (the_settings letters k m) ≡ None → different_capitals letters ≡ true
 capitals_differ letters k m good = let g = good_settings letters k m good in sym (some_letters letters g.two g.few) ∙ g.capitals

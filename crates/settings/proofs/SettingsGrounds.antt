@@ -16,20 +16,21 @@ use Rattle.settings.specs.Settings.{good_letters, settings_ground, settings_of, 
 use Rattle.settings.proofs.Letters.{good_at_least, good_at_most}
 use Rattle.settings.proofs.Outcomes.{later_none, test_fails, first_none, passed, refused_on}
 use Rattle.settings.specs.declared.Mirror.{Mirror}
-use Rattle.settings.specs.declared.Settings.{Settings}
+use Rattle.settings.specs.declared.Checked.{Checked}
+use Rattle.settings.specs.Given.{the_settings}
 
 module _ (l : List ℕ) (k m : ℕ) where
-  pub ground_1 : false ≡ good_letters l → refused (1, 0) ≡ outcome (settings_ground l k m) (settings_of l k m)
+  pub ground_1 : false ≡ good_letters l → refused (1, 0) ≡ outcome (settings_ground (the_settings l k m)) (settings_of (the_settings l k m))
   unfolding settings_ground
   ground_1 e = rw (← e)
 
   pub mirror_refused : (f : Ground) → true ≡ good_letters l → refused f ≡ outcome (ground 2 (ltb 1 m)) (mirror_of m)
-      → refused f ≡ outcome (settings_ground l k m) (settings_of l k m)
+      → refused f ≡ outcome (settings_ground (the_settings l k m)) (settings_of (the_settings l k m))
   unfolding settings_ground
-  mirror_refused f e h = rw (← e) (refused_on f (mirror_of m) (settings_of l k m) (ground 2 (ltb 1 m)) _ h)
+  mirror_refused f e h = rw (← e) (refused_on f (mirror_of m) (settings_of (the_settings l k m)) (ground 2 (ltb 1 m)) _ h)
 
   pub mirror_given : {x : Mirror} → true ≡ good_letters l → given x ≡ outcome (ground 2 (ltb 1 m)) (mirror_of m)
-      → outcome (ground 4 (bad_size (length l) k)) (settings_for (length l) k x) ≡ outcome (settings_ground l k m) (settings_of l k m)
+      → outcome (ground 4 (bad_size (length l) k)) (settings_for (length l) k x) ≡ outcome (settings_ground (the_settings l k m)) (settings_of (the_settings l k m))
   unfolding settings_ground
   mirror_given e h = let p = passed (mirror_of m) (ground 2 (ltb 1 m)) h in rw (← e, p.none_applies_lem, p.value)
 
@@ -46,7 +47,7 @@ pub record GoodSettings (l : List ℕ) (k m : ℕ) : Type 0 where
   pub small : length l ^ k ≤ 2 ^ 62
 
 -- Settings to which no ground applies are good.
-pub good_settings : (l : List ℕ) (k m : ℕ) → settings_ground l k m ≡ None → GoodSettings l k m
+pub good_settings : (l : List ℕ) (k m : ℕ) → settings_ground (the_settings l k m) ≡ None → GoodSettings l k m
 unfolding settings_ground bad_size
 good_settings l k m e =
     let g2 = later_none (ground 1 (not (good_letters l))) _ e in
@@ -66,25 +67,25 @@ good_settings l k m e =
     }
 
 -- Settings that pass the check are within the limits.
-pub limits : (l : List ℕ) (k m : ℕ) → settings_ground l k m ≡ None → Limits (length l) k
+pub limits : (l : List ℕ) (k m : ℕ) → settings_ground (the_settings l k m) ≡ None → Limits (length l) k
 limits l k m e =
     let g = good_settings l k m e in
     record { two = g.two; few = g.few; small = g.small }
 
 -- What a call knows of settings that the check gave.
-pub record Known (l : List ℕ) (k m : ℕ) (st : Settings) : Type 0 where
-  pub none_applies_lem : settings_ground l k m ≡ None
+pub record Known (l : List ℕ) (k m : ℕ) (st : Checked) : Type 0 where
+  pub none_applies_lem : settings_ground (the_settings l k m) ≡ None
   pub mirror_is : st.mirror ≡ mirror_of m
   pub classes_are : st.classes ≡ classes (length l) (mirror_of m) k
   pub within : Limits (length l) k
 
 -- What the check gives is so known.
-pub known : (l : List ℕ) (k m : ℕ) (st : Settings) → given st ≡ outcome (settings_ground l k m) (settings_of l k m) → Known l k m st
+pub known : (l : List ℕ) (k m : ℕ) (st : Checked) → given st ≡ outcome (settings_ground (the_settings l k m)) (settings_of (the_settings l k m)) → Known l k m st
 known l k m st e =
-    let p = passed (settings_of l k m) (settings_ground l k m) e in
+    let p = passed (settings_of (the_settings l k m)) (settings_ground (the_settings l k m)) e in
     record {
       none_applies_lem = p.none_applies_lem;
-      mirror_is = ap (λ (x : Settings). x.mirror) p.value;
-      classes_are = ap (λ (x : Settings). x.classes) p.value;
+      mirror_is = ap (λ (x : Checked). x.mirror) p.value;
+      classes_are = ap (λ (x : Checked). x.classes) p.value;
       within = limits l k m p.none_applies_lem;
     }

@@ -3,7 +3,8 @@ use Rattle.std.specs.Prelude.{ℕ, zero, suc, ◌+◌, ◌-◌, ◌/◌, ◌%◌
 use Rattle.std.specs.Prelude.{Option, None, Some}
 use Rattle.settings.specs.declared.Mirror.{Mirror}
 use Rattle.settings.specs.declared.Mirror.TheVariants.{Reversal, Complement}
-use Rattle.settings.specs.declared.Settings.{Settings}
+use Rattle.settings.specs.declared.Checked.{Checked}
+use Rattle.settings.specs.Given.{Given}
 use Rattle.settings.specs.Grounds.{Ground, ground, ◌or_else◌}
 use Rattle.settings.specs.Limits.{most_words}
 
@@ -71,20 +72,20 @@ unfoldable pub bad_size : ℕ → ℕ → Bool
 bad_size s k = eqb k 0 || ltb most_words (s ^ k)
 
 -- The first of the grounds 1, 2 and 4 that applies to the letters, k and the mirror's number. "Refusal 3 then never occurs" (document 02, K10).
-unfoldable pub settings_ground : List ℕ → ℕ → ℕ → Option Ground
-settings_ground letters k mirror =
-    ground 1 (not (good_letters letters))
-    or_else ground 2 (ltb 1 mirror)
-    or_else ground 4 (bad_size (length letters) k)
+unfoldable pub settings_ground : Given → Option Ground
+settings_ground settings =
+    ground 1 (not (good_letters settings.letters))
+    or_else ground 2 (ltb 1 settings.mirror)
+    or_else ground 4 (bad_size (length settings.letters) settings.k)
 
 -- The refusals on these grounds have no other numbers than those in a list.
 abbrev pub RefusedOnlyBy : (numbers : List ℕ) → Option Ground → Type 0
 RefusedOnlyBy numbers g = (f : Ground) → g ≡ Some f → is_in f.0 numbers ≡ true
 
 -- What later calls need of good settings with s letters: s, k, the mirror, s^k and the number of classes.
-abbrev pub settings_for : ℕ → ℕ → Mirror → Settings
+abbrev pub settings_for : ℕ → ℕ → Mirror → Checked
 settings_for s k m = record { s = s; k = k; mirror = m; power = s ^ k; classes = classes s m k }
 
 -- The same of settings as a caller gives them.
-abbrev pub settings_of : List ℕ → ℕ → ℕ → Settings
-settings_of letters k mirror = settings_for (length letters) k (mirror_of mirror)
+abbrev pub settings_of : Given → Checked
+settings_of settings = settings_for (length settings.letters) settings.k (mirror_of settings.mirror)

@@ -4,6 +4,7 @@
 #![tactic(auto)]
 
 ghost use Rattle.std.specs.Prelude.{◌≡◌, ◌==◌, ◌^◌, ◌<◌, ◌≤◌, ltb, min, length, position};
+ghost use Rattle.settings.specs.Given.{as_given};
 ghost use Rattle.settings.specs.Grounds.{ground_of, ground, outcome, outcome_of};
 ghost use Rattle.settings.specs.RankTables.{as_rank, rank_by_table, RanksOf};
 ghost use Rattle.settings.specs.Settings.{classes, reads_u_as_t, read_as, rank_in, is_in, good_letters, mirror_of, settings_ground, bad_size, settings_for, settings_of};
@@ -118,9 +119,17 @@ impl TryFrom<u64> for Mirror {
     }
 }
 
+// The settings of a survey as a caller gives them: the letters, k, and the mirror's number.
+#[derive(Clone, Copy)]
+pub struct Settings<'a> {
+    pub letters: &'a [u8],
+    pub k: usize,
+    pub mirror: u64,
+}
+
 // Settings to which no ground applies: the number of letters, k, the mirror, the number of words, s^k, and of classes.
 #[derive(Clone, Copy)]
-pub struct Settings {
+pub struct Checked {
     pub s: u64,
     pub k: usize,
     pub mirror: Mirror,
@@ -266,7 +275,7 @@ pub fn class_count(s: u64, m: Mirror, k: usize) -> u64
 }
 
 // The settings of n letters, or ground 4.
-fn sized(n: usize, k: usize, m: Mirror) -> Result<Settings, Refusal>
+fn sized(n: usize, k: usize, m: Mirror) -> Result<Checked, Refusal>
     requires { (2 ≤ n) × (n ≤ 16) }
     ensures { outcome_of result ≡ outcome (ground 4 (bad_size n k)) (settings_for n k m) }
 {
@@ -279,7 +288,7 @@ fn sized(n: usize, k: usize, m: Mirror) -> Result<Settings, Refusal>
         return Err(Refusal::BadK);
     }
     let classes = class_count(s, m, k);
-    Ok(Settings {
+    Ok(Checked {
         s,
         k,
         mirror: m,
@@ -288,13 +297,15 @@ fn sized(n: usize, k: usize, m: Mirror) -> Result<Settings, Refusal>
     })
 }
 
-// The settings, or the first of the grounds 1, 2 and 4 that applies.
-pub fn check(letters: &[u8], k: usize, mirror: u64) -> Result<Settings, Refusal>
-    ensures { outcome_of result ≡ outcome (settings_ground letters.now k mirror) (settings_of letters.now k mirror) }
-{
-    if !good_letters(letters) {
-        return Err(Refusal::BadLetters);
+impl<'a> Settings<'a> {
+    // What later calls need of them, or the first of the grounds 1, 2 and 4 that applies.
+    pub fn check(&self) -> Result<Checked, Refusal>
+        ensures { outcome_of result ≡ outcome (settings_ground (as_given self.now)) (settings_of (as_given self.now)) }
+    {
+        if !good_letters(self.letters) {
+            return Err(Refusal::BadLetters);
+        }
+        let m = Mirror::try_from(self.mirror)?;
+        sized(self.letters.len(), self.k, m)
     }
-    let m = Mirror::try_from(mirror)?;
-    sized(letters.len(), k, m)
 }

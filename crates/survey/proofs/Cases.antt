@@ -10,16 +10,17 @@ use Rattle.survey.specs.Line.{survey_line}
 use Rattle.survey.specs.Grammar.{spelt}
 use Rattle.survey.specs.Claims.{InputParts, input_parts}
 use Rattle.survey.specs.Reading.{starts_with, stretch, value_byte, sized, mirror_number, number_of, form_of, form_from, form_at, next_form, end_after, line_end, in_order, each_once, by_order, head_of, line_from, read_line, read_input}
+use Rattle.settings.specs.Given.{the_settings}
 
 -- ---- lines that we print
 
 -- The worked example's, "`(classes 10)` in the document 01 case" (document 02, K6); an odd alphabet under complement; a number of several digits; as
 -- many classes as words.
 printed :
-    (survey_line (bytes "ACGT") 2 1 ≡ bytes "(survey (letters ACGT) (k 2) (mirror complement) (classes 10))\n")
-    × (survey_line (bytes "ABC") 1 1 ≡ bytes "(survey (letters ABC) (k 1) (mirror complement) (classes 2))\n")
-    × (survey_line (bytes "ACGT") 8 1 ≡ bytes "(survey (letters ACGT) (k 8) (mirror complement) (classes 32896))\n")
-    × (survey_line (bytes "AB") 1 0 ≡ bytes "(survey (letters AB) (k 1) (mirror reversal) (classes 2))\n")
+    (survey_line (the_settings (bytes "ACGT") 2 1) ≡ bytes "(survey (letters ACGT) (k 2) (mirror complement) (classes 10))\n")
+    × (survey_line (the_settings (bytes "ABC") 1 1) ≡ bytes "(survey (letters ABC) (k 1) (mirror complement) (classes 2))\n")
+    × (survey_line (the_settings (bytes "ACGT") 8 1) ≡ bytes "(survey (letters ACGT) (k 8) (mirror complement) (classes 32896))\n")
+    × (survey_line (the_settings (bytes "AB") 1 0) ≡ bytes "(survey (letters AB) (k 1) (mirror reversal) (classes 2))\n")
 unfolding survey_line decimal decimal_from classes is_odd half_up
 printed = (refl, refl, refl, refl)
 

@@ -9,6 +9,7 @@ use Rattle.texts.proofs.Decimals.{one_digit, more_digits}
 use Rattle.survey.specs.Forms.{settings_forms, line_of}
 use Rattle.survey.specs.Line.{mirror_name, printed_forms}
 use Rattle.survey.specs.Grammar.{Digit, KText, spelt, MirrorNumber, reversal, complement, another, InOrder, as_listed, SurveyInput}
+use Rattle.settings.specs.Given.{the_settings}
 
 -- ---- digits that have no leading zero are the decimal digits of the number that they spell
 
@@ -60,8 +61,8 @@ same_values letters {k} {k'} {mirror} e f =
     ap (λ (x : List ℕ). line_of (settings_forms letters x mirror)) e ∙ ap (λ (x : List ℕ). line_of (settings_forms letters k' x)) f
 
 -- Whatever its end and the file behind it are.
-pub the_settings_line : {input letters file : List ℕ} {k mirror : ℕ} → settings_ground letters k mirror ≡ None → (S : SurveyInput input letters k mirror file)
-    → S.line ≡ line_of (printed_forms letters k mirror)
+pub the_settings_line : {input letters file : List ℕ} {k mirror : ℕ} → settings_ground (the_settings letters k mirror) ≡ None → (S : SurveyInput input letters k mirror file)
+    → S.line ≡ line_of (printed_forms (the_settings letters k mirror))
 the_settings_line {letters = letters} {k = k} {mirror = mirror} passed S =
     let known = (good_settings letters k mirror passed).low in
     line_is S.order ∙ same_values letters (k_spelt S.k_text S.k_good) (mirror-named S.mirror_good.number known)

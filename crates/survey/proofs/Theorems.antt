@@ -18,6 +18,7 @@ use Rattle.survey.proofs.LineRead.{Fine, line_good}
 use Rattle.survey.proofs.LineThere.{in_order_lem, in_another_order, further_form, further_form_in_another_order, one_row}
 use Rattle.survey.proofs.Written.{good_letters_lem, values_good, printed_line, line_written}
 use Rattle.survey.proofs.OneLine.{the_settings_line}
+use Rattle.settings.specs.Given.{the_settings}
 
 -- Which refusal an answer is; 0 for none.
 number : Outcome InputParts → ℕ
@@ -104,13 +105,13 @@ one_of_three t Q read no_survey other-order = go (read_line t) (line_good t)
 -- The settings' forms as we print them are read back: for letters, a k up to 999 and a mirror 0 or 1 their line is read as these, with each end, and what
 -- follows the end is the file.
 pub reads_back : (letters : List ℕ) (k mirror : ℕ) {end file : List ℕ} → LettersText letters → k ≤ 999 → mirror ≤ 1 → LineEnd end file
-    → read_input (line_of (printed_forms letters k mirror) ++ (end ++ file)) ≡ given (input_parts letters k mirror file)
+    → read_input (line_of (printed_forms (the_settings letters k mirror)) ++ (end ++ file)) ≡ given (input_parts letters k mirror file)
 reads_back letters k mirror good small known ends = reads_all (line_written letters k mirror good small known ends)
 
 -- So it is for what we print: only settings that pass the check are printed, and the settings' part of the line that is printed for them (`printed_line`),
 -- closed, is read as the same letters, the same k and the same mirror.
-pub reads_back_the_settings_part : (letters : List ℕ) (k mirror : ℕ) {end file : List ℕ} → settings_ground letters k mirror ≡ None → LineEnd end file
-    → read_input (line_of (printed_forms letters k mirror) ++ (end ++ file)) ≡ given (input_parts letters k mirror file)
+pub reads_back_the_settings_part : (letters : List ℕ) (k mirror : ℕ) {end file : List ℕ} → settings_ground (the_settings letters k mirror) ≡ None → LineEnd end file
+    → read_input (line_of (printed_forms (the_settings letters k mirror)) ++ (end ++ file)) ≡ given (input_parts letters k mirror file)
 reads_back_the_settings_part letters k mirror passed =
     let good = good_settings letters k mirror passed in
     reads_back letters k mirror (good_letters_lem letters k mirror passed) (omega (arith, good.short_k)) good.low
@@ -131,17 +132,17 @@ reads_no_further_form_in_another_order part rest o e =
     rw (further_form_in_another_order part rest s.letters_good s.k_good s.mirror_good s.order e)
 
 -- The line that we print is such a line, whatever follows it.
-pub reads_no_printed_line : (letters : List ℕ) (k mirror : ℕ) (rest : List ℕ) → settings_ground letters k mirror ≡ None
-    → read_input (survey_line letters k mirror ++ rest) ≡ refused (13, 0)
+pub reads_no_printed_line : (letters : List ℕ) (k mirror : ℕ) (rest : List ℕ) → settings_ground (the_settings letters k mirror) ≡ None
+    → read_input (survey_line (the_settings letters k mirror) ++ rest) ≡ refused (13, 0)
 unfolding read_input
 reads_no_printed_line letters k mirror rest passed =
     let v = values_good letters k mirror passed in
-    let part = unclosed (printed_forms letters k mirror) in
-    rw (printed_line letters k mirror, append_assoc part _ rest, further_form part _ v.letters_good v.k_good v.mirror_good as_listed refl)
+    let part = unclosed (printed_forms (the_settings letters k mirror)) in
+    rw (printed_line (the_settings letters k mirror), append_assoc part _ rest, further_form part _ v.letters_good v.k_good v.mirror_good as_listed refl)
 
 -- "Where the settings are not refused, equal settings then mean equal lines, save for the line's end" (document 02, K5): both are the line of the
 -- settings' forms as we print them.
-pub equal_settings_equal_lines : {input input' letters file file' : List ℕ} {k mirror : ℕ} → settings_ground letters k mirror ≡ None
+pub equal_settings_equal_lines : {input input' letters file file' : List ℕ} {k mirror : ℕ} → settings_ground (the_settings letters k mirror) ≡ None
     → (S : SurveyInput input letters k mirror file) (S' : SurveyInput input' letters k mirror file') → S.line ≡ S'.line
 equal_settings_equal_lines passed S S' = the_settings_line passed S ∙ sym (the_settings_line passed S')
 
@@ -171,11 +172,11 @@ equal_lines_equal_settings S S' e =
     (one.0, one.1, one.2)
 
 -- So do equal lines of those that we print: the settings of two listings are compared by their first lines.
-pub equal_printed_lines_equal_settings : {letters letters' : List ℕ} {k k' mirror mirror' : ℕ} → settings_ground letters k mirror ≡ None
-    → settings_ground letters' k' mirror' ≡ None → survey_line letters k mirror ≡ survey_line letters' k' mirror'
+pub equal_printed_lines_equal_settings : {letters letters' : List ℕ} {k k' mirror mirror' : ℕ} → settings_ground (the_settings letters k mirror) ≡ None
+    → settings_ground (the_settings letters' k' mirror') ≡ None → survey_line (the_settings letters k mirror) ≡ survey_line (the_settings letters' k' mirror')
     → (letters ≡ letters') × (k ≡ k') × (mirror ≡ mirror')
 equal_printed_lines_equal_settings {letters} {letters'} {k} {k'} {mirror} {mirror'} passed passed' e =
     let v = values_good letters k mirror passed in
     let v' = values_good letters' k' mirror' passed' in
-    one_row _ _ v.letters_good v.k_good v.mirror_good (printed_line letters k mirror)
-    v'.letters_good v'.k_good v'.mirror_good (e ∙ printed_line letters' k' mirror')
+    one_row _ _ v.letters_good v.k_good v.mirror_good (printed_line (the_settings letters k mirror))
+    v'.letters_good v'.k_good v'.mirror_good (e ∙ printed_line (the_settings letters' k' mirror'))

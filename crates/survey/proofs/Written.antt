@@ -15,6 +15,7 @@ use Rattle.survey.specs.Line.{mirror_name, printed_forms, survey_line}
 use Rattle.survey.specs.Grammar.{LetterByte, LettersText, Digit, KText, MirrorText, reversal, complement, spelt, as_listed, LineEnd, SurveyInput}
 use Rattle.survey.proofs.ByteLaws.{letter_above}
 use Rattle.survey.proofs.MirrorNames.{reversal_small, complement_small}
+use Rattle.settings.specs.Given.{Given, the_settings}
 
 -- ---- letters of settings that pass the check
 
@@ -27,7 +28,7 @@ capital_letters (b ∷ letters) e =
     let others = ((and-eq-true_iff (not (is_in b letters)) (different_capitals letters)).0 first.1).1 in
     (letter_above b (omega arith), capital_letters letters others)
 
-pub good_letters_lem : (letters : List ℕ) (k mirror : ℕ) → settings_ground letters k mirror ≡ None → LettersText letters
+pub good_letters_lem : (letters : List ℕ) (k mirror : ℕ) → settings_ground (the_settings letters k mirror) ≡ None → LettersText letters
 good_letters_lem letters k mirror passed =
     let good = good_settings letters k mirror passed in
     let capitals = sym (some_letters letters good.two good.few) ∙ good.capitals in
@@ -82,7 +83,7 @@ pub record Printed (letters : List ℕ) (k mirror : ℕ) : Type 0 where
   pub k_good : KText (decimal k) k
   pub mirror_good : MirrorText (mirror_name mirror) mirror
 
-pub values_good : (letters : List ℕ) (k mirror : ℕ) → settings_ground letters k mirror ≡ None → Printed letters k mirror
+pub values_good : (letters : List ℕ) (k mirror : ℕ) → settings_ground (the_settings letters k mirror) ≡ None → Printed letters k mirror
 values_good letters k mirror passed =
     let good = good_settings letters k mirror passed in
     record {
@@ -92,19 +93,19 @@ values_good letters k mirror passed =
     }
 
 -- The settings' part, and then the number of classes.
-pub printed_line : (letters : List ℕ) (k mirror : ℕ)
-    → survey_line letters k mirror
-    ≡ unclosed (printed_forms letters k mirror) ++ (bytes " (classes " ++ (decimal (settings_of letters k mirror).classes ++ bytes "))\n"))
+pub printed_line : (settings : Given)
+    → survey_line settings
+    ≡ unclosed (printed_forms settings) ++ (bytes " (classes " ++ (decimal (settings_of settings).classes ++ bytes "))\n"))
 unfolding survey_line
-printed_line letters k mirror = simp (append_assoc, append-nil)
+printed_line settings = simp (append_assoc, append-nil)
 
 -- Whatever the line's end is and the file behind it.
 pub line_written : (letters : List ℕ) (k mirror : ℕ) {end file : List ℕ} → LettersText letters → k ≤ 999 → mirror ≤ 1 → LineEnd end file
-    → SurveyInput (line_of (printed_forms letters k mirror) ++ (end ++ file)) letters k mirror file
+    → SurveyInput (line_of (printed_forms (the_settings letters k mirror)) ++ (end ++ file)) letters k mirror file
 line_written letters k mirror good small known ends = record {
   k_text = decimal k;
   mirror_text = mirror_name mirror;
-  line = line_of (printed_forms letters k mirror);
+  line = line_of (printed_forms (the_settings letters k mirror));
   end = _;
   letters_good = good;
   k_good = k_written k small;

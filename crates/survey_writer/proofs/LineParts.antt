@@ -5,10 +5,11 @@ use Rattle.settings.specs.Settings.{settings_of}
 use Rattle.texts.specs.Decimals.{decimal}
 use Rattle.survey.specs.Line.{mirror_name, survey_line}
 use Rattle.survey.proofs.Written.{printed_line}
+use Rattle.settings.specs.Given.{Given}
 
 -- The survey line as its parts are written, one after the other.
-pub survey_parts : (letters : List ℕ) (k m : ℕ) {n : ℕ} → n ≡ (settings_of letters k m).classes
-    → bytes "(survey (letters " ++ (letters ++ (bytes ") (k " ++ (decimal k ++ ((bytes ") (mirror " ++ mirror_name m)
+pub survey_parts : (s : Given) {n : ℕ} → n ≡ (settings_of s).classes
+    → bytes "(survey (letters " ++ (s.letters ++ (bytes ") (k " ++ (decimal s.k ++ ((bytes ") (mirror " ++ mirror_name s.mirror)
     ++ (bytes ") (classes " ++ (decimal n ++ bytes "))\n"))))))
-    ≡ survey_line letters k m
-survey_parts letters k m e = rw (e, printed_line letters k m) (simp (append_assoc, append-nil))
+    ≡ survey_line s
+survey_parts s e = rw (e, printed_line s) (simp (append_assoc, append-nil))

@@ -4,10 +4,12 @@
 
 ghost use Rattle.std.specs.Prelude.{◌≡◌, ◌++◌};
 ghost use Rattle.laws.specs.Text.{bytes};
+ghost use Rattle.settings.specs.Given.{as_given};
 ghost use Rattle.settings.specs.Settings.{settings_of};
 ghost use Rattle.texts.specs.Needs.{Writes};
 ghost use Rattle.survey.specs.Line.{mirror_name, survey_line};
 
+use settings::Settings;
 use texts::Writer;
 
 // The mirror's form in the survey line up to its closing bracket, with what stands before it.
@@ -22,14 +24,14 @@ fn put_mirror(w: &mut Writer, mirror: u64)
 }
 
 // The survey line: the settings and the number of their classes. A listing begins with it, and `loader` compares a line with it.
-pub fn put_survey(w: &mut Writer, letters: &[u8], k: usize, mirror: u64, classes: usize)
-    requires { classes ≡ (settings_of letters.now k mirror).classes }
-    ensures { Writes w.old w.new (survey_line letters.now k mirror) }
+pub fn put_survey(w: &mut Writer, settings: &Settings, classes: usize)
+    requires { classes ≡ (settings_of (as_given settings.now)).classes }
+    ensures { Writes w.old w.new (survey_line (as_given settings.now)) }
 {
     w.put_text(b"(survey (letters ");
-    w.put_text(letters);
-    w.put_field(b") (k ", k as u64);
-    put_mirror(w, mirror);
+    w.put_text(settings.letters);
+    w.put_field(b") (k ", settings.k as u64);
+    put_mirror(w, settings.mirror);
     w.put_field(b") (classes ", classes as u64);
     w.put_text(b"))\n");
 }

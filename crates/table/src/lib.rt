@@ -4,9 +4,10 @@
 #![tactic(auto)]
 
 ghost use Rattle.std.specs.Prelude.{◌≡◌, length};
+ghost use Rattle.settings.specs.Given.{as_given};
 ghost use Rattle.settings.specs.Grounds.{outcome, outcome_of};
 ghost use Rattle.settings.specs.Settings.{settings_of};
-ghost use Rattle.files.specs.File.{file_of};
+ghost use Rattle.files.specs.File.{as_file};
 ghost use Rattle.kernels.specs.Kernels.{Takes};
 ghost use Rattle.tally_book.specs.Table.{ready_ground, Called, Added, Withdrawn, Clears};
 ghost use Rattle.counts.specs.Calls.{call_of};
@@ -14,12 +15,12 @@ ghost use Rattle.table.specs.Needs.{room_ground};
 
 use counts::Way;
 use fasta::Numbers;
-use files::Kind;
+use files::SequenceFile;
 use kernels::{Coder, Kernel};
-use settings::{Mirror, Refusal, Settings};
+use settings::{Checked, Mirror, Refusal, Settings};
 
 // The number of classes, where a table may have so many and one with this room has a place for each: the grounds 6 and 7.
-fn room_for(st: Settings, room: usize) -> Result<usize, Refusal>
+fn room_for(st: Checked, room: usize) -> Result<usize, Refusal>
     ensures { outcome_of result ≡ outcome (room_ground st.classes room) st.classes }
 {
     if st.classes > settings::MOST_CLASSES {
@@ -33,26 +34,20 @@ fn room_for(st: Settings, room: usize) -> Result<usize, Refusal>
 }
 
 // Sets the first places, one a class, to 0. Refused on the grounds 1, 2, 4, 6 and 7.
-pub fn clear(letters: &[u8], k: usize, mirror: u64, table: &mut [u32]) -> Result<usize, Refusal>
-    ensures { Clears letters.now k mirror table.old (outcome_of result) table.new }
+pub fn clear(settings: &Settings, table: &mut [u32]) -> Result<usize, Refusal>
+    ensures { Clears (as_given settings.now) table.old (outcome_of result) table.new }
 {
-    let st = settings::check(letters, k, mirror)?;
+    let st = settings.check()?;
     let n = room_for(st, table.len())?;
     table[..n].fill(0);
     Ok(n)
 }
 
 // Whether a file may be read for an add or a withdrawal: the settings, where no ground among 1, 2, 4, 6 and 7 applies.
-pub fn ready(
-    letters: &[u8],
-    k: usize,
-    mirror: u64,
-    room: usize,
-    file: &[u8],
-) -> Result<Settings, Refusal>
-    ensures { outcome_of result ≡ outcome (ready_ground letters.now k mirror room file.now) (settings_of letters.now k mirror) }
+pub fn ready(settings: &Settings, room: usize, file: &[u8]) -> Result<Checked, Refusal>
+    ensures { outcome_of result ≡ outcome (ready_ground (as_given settings.now) room file.now) (settings_of (as_given settings.now)) }
 {
-    let st = settings::check(letters, k, mirror)?;
+    let st = settings.check()?;
     if file.len() > settings::MOST_BYTES {
         return Err(Refusal::TooLarge);
     }
@@ -73,46 +68,33 @@ fn kernel_for(s: u64, m: Mirror) -> Kernel
 // An add or a withdrawal of a file, as `way` says. The file is read to its end before the table is touched.
 pub fn call(
     way: Way,
-    letters: &[u8],
-    k: usize,
-    mirror: u64,
+    settings: &Settings,
     table: &mut [u32],
-    kind: Kind,
-    file: &[u8],
+    file: &SequenceFile,
 ) -> Result<Numbers, Refusal>
-    ensures { Called letters.now k mirror table.old (call_of way (file_of kind file.now)) (outcome_of result) table.new }
+    ensures { Called (as_given settings.now) table.old (call_of way (as_file file.now)) (outcome_of result) table.new }
 {
-    let st = ready(letters, k, mirror, table.len(), file)?;
-    let coder = Coder::new(letters, st, kernel_for(st.s, st.mirror));
-    let n = files::scan_file(kind, file, &coder.ranks, k)?;
-    second_pass::call_scanned(way, table, kind, file, st, &coder, n)
+    let st = ready(settings, table.len(), file.bytes)?;
+    let coder = Coder::new(settings.letters, st, kernel_for(st.s, st.mirror));
+    let n = files::scan_file(file, &coder.ranks, settings.k)?;
+    second_pass::call_scanned(way, table, file, st, &coder, n)
 }
 
 // Adds 1 for each window of a file, or refuses the file on the grounds 1, 2, 4, 6, 7, those of its kind or 12, and changes no count.
-pub fn add(
-    letters: &[u8],
-    k: usize,
-    mirror: u64,
-    table: &mut [u32],
-    kind: Kind,
-    file: &[u8],
-) -> Result<Numbers, Refusal>
-    ensures { Added letters.now k mirror table.old (file_of kind file.now) (outcome_of result) table.new }
+pub fn add(settings: &Settings, table: &mut [u32], file: &SequenceFile) -> Result<Numbers, Refusal>
+    ensures { Added (as_given settings.now) table.old (as_file file.now) (outcome_of result) table.new }
 {
-    call(Way::In, letters, k, mirror, table, kind, file)
+    call(Way::In, settings, table, file)
 }
 
 // Takes 1 from its class for each window of a file, or refuses the file on the grounds 1, 2, 4, 6, 7, those of its kind or 18, and leaves every count as it
 // was.
 pub fn withdraw(
-    letters: &[u8],
-    k: usize,
-    mirror: u64,
+    settings: &Settings,
     table: &mut [u32],
-    kind: Kind,
-    file: &[u8],
+    file: &SequenceFile,
 ) -> Result<Numbers, Refusal>
-    ensures { Withdrawn letters.now k mirror table.old (file_of kind file.now) (outcome_of result) table.new }
+    ensures { Withdrawn (as_given settings.now) table.old (as_file file.now) (outcome_of result) table.new }
 {
-    call(Way::Out, letters, k, mirror, table, kind, file)
+    call(Way::Out, settings, table, file)
 }

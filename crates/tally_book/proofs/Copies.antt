@@ -20,6 +20,7 @@ use Rattle.tally_book.specs.Demand.{Calls, TableCalls}
 use Rattle.tally_book.specs.Copies.{CallCopy}
 use Rattle.tally_book.specs.Copies.CallCopy.{of_add, of_withdrawal}
 use Rattle.tally_book.specs.Demand.Calls.{done, then}
+use Rattle.settings.specs.Given.{the_settings}
 
 -- ---- a list of calls
 
@@ -44,7 +45,7 @@ module _ (letters : List ℕ) (k : ℕ) {file copy : File} (C : FileCopy file co
   same_windows_of_file reads = same_file_windows C letters reads k
 
   -- The grounds before the file is read, whatever the letters are.
-  pub same_ready_ground : (m room : ℕ) → ready_ground letters k m room file.bytes ≡ ready_ground letters k m room copy.bytes
+  pub same_ready_ground : (m room : ℕ) → ready_ground (the_settings letters k m) room file.bytes ≡ ready_ground (the_settings letters k m) room copy.bytes
   unfolding ready_ground too_long
   same_ready_ground m room = rw (same_length C.bytes)
 
@@ -55,20 +56,20 @@ copied_file (of_withdrawal C) = C
 
 module _ (letters : List ℕ) (reads : reads_u_as_t letters ≡ true) (k m : ℕ) where
   -- What the last ground reads of two such calls, and what they make of the table.
-  pub same_last : {c d : Call} → CallCopy c d → (t : List ℕ) → last_ground letters k m t c ≡ last_ground letters k m t d
+  pub same_last : {c d : Call} → CallCopy c d → (t : List ℕ) → last_ground (the_settings letters k m) t c ≡ last_ground (the_settings letters k m) t d
   same_last (of_add C) t = rw (same_windows_of_file letters k C reads)
   same_last (of_withdrawal C) t = rw (same_windows_of_file letters k C reads)
 
-  pub same_after : {c d : Call} → CallCopy c d → (t : List ℕ) → table_after letters k m t c ≡ table_after letters k m t d
+  pub same_after : {c d : Call} → CallCopy c d → (t : List ℕ) → table_after (the_settings letters k m) t c ≡ table_after (the_settings letters k m) t d
   same_after (of_add C) t = rw (same_windows_of_file letters k C reads)
   same_after (of_withdrawal C) t = rw (same_windows_of_file letters k C reads)
 
-  same_ground : {c d : Call} → CallCopy c d → (t : List ℕ) → table_ground letters k m t c ≡ table_ground letters k m t d
+  same_ground : {c d : Call} → CallCopy c d → (t : List ℕ) → table_ground (the_settings letters k m) t c ≡ table_ground (the_settings letters k m) t d
   unfolding call_ground
   same_ground C t = rw (same_last C t, same_ready_ground letters k (copied_file C) m (length t), same_file_fault (copied_file C))
 
   pub copy_called : {c d : Call} → CallCopy c d
-      → {t t' u' : List ℕ} {answer answer' : Outcome Numbers} → Called letters k m t c answer t' → Called letters k m t d answer' u'
+      → {t t' u' : List ℕ} {answer answer' : Outcome Numbers} → Called (the_settings letters k m) t c answer t' → Called (the_settings letters k m) t d answer' u'
       → (answer ≡ answer') × (t' ≡ u')
   copy_called C {t} A B = (
     A.answers ∙ rw (same_ground C t, same_file_numbers (copied_file C) letters reads k) (sym B.answers),
@@ -76,6 +77,6 @@ module _ (letters : List ℕ) (reads : reads_u_as_t letters ≡ true) (k m : ℕ
   )
 
   pub copies_called : {calls copies : List Call} → Forall₂ CallCopy calls copies
-      → {t t' u' : List ℕ} {answers answers' : List (Outcome Numbers)} → TableCalls letters k m t calls answers t' → TableCalls letters k m t copies answers' u'
+      → {t t' u' : List ℕ} {answers answers' : List (Outcome Numbers)} → TableCalls (the_settings letters k m) t calls answers t' → TableCalls (the_settings letters k m) t copies answers' u'
       → (answers ≡ answers') × (t' ≡ u')
-  copies_called = same_calls (Called letters k m) CallCopy (λ t c d a b t' u' C A B. copy_called C A B)
+  copies_called = same_calls (Called (the_settings letters k m)) CallCopy (λ t c d a b t' u' C A B. copy_called C A B)

@@ -9,6 +9,7 @@ use Rattle.encoding.specs.Words.{Mirror, IsWord, mirror, canonical}
 use Rattle.fasta.specs.declared.Numbers.{Numbers}
 use Rattle.files.specs.File.{File, file_numbers}
 use Rattle.tally_book.specs.Table.{class_count, windows_of_file, full, call_ground, Call, add, withdraw, call_file}
+use Rattle.settings.specs.Given.{Given}
 
 -- ---- words and classes
 
@@ -63,8 +64,8 @@ abbrev pub tallies : ℕ → Mirror → ℕ → Book → List ℕ
 tallies s m k book = map book (canonical_ones s m (all_words s k))
 
 -- "12 read with the tallies instead of the table's places"
-abbrev pub book_full : (letters : List ℕ) (k mirror : ℕ) → Book → (file : File) → Bool
-book_full letters k m book file = full (length (windows_of_file letters k file)) (tallies (length letters) (mirror_of m) k book)
+abbrev pub book_full : (settings : Given) → Book → (file : File) → Bool
+book_full settings book file = full (length (windows_of_file settings.letters settings.k file)) (tallies (length settings.letters) (mirror_of settings.mirror) settings.k book)
 
 -- Whether some of these words passes a test.
 unfoldable pub some_of : (List ℕ → Bool) → List (List ℕ) → Bool
@@ -72,43 +73,43 @@ some_of test [] = false
 some_of test (w ∷ ws) = test w || some_of test ws
 
 -- 18 read with the tallies: "some class has a smaller count than the file has windows of it" (document 02, K4)
-abbrev pub book_lacks : (letters : List ℕ) (k mirror : ℕ) → Book → (file : File) → Bool
-book_lacks letters k m book file =
-    some_of (λ (w : List ℕ). ltb (book w) (hits (length letters) (mirror_of m) w (windows_of_file letters k file)))
-    (canonical_ones (length letters) (mirror_of m) (all_words (length letters) k))
+abbrev pub book_lacks : (settings : Given) → Book → (file : File) → Bool
+book_lacks settings book file =
+    some_of (λ (w : List ℕ). ltb (book w) (hits (length settings.letters) (mirror_of settings.mirror) w (windows_of_file settings.letters settings.k file)))
+    (canonical_ones (length settings.letters) (mirror_of settings.mirror) (all_words (length settings.letters) settings.k))
 
 -- The last ground of a call, read from the tallies.
-abbrev pub book_last : (letters : List ℕ) (k mirror : ℕ) → Book → Call → Option Ground
-book_last letters k m book (add file) = ground 12 (book_full letters k m book file)
-book_last letters k m book (withdraw file) = ground 18 (book_lacks letters k m book file)
+abbrev pub book_last : (settings : Given) → Book → Call → Option Ground
+book_last settings book (add file) = ground 12 (book_full settings book file)
+book_last settings book (withdraw file) = ground 18 (book_lacks settings book file)
 
 -- "Where any ground for refusing applies" to a call: the book has room for each class, so that ground 7 never applies to it; neither did it to the
 -- clearing.
-abbrev pub book_ground : (letters : List ℕ) (k mirror : ℕ) → Book → Call → Option Ground
-book_ground letters k m book c = call_ground letters k m (class_count letters k m) (call_file c) (book_last letters k m book c)
+abbrev pub book_ground : (settings : Given) → Book → Call → Option Ground
+book_ground settings book c = call_ground settings (class_count settings) (call_file c) (book_last settings book c)
 
 -- "the book answers the number and P that the rules for the grounds give", "and the book answers the file's numbers"
-abbrev pub book_answer : (letters : List ℕ) (k mirror : ℕ) → Book → Call → Outcome Numbers
-book_answer letters k m book c = outcome (book_ground letters k m book c) (file_numbers (rank_in letters) k (call_file c))
+abbrev pub book_answer : (settings : Given) → Book → Call → Outcome Numbers
+book_answer settings book c = outcome (book_ground settings book c) (file_numbers (rank_in settings.letters) settings.k (call_file c))
 
 -- Of an add "each class's tally grows by the number of the file's windows equal to its canonical word or to that word's mirror"; the book "keeps
 -- withdrawals likewise" (document 02, K4), so of a withdrawal it falls by that number, which, by ground 18, is no larger than the tally.
-abbrev pub tally_after : (letters : List ℕ) (k mirror : ℕ) → Book → Call → Book
-tally_after letters k m book (add file) w = book w + hits (length letters) (mirror_of m) w (windows_of_file letters k file)
-tally_after letters k m book (withdraw file) w = book w - hits (length letters) (mirror_of m) w (windows_of_file letters k file)
+abbrev pub tally_after : (settings : Given) → Book → Call → Book
+tally_after settings book (add file) w = book w + hits (length settings.letters) (mirror_of settings.mirror) w (windows_of_file settings.letters settings.k file)
+tally_after settings book (withdraw file) w = book w - hits (length settings.letters) (mirror_of settings.mirror) w (windows_of_file settings.letters settings.k file)
 
 -- "no tally changes. Otherwise .."
-abbrev pub book_after : (letters : List ℕ) (k mirror : ℕ) → Book → Call → Book
-book_after letters k m book c w = unless_refused (book_ground letters k m book c) (tally_after letters k m book c w) (book w)
+abbrev pub book_after : (settings : Given) → Book → Call → Book
+book_after settings book c w = unless_refused (book_ground settings book c) (tally_after settings book c w) (book w)
 
 -- ---- a list of calls
 
 -- What the book answers to some calls, one after the other.
-unfoldable pub book_answers : (letters : List ℕ) (k mirror : ℕ) → Book → List Call → List (Outcome Numbers)
-book_answers letters k m book [] = []
-book_answers letters k m book (c ∷ calls) = book_answer letters k m book c ∷ book_answers letters k m (book_after letters k m book c) calls
+unfoldable pub book_answers : (settings : Given) → Book → List Call → List (Outcome Numbers)
+book_answers settings book [] = []
+book_answers settings book (c ∷ calls) = book_answer settings book c ∷ book_answers settings (book_after settings book c) calls
 
 -- The book after them.
-unfoldable pub book_after_all : (letters : List ℕ) (k mirror : ℕ) → Book → List Call → Book
-book_after_all letters k m book [] = book
-book_after_all letters k m book (c ∷ calls) = book_after_all letters k m (book_after letters k m book c) calls
+unfoldable pub book_after_all : (settings : Given) → Book → List Call → Book
+book_after_all settings book [] = book
+book_after_all settings book (c ∷ calls) = book_after_all settings (book_after settings book c) calls

@@ -8,6 +8,7 @@ use Rattle.fasta.specs.declared.Numbers.{Numbers}
 use Rattle.files.specs.File.{File, file_numbers}
 use Rattle.tally_book.specs.Table.{class_count, place_of, windows_of_file, Call, add, withdraw, Called}
 use Rattle.tally_book.specs.Book.{CanonicalWord, hits, Book, cleared_book, book_answers, book_after_all}
+use Rattle.settings.specs.Given.{Given}
 
 -- ---- a list of calls
 
@@ -20,8 +21,8 @@ pub data Calls {C A : Type 0} (Step : List ℕ → C → A → List ℕ → Type
 
 -- A list of adds and withdrawals with the same settings. "All of demand 3 must hold for lists mixing both kinds of file" (document 02, K1): each file has its
 -- own kind.
-abbrev pub TableCalls : (letters : List ℕ) (k mirror : ℕ) → (t : List ℕ) (calls : List Call) (answers : List (Outcome Numbers)) (t' : List ℕ) → Type 0
-TableCalls letters k m = Calls (Called letters k m)
+abbrev pub TableCalls : (settings : Given) → (t : List ℕ) (calls : List Call) (answers : List (Outcome Numbers)) (t' : List ℕ) → Type 0
+TableCalls settings = Calls (Called settings)
 
 -- The files taken in: those whose adds answered with numbers.
 unfoldable pub taken_in : List Call → List (Outcome Numbers) → List File
@@ -45,8 +46,8 @@ windows_of_files letters k [] = []
 windows_of_files letters k (file ∷ files) = windows_of_file letters k file ++ windows_of_files letters k files
 
 -- How many of them are equal to w or to its mirror.
-abbrev pub file_hits : (letters : List ℕ) (k mirror : ℕ) (w : List ℕ) (files : List File) → ℕ
-file_hits letters k m w files = hits (length letters) (mirror_of m) w (windows_of_files letters k files)
+abbrev pub file_hits : (settings : Given) (w : List ℕ) (files : List File) → ℕ
+file_hits settings w files = hits (length settings.letters) (mirror_of settings.mirror) w (windows_of_files settings.letters settings.k files)
 
 -- A number of each file "added up over the files".
 unfoldable pub added_up : (File → ℕ) → List File → ℕ
@@ -59,43 +60,43 @@ sum [] = 0
 sum (x ∷ xs) = x + sum xs
 
 -- "The counts are the table's places below the number of classes."
-abbrev pub counts : (letters : List ℕ) (k mirror : ℕ) (t : List ℕ) → List ℕ
-counts letters k m t = take (class_count letters k m) t
+abbrev pub counts : (settings : Given) (t : List ℕ) → List ℕ
+counts settings t = take (class_count settings) t
 
 -- ---- the claim
 
 -- The table has a place for each class, and each class's count is its tally.
-pub record Agrees (letters : List ℕ) (k mirror : ℕ) (t : List ℕ) (book : Book) : Type 0 where
-  pub one_place_a_class : class_count letters k mirror ≤ length t
-  pub each_count_is_its_class's_tally : (w : List ℕ) → CanonicalWord (length letters) (mirror_of mirror) k w
-      → get_or t (place_of letters k mirror w) 0 ≡ book w
+pub record Agrees (settings : Given) (t : List ℕ) (book : Book) : Type 0 where
+  pub one_place_a_class : class_count settings ≤ length t
+  pub each_count_is_its_class's_tally : (w : List ℕ) → CanonicalWord (length settings.letters) (mirror_of settings.mirror) settings.k w
+      → get_or t (place_of settings w) 0 ≡ book w
 
 -- What holds after a list of calls that began with a table t₀ and a book that agreed.
-pub record Kept (letters : List ℕ) (k mirror : ℕ) (book : Book) (t₀ : List ℕ) (calls : List Call) (answers : List (Outcome Numbers)) (t : List ℕ)
+pub record Kept (settings : Given) (book : Book) (t₀ : List ℕ) (calls : List Call) (answers : List (Outcome Numbers)) (t : List ℕ)
     : Type 0 where
-  pub each_call_answered_what_the_book_did : answers ≡ book_answers letters k mirror book calls
-  pub each_count_equals_its_class's_tally : Agrees letters k mirror t (book_after_all letters k mirror book calls)
-  pub later_places_never_change : drop (class_count letters k mirror) t ≡ drop (class_count letters k mirror) t₀
+  pub each_call_answered_what_the_book_did : answers ≡ book_answers settings book calls
+  pub each_count_equals_its_class's_tally : Agrees settings t (book_after_all settings book calls)
+  pub later_places_never_change : drop (class_count settings) t ≡ drop (class_count settings) t₀
   pub as_many_places_as_before : length t ≡ length t₀
   -- "each class's count is its windows added less its windows withdrawn, over the calls accepted", added to what it was
-  pub each_count_moved_by_the_windows : (w : List ℕ) → CanonicalWord (length letters) (mirror_of mirror) k w
-      → get_or t (place_of letters k mirror w) 0 + file_hits letters k mirror w (taken_out calls answers)
-      ≡ get_or t₀ (place_of letters k mirror w) 0 + file_hits letters k mirror w (taken_in calls answers)
+  pub each_count_moved_by_the_windows : (w : List ℕ) → CanonicalWord (length settings.letters) (mirror_of settings.mirror) settings.k w
+      → get_or t (place_of settings w) 0 + file_hits settings w (taken_out calls answers)
+      ≡ get_or t₀ (place_of settings w) 0 + file_hits settings w (taken_in calls answers)
   pub sum_of_the_windows :
-      sum (counts letters k mirror t) + length (windows_of_files letters k (taken_out calls answers))
-      ≡ sum (counts letters k mirror t₀) + length (windows_of_files letters k (taken_in calls answers))
+      sum (counts settings t) + length (windows_of_files settings.letters settings.k (taken_out calls answers))
+      ≡ sum (counts settings t₀) + length (windows_of_files settings.letters settings.k (taken_in calls answers))
 
 -- "Every place below the number of classes stands for just one class, every class has its place there, and two words share a place exactly
 -- when they are equal or mirrors of each other."
-pub record OnePlaceAClass (letters : List ℕ) (k m : ℕ) : Type 0 where
-  pub every_class_has_its_place : (w : List ℕ) → IsWord (length letters) k w → place_of letters k m w < class_count letters k m
-  pub every_place_stands_for_a_class : (q : ℕ) → q < class_count letters k m
-      → (w : List ℕ) × CanonicalWord (length letters) (mirror_of m) k w × (place_of letters k m w ≡ q)
-  pub and_for_just_one : (v w : List ℕ) → CanonicalWord (length letters) (mirror_of m) k v → CanonicalWord (length letters) (mirror_of m) k w
-      → place_of letters k m v ≡ place_of letters k m w
+pub record OnePlaceAClass (settings : Given) : Type 0 where
+  pub every_class_has_its_place : (w : List ℕ) → IsWord (length settings.letters) settings.k w → place_of settings w < class_count settings
+  pub every_place_stands_for_a_class : (q : ℕ) → q < class_count settings
+      → (w : List ℕ) × CanonicalWord (length settings.letters) (mirror_of settings.mirror) settings.k w × (place_of settings w ≡ q)
+  pub and_for_just_one : (v w : List ℕ) → CanonicalWord (length settings.letters) (mirror_of settings.mirror) settings.k v → CanonicalWord (length settings.letters) (mirror_of settings.mirror) settings.k w
+      → place_of settings v ≡ place_of settings w
       → v ≡ w
-  pub words_share_a_place_exactly_when_equal_or_mirrors : (v w : List ℕ) → IsWord (length letters) k v → IsWord (length letters) k w
-      → (place_of letters k m v ≡ place_of letters k m w) ↔ ((v ≡ w) ⊎ (v ≡ mirror (length letters) (mirror_of m) w))
+  pub words_share_a_place_exactly_when_equal_or_mirrors : (v w : List ℕ) → IsWord (length settings.letters) settings.k v → IsWord (length settings.letters) settings.k w
+      → (place_of settings v ≡ place_of settings w) ↔ ((v ≡ w) ⊎ (v ≡ mirror (length settings.letters) (mirror_of settings.mirror) w))
 
 -- Letters, foreign letters and edge letters of a file.
 abbrev pub letters_of : (letters : List ℕ) (k : ℕ) (file : File) → ℕ
@@ -120,36 +121,36 @@ NotCutOff letters k files =
 -- Demand 3 for a list of calls from a cleared table: t₀ is the table before the clearing, cleared the one that it left, t the one that the list left. `Kept` says
 -- what holds from any table that agrees with a book, here from the cleared table and the cleared book; the other fields say what it comes to there, the counts being
 -- 0, and beside t₀.
-pub record DemandThree (letters : List ℕ) (k mirror : ℕ) (t₀ cleared : List ℕ) (calls : List Call) (answers : List (Outcome Numbers)) (t : List ℕ) : Type 0 where
-  pub kept : Kept letters k mirror cleared_book cleared calls answers t
-  pub later_places_as_before_the_clearing : drop (class_count letters k mirror) t ≡ drop (class_count letters k mirror) t₀
+pub record DemandThree (settings : Given) (t₀ cleared : List ℕ) (calls : List Call) (answers : List (Outcome Numbers)) (t : List ℕ) : Type 0 where
+  pub kept : Kept settings cleared_book cleared calls answers t
+  pub later_places_as_before_the_clearing : drop (class_count settings) t ≡ drop (class_count settings) t₀
   pub as_many_places_as_before_the_clearing : length t ≡ length t₀
-  pub places_and_classes : OnePlaceAClass letters k mirror
+  pub places_and_classes : OnePlaceAClass settings
   -- "each class's count is its windows added less its windows withdrawn, over the calls accepted"; the next field says that nothing is cut off
-  pub each_count_is_added_less_withdrawn : (w : List ℕ) → CanonicalWord (length letters) (mirror_of mirror) k w
-      → get_or t (place_of letters k mirror w) 0
-      ≡ file_hits letters k mirror w (taken_in calls answers)
-      - file_hits letters k mirror w (taken_out calls answers)
-  pub no_class_more_withdrawn_than_added : (w : List ℕ) → CanonicalWord (length letters) (mirror_of mirror) k w
-      → file_hits letters k mirror w (taken_out calls answers)
-      ≤ file_hits letters k mirror w (taken_in calls answers)
+  pub each_count_is_added_less_withdrawn : (w : List ℕ) → CanonicalWord (length settings.letters) (mirror_of settings.mirror) settings.k w
+      → get_or t (place_of settings w) 0
+      ≡ file_hits settings w (taken_in calls answers)
+      - file_hits settings w (taken_out calls answers)
+  pub no_class_more_withdrawn_than_added : (w : List ℕ) → CanonicalWord (length settings.letters) (mirror_of settings.mirror) settings.k w
+      → file_hits settings w (taken_out calls answers)
+      ≤ file_hits settings w (taken_in calls answers)
   -- "sum of the counts = letters − foreign letters − edge letters, each added up over the files taken in", less the same of those taken out. The
   -- last three fields say that no subtraction is cut off.
   pub sum_of_the_counts :
-      sum (counts letters k mirror t) ≡ letters_left letters k (taken_in calls answers) - letters_left letters k (taken_out calls answers)
-  pub nothing_cut_off_in : NotCutOff letters k (taken_in calls answers)
-  pub nothing_cut_off_out : NotCutOff letters k (taken_out calls answers)
-  pub no_more_out_than_in : letters_left letters k (taken_out calls answers) ≤ letters_left letters k (taken_in calls answers)
+      sum (counts settings t) ≡ letters_left settings.letters settings.k (taken_in calls answers) - letters_left settings.letters settings.k (taken_out calls answers)
+  pub nothing_cut_off_in : NotCutOff settings.letters settings.k (taken_in calls answers)
+  pub nothing_cut_off_out : NotCutOff settings.letters settings.k (taken_out calls answers)
+  pub no_more_out_than_in : letters_left settings.letters settings.k (taken_out calls answers) ≤ letters_left settings.letters settings.k (taken_in calls answers)
 
 -- "Two such lists with the same settings leave the same counts exactly when, for every word of k letters, the files taken in by the one hold
 -- as many windows equal to that word or its mirror as the files taken in by the other." Here the windows taken out are taken off on both sides; it is said by
 -- sums, so that nothing is cut off.
-abbrev pub SameCountsExactlyWhen : (letters : List ℕ) (k mirror : ℕ) (calls : List Call) (answers : List (Outcome Numbers)) (t : List ℕ)
+abbrev pub SameCountsExactlyWhen : (settings : Given) (calls : List Call) (answers : List (Outcome Numbers)) (t : List ℕ)
     (calls' : List Call) (answers' : List (Outcome Numbers)) (t' : List ℕ) → Type 0
-SameCountsExactlyWhen letters k m calls answers t calls' answers' t' =
-    (counts letters k m t ≡ counts letters k m t')
-    ↔ ((w : List ℕ) → IsWord (length letters) k w
-    → file_hits letters k m w (taken_in calls answers)
-    + file_hits letters k m w (taken_out calls' answers')
-    ≡ file_hits letters k m w (taken_in calls' answers')
-    + file_hits letters k m w (taken_out calls answers))
+SameCountsExactlyWhen settings calls answers t calls' answers' t' =
+    (counts settings t ≡ counts settings t')
+    ↔ ((w : List ℕ) → IsWord (length settings.letters) settings.k w
+    → file_hits settings w (taken_in calls answers)
+    + file_hits settings w (taken_out calls' answers')
+    ≡ file_hits settings w (taken_in calls' answers')
+    + file_hits settings w (taken_out calls answers))

@@ -7,6 +7,7 @@ use Rattle.encoding.specs.Calls.{in_capitals}
 use Rattle.texts.specs.Decimals.{decimal_from, decimal}
 use Rattle.settings.specs.Limits.{too_long}
 use Rattle.testload.specs.TestLoad.{stepped, drawn_rank, drawn, state_after, in_lines, drawn_letters, record_text, records_from, test_load, generate_ground}
+use Rattle.settings.specs.Given.{the_settings}
 
 -- The test load. A case that unfolds it computes with all that its `unfolding` line names.
 unfoldable generated : (letters : List ℕ) (start records each : ℕ) → List ℕ
@@ -43,14 +44,14 @@ unfolding generated
 no_records = refl
 
 -- A ground of the settings comes first, else 7 with the length.
-bad_letters : generate_ground (bytes "AA") 1 0 (bytes ">1\n") 0 ≡ Some (1, 0)
+bad_letters : generate_ground (the_settings (bytes "AA") 1 0) (bytes ">1\n") 0 ≡ Some (1, 0)
 unfolding generate_ground settings_ground good_letters different_capitals is_capital is_in bad_size too_long
 bad_letters = refl
 
-short_buffer : generate_ground (bytes "AB") 1 0 (bytes ">1\n") 2 ≡ Some (7, 3)
+short_buffer : generate_ground (the_settings (bytes "AB") 1 0) (bytes ">1\n") 2 ≡ Some (7, 3)
 unfolding generate_ground settings_ground good_letters different_capitals is_capital is_in bad_size too_long
 short_buffer = refl
 
-room_enough : generate_ground (bytes "AB") 1 0 (bytes ">1\n") 3 ≡ None
+room_enough : generate_ground (the_settings (bytes "AB") 1 0) (bytes ">1\n") 3 ≡ None
 unfolding generate_ground settings_ground good_letters different_capitals is_capital is_in bad_size too_long
 room_enough = refl

@@ -24,6 +24,7 @@ use Rattle.testload.specs.TestLoad.{drawn, state_after, record_text, records_fro
 use Rattle.testload.specs.Claims.{load_file, load_numbers, drawn_records}
 use Rattle.testload.proofs.Drawn.{length-drawn}
 use Rattle.testload.proofs.Items.{load_marks, Sound, opens, skip, letter, Part, load_part}
+use Rattle.settings.specs.Given.{the_settings}
 
 -- ---- items that are sound
 
@@ -95,7 +96,7 @@ windows-drawn s k each (suc records) x h =
 
 -- ---- the file
 
-module _ (letters : List ℕ) (k m : ℕ) (good : settings_ground letters k m ≡ None) (start records each : ℕ) where
+module _ (letters : List ℕ) (k m : ℕ) (good : settings_ground (the_settings letters k m) ≡ None) (start records each : ℕ) where
   part : Part letters Start (test_load letters start records each) Start [] records (records * each) (load_marks (length letters) each records start)
   part =
       load_part letters (capitals_differ letters k m good) (omega (arith, (good_settings letters k m good).two)) each records 1 start
@@ -137,33 +138,33 @@ module _ (letters : List ℕ) (k m : ℕ) (good : settings_ground letters k m �
 
   -- "Every such file within 16,777,216 bytes": a scan answers its numbers.
   pub test_load_scanned : length (test_load letters start records each) ≤ 16777216
-      → outcome (scan_ground letters k m (load_file letters start records each)) (file_numbers (rank_in letters) k (load_file letters start records each))
+      → outcome (scan_ground (the_settings letters k m) (load_file letters start records each)) (file_numbers (rank_in letters) k (load_file letters start records each))
       ≡ given (load_numbers k records each)
   unfolding scan_ground too_long
   test_load_scanned h = rw (good, le-ltb 16777216 (length (test_load letters start records each)) h, test_load_clean, test_load_numbers)
 
   -- Where the file is within 16,777,216 bytes and the table has a place for each of so many classes at the most (`ready_ground`), an add answers these numbers
   -- unless 12 applies.
-  pub test_load_added : (t : List ℕ) → ready_ground letters k m (length t) (test_load letters start records each) ≡ None
-      → outcome (table_ground letters k m t (add (load_file letters start records each))) (file_numbers (rank_in letters) k (load_file letters start records each))
-      ≡ outcome (ground 12 (table_full letters k m t (load_file letters start records each))) (load_numbers k records each)
+  pub test_load_added : (t : List ℕ) → ready_ground (the_settings letters k m) (length t) (test_load letters start records each) ≡ None
+      → outcome (table_ground (the_settings letters k m) t (add (load_file letters start records each))) (file_numbers (rank_in letters) k (load_file letters start records each))
+      ≡ outcome (ground 12 (table_full (the_settings letters k m) t (load_file letters start records each))) (load_numbers k records each)
   unfolding call_ground
   test_load_added t ready = rw (ready, test_load_clean, test_load_numbers)
 
 -- ---- its length and the room for it
 
-module _ (letters : List ℕ) (k m : ℕ) (good : settings_ground letters k m ≡ None) (text : List ℕ) (room : ℕ) where
+module _ (letters : List ℕ) (k m : ℕ) (good : settings_ground (the_settings letters k m) ≡ None) (text : List ℕ) (room : ℕ) where
   -- "a larger one gives 6", whatever the buffer.
-  pub larger_gives_6 : 16777216 < length text → generate_ground letters k m text room ≡ Some (6, 0)
+  pub larger_gives_6 : 16777216 < length text → generate_ground (the_settings letters k m) text room ≡ Some (6, 0)
   unfolding generate_ground too_long
   larger_gives_6 long = rw (good, lt-ltb 16777216 (length text) long)
 
   module _ (small : length text ≤ 16777216) where
     -- "and a short buffer 7", with the length needed.
-    pub short_buffer_gives_7 : room < length text → generate_ground letters k m text room ≡ Some (7, length text)
+    pub short_buffer_gives_7 : room < length text → generate_ground (the_settings letters k m) text room ≡ Some (7, length text)
     unfolding generate_ground too_long
     short_buffer_gives_7 short = rw (good, le-ltb 16777216 (length text) small, lt-ltb room (length text) short)
 
-    pub room_gives_none : length text ≤ room → generate_ground letters k m text room ≡ None
+    pub room_gives_none : length text ≤ room → generate_ground (the_settings letters k m) text room ≡ None
     unfolding generate_ground too_long
     room_gives_none enough = rw (good, le-ltb 16777216 (length text) small, le-ltb room (length text) enough)

@@ -6,6 +6,7 @@ use Rattle.settings.specs.Settings.{settings_ground}
 use Rattle.encoding.specs.Calls.{in_capitals}
 use Rattle.texts.specs.Decimals.{decimal}
 use Rattle.settings.specs.Limits.{too_long}
+use Rattle.settings.specs.Given.{Given}
 
 -- "Each letter first steps the state: times 6364136223846793005 plus 1442695040888963407, modulo 2^64."
 unfoldable pub stepped : ℕ → ℕ
@@ -48,9 +49,9 @@ abbrev pub test_load : (letters : List ℕ) (start records each : ℕ) → List 
 test_load letters start records each = records_from letters each 1 records start
 
 -- The grounds of the settings; "a larger one gives 6 and a short buffer 7".
-unfoldable pub generate_ground : (letters : List ℕ) (k mirror : ℕ) (text : List ℕ) (room : ℕ) → Option Ground
-generate_ground letters k m text room = settings_ground letters k m or_else ground 6 (too_long text) or_else ground_at 7 (too_short room (length text))
+unfoldable pub generate_ground : (settings : Given) (text : List ℕ) (room : ℕ) → Option Ground
+generate_ground settings text room = settings_ground settings or_else ground 6 (too_long text) or_else ground_at 7 (too_short room (length text))
 
 -- The contract of the call that writes a test load, this text, to the start of a lent buffer; it answers its length.
-abbrev pub Generates : (letters : List ℕ) (k mirror : ℕ) (text old : List ℕ) (answer : Outcome ℕ) (new : List ℕ) → Type 0
-Generates letters k m text old answer new = Overwrites (generate_ground letters k m text (length old)) (length text) text old answer new
+abbrev pub Generates : (settings : Given) (text old : List ℕ) (answer : Outcome ℕ) (new : List ℕ) → Type 0
+Generates settings text old answer new = Overwrites (generate_ground settings text (length old)) (length text) text old answer new

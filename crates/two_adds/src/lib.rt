@@ -3,12 +3,13 @@
 
 #![tactic(auto)]
 
-ghost use Rattle.files.specs.File.{file_of};
+ghost use Rattle.settings.specs.Given.{as_given};
+ghost use Rattle.files.specs.File.{as_file};
 ghost use Rattle.two_adds.specs.TwoAdds.{AddsTwo};
 
 use fasta::Numbers;
-use files::Kind;
-use settings::Refusal;
+use files::SequenceFile;
+use settings::{Refusal, Settings};
 
 // The answers of a clearing and of two adds after it.
 #[derive(Clone, Copy)]
@@ -20,21 +21,17 @@ pub struct Answers {
 
 // Clears a table and adds two files, each of its kind, one after the other.
 pub fn add_two(
-    letters: &[u8],
-    k: usize,
-    mirror: u64,
+    settings: &Settings,
     table: &mut [u32],
-    one_kind: Kind,
-    one: &[u8],
-    other_kind: Kind,
-    other: &[u8],
+    one: &SequenceFile,
+    other: &SequenceFile,
 ) -> Answers
-    ensures { AddsTwo letters.now k mirror table.old (file_of one_kind one.now) (file_of other_kind other.now) result
+    ensures { AddsTwo (as_given settings.now) table.old (as_file one.now) (as_file other.now) result
         table.new }
 {
-    let cleared = table::clear(letters, k, mirror, table);
-    let first = table::add(letters, k, mirror, table, one_kind, one);
-    let second = table::add(letters, k, mirror, table, other_kind, other);
+    let cleared = table::clear(settings, table);
+    let first = table::add(settings, table, one);
+    let second = table::add(settings, table, other);
     Answers {
         cleared,
         first,

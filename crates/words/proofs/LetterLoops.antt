@@ -11,6 +11,7 @@ use Rattle.laws.proofs.Lists.{get_d_map_in}
 use Rattle.encoding.specs.Calls.{ranks_of, rank_at, foreign_from, here_or, rank_or_zero, in_capitals, word_bytes, mirror_bytes}
 use Rattle.encoding.specs.Words.{Ranks, Mirror, mirror}
 use Rattle.encoding.specs.WordsOfCodes.{word_of}
+use Rattle.settings.specs.Given.{the_settings}
 
 -- ---- ranks in capitals, written to the start of a buffer
 
@@ -73,7 +74,7 @@ length-ranks_of letters word = length-map word (rank_at letters)
 -- ---- the bytes that the calls write
 
 pub read_bytes : (letters : List ℕ) (k m q : ℕ) (strand : Mirror) → strand ≡ mirror_of m
-    → in_capitals letters (word_of (length letters) strand k q) ≡ word_bytes letters k m q
+    → in_capitals letters (word_of (length letters) strand k q) ≡ word_bytes (the_settings letters k m) q
 unfolding word_bytes
 read_bytes letters k m q strand e = rw e
 

@@ -6,13 +6,14 @@
 pub mod letters; // from bytes to ranks and back
 
 ghost use Rattle.std.specs.Prelude.{◌≡◌};
+ghost use Rattle.settings.specs.Given.{as_given};
 ghost use Rattle.settings.specs.Grounds.{ground, ground_at, too_short, outcome_of, fault_of};
 ghost use Rattle.encoding.specs.Calls.{coding, wrong_length, foreign_from, pick_ground};
 ghost use Rattle.words.specs.Answers.{of_coding, WritesWord, WritesMirror, Picked};
 ghost use Rattle.words.specs.Needs.{none_applies};
 
 use ranks::Code;
-use settings::Refusal;
+use settings::{Refusal, Settings};
 
 // Ground 5, where a word's length is not k.
 fn check_length(word: &[u8], k: usize) -> Result<(), Refusal>
@@ -47,73 +48,57 @@ fn check_letters(letters: &[u8], word: &[u8]) -> Result<(), Refusal>
 }
 
 // The code of a word. Refused by the first of the grounds 1, 2, 4, 5 and 9.
-pub fn code_of(letters: &[u8], k: usize, mirror: u64, word: &[u8]) -> Result<Code, Refusal>
-    ensures { of_coding result ≡ coding letters.now k mirror word.now }
+pub fn code_of(settings: &Settings, word: &[u8]) -> Result<Code, Refusal>
+    ensures { of_coding result ≡ coding (as_given settings.now) word.now }
 {
-    let st = settings::check(letters, k, mirror)?;
-    check_length(word, k)?;
-    check_letters(letters, word)?;
-    Ok(letters::word_code(letters, word, st.mirror))
+    let st = settings.check()?;
+    check_length(word, settings.k)?;
+    check_letters(settings.letters, word)?;
+    Ok(letters::word_code(settings.letters, word, st.mirror))
 }
 
 // Writes the canonical word with a code, in capitals, to the first k bytes of out. Refused by the first of the grounds 1, 2, 4, 7 and 8.
-pub fn word_of(
-    letters: &[u8],
-    k: usize,
-    mirror: u64,
-    q: Code,
-    out: &mut [u8],
-) -> Result<usize, Refusal>
-    ensures { WritesWord letters.now k mirror q.0 out.old (outcome_of result) out.new }
+pub fn word_of(settings: &Settings, q: Code, out: &mut [u8]) -> Result<usize, Refusal>
+    ensures { WritesWord (as_given settings.now) q.0 out.old (outcome_of result) out.new }
 {
-    let st = settings::check(letters, k, mirror)?;
-    check_room(out.len(), k)?;
+    let st = settings.check()?;
+    check_room(out.len(), settings.k)?;
     if q.0 >= st.classes {
         return Err(Refusal::NoSuchCode);
     }
-    letters::write_word(letters, k, st.mirror, q.0, out);
-    Ok(k)
+    letters::write_word(settings.letters, settings.k, st.mirror, q.0, out);
+    Ok(settings.k)
 }
 
 // Writes a word's mirror, in capitals, to the first k bytes of out. Refused by the first of the grounds 1, 2, 4, 5, 7 and 9.
-pub fn mirror_of(
-    letters: &[u8],
-    k: usize,
-    mirror: u64,
-    word: &[u8],
-    out: &mut [u8],
-) -> Result<usize, Refusal>
-    ensures { WritesMirror letters.now k mirror word.now out.old (outcome_of result) out.new }
+pub fn mirror_of(settings: &Settings, word: &[u8], out: &mut [u8]) -> Result<usize, Refusal>
+    ensures { WritesMirror (as_given settings.now) word.now out.old (outcome_of result) out.new }
 {
-    let st = settings::check(letters, k, mirror)?;
-    check_length(word, k)?;
-    check_room(out.len(), k)?;
-    check_letters(letters, word)?;
-    letters::write_mirror(letters, word, st.mirror, out);
-    Ok(k)
+    let st = settings.check()?;
+    check_length(word, settings.k)?;
+    check_room(out.len(), settings.k)?;
+    check_letters(settings.letters, word)?;
+    letters::write_mirror(settings.letters, word, st.mirror, out);
+    Ok(settings.k)
 }
 
 // Whether no ground applies to coding either of two words.
-fn can_pick(letters: &[u8], k: usize, mirror: u64, first: &[u8], second: &[u8]) -> bool
-    ensures { result ≡ none_applies (pick_ground letters.now k mirror first.now second.now) }
+fn can_pick(settings: &Settings, first: &[u8], second: &[u8]) -> bool
+    ensures { result ≡ none_applies (pick_ground (as_given settings.now) first.now second.now) }
 {
-    code_of(letters, k, mirror, first).is_ok() && code_of(letters, k, mirror, second).is_ok()
+    code_of(settings, first).is_ok() && code_of(settings, second).is_ok()
 }
 
 // The one of two words with the lower plain rank, the first if they are equal; an empty part of the first where coding either is refused.
-pub fn pick<'a>(
-    letters: &[u8],
-    k: usize,
-    mirror: u64,
-    first: &'a [u8],
-    second: &'a [u8],
-) -> &'a [u8]
-    ensures { Picked letters.now k mirror first.entry second.entry result }
+pub fn pick<'a>(settings: &Settings, first: &'a [u8], second: &'a [u8]) -> &'a [u8]
+    ensures { Picked (as_given settings.now) first.entry second.entry result }
 {
-    if !can_pick(letters, k, mirror, first, second) {
+    if !can_pick(settings, first, second) {
         return &first[..0];
     }
-    if letters::plain_of(letters, first).0 <= letters::plain_of(letters, second).0 {
+    if letters::plain_of(settings.letters, first).0
+        <= letters::plain_of(settings.letters, second).0
+    {
         return first;
     }
     second

@@ -12,5 +12,5 @@ returns c =
       table_cleared = _;
       clearing = clearing;
       adds = adds;
-      demand_three = λ none_applies_lem. demand_three a.letters.now a.k a.mirror none_applies_lem clearing adds;
+      demand_three = λ none_applies_lem. demand_three a.settings.now.letters.now a.settings.now.k a.settings.now.mirror none_applies_lem clearing adds;
     }

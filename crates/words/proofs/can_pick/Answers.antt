@@ -7,11 +7,11 @@ use Rattle.words.proofs.can_pick.Goals as goal
 pub returns-then-is_ok : goal.returns-then-is_ok
 returns-then-is_ok c =
     let a = c.args in
-    second_tells a.letters.now a.k a.mirror a.first.now a.second.now (c.if-is_ok.ensures.value ∙ codes_where_none _ _ _ _ _ c.code_of.ensures)
+    second_tells a.settings.now.letters.now a.settings.now.k a.settings.now.mirror a.first.now a.second.now (c.if-is_ok.ensures.value ∙ codes_where_none _ _ _ _ _ c.code_of.ensures)
     (c.is_ok-then-is_ok.ensures.value ∙ codes_where_none _ _ _ _ _ c.code_of-then-is_ok.ensures)
 
 pub returns-else-is_ok : goal.returns-else-is_ok
 returns-else-is_ok c =
     let a = c.args in
-    first_tells a.letters.now a.k a.mirror a.first.now a.second.now (c.if-is_ok.ensures.value ∙ codes_where_none _ _ _ _ _ c.code_of.ensures)
+    first_tells a.settings.now.letters.now a.settings.now.k a.settings.now.mirror a.first.now a.second.now (c.if-is_ok.ensures.value ∙ codes_where_none _ _ _ _ _ c.code_of.ensures)
     (c.is_ok.ensures.value ∙ codes_where_none _ _ _ _ _ c.code_of.ensures)

@@ -17,7 +17,7 @@ returns-in_err-check_letters c =
 
 pub word_code-requires : goal.word_code-requires
 word_code-requires c =
-    word_within c.args.letters.now c.args.k c.args.mirror c.args.word.now _ c.in_ok-st.ensures c.in_ok-check_length.ensures
+    word_within c.args.settings.now.letters.now c.args.settings.now.k c.args.settings.now.mirror c.args.word.now _ c.in_ok-st.ensures c.in_ok-check_length.ensures
 
 pub returns : goal.returns
 returns c = coded_word _ _ _ _ _ c.in_ok-st.ensures c.in_ok-check_length.ensures c.in_ok-check_letters.ensures _ c.word_code.ensures

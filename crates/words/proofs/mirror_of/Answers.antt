@@ -27,8 +27,8 @@ returns-in_err-check_letters c =
 pub write_mirror-requires : goal.write_mirror-requires
 write_mirror-requires c =
     let a = c.args in (
-      word_within a.letters.now a.k a.mirror a.word.now _ c.in_ok-st.ensures c.in_ok-check_length.ensures,
-      omega (arith, length_right a.k a.word.now c.in_ok-check_length.ensures, room_there _ _ c.in_ok-check_room.ensures),
+      word_within a.settings.now.letters.now a.settings.now.k a.settings.now.mirror a.word.now _ c.in_ok-st.ensures c.in_ok-check_length.ensures,
+      omega (arith, length_right a.settings.now.k a.word.now c.in_ok-check_length.ensures, room_there _ _ c.in_ok-check_room.ensures),
     )
 
 pub returns : goal.returns

@@ -18,8 +18,8 @@ returns-then-q-st c = read_bad_code _ _ _ _ _ _ c.in_ok-st.ensures c.in_ok-check
 pub write_word-requires : goal.write_word-requires
 write_word-requires c =
     let a = c.args in (
-      (known a.letters.now a.k a.mirror _ c.in_ok-st.ensures).within,
-      good_code a.letters.now a.k a.mirror a.q.0 a.out.now _ c.in_ok-st.ensures c.if-q-st.false,
+      (known a.settings.now.letters.now a.settings.now.k a.settings.now.mirror _ c.in_ok-st.ensures).within,
+      good_code a.settings.now.letters.now a.settings.now.k a.settings.now.mirror a.q.0 a.out.now _ c.in_ok-st.ensures c.if-q-st.false,
       room_there _ _ c.in_ok-check_room.ensures,
     )
 

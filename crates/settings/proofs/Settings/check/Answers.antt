@@ -1,9 +1,9 @@
--- `settings::check` meets its contract: at each test the ground that applies, by the laws of proofs/SettingsGrounds.antt.
+-- `settings::Settings::check` meets its contract: at each test the ground that applies, by the laws of proofs/SettingsGrounds.antt.
 use mathlib.Core.Path.{◌∙◌}
 use Rattle.settings.proofs.Outcomes.{passed_on}
 use Rattle.settings.proofs.SettingsGrounds.{ground_1, mirror_refused, mirror_given}
 use Rattle.settings.proofs.Letters.{good_at_least, good_at_most}
-use Rattle.settings.proofs.check.Goals as goal
+use Rattle.settings.proofs.Settings.check.Goals as goal
 
 pub returns-then-not-good_letters : goal.returns-then-not-good_letters
 returns-then-not-good_letters c = ground_1 _ _ _ c.if-not-good_letters.ensures
