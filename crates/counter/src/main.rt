@@ -8,13 +8,11 @@ ghost use Rattle.program.specs.Program.{unread_line, Prints};
 ghost use Rattle.counter.specs.Needs.{bytes_read, text_for};
 
 use std::io::{Read, Write};
+use texts::Writer;
 
-// How many bytes of standard input were read: to its end, or to the buffer's; or before a read that failed.
+// A read that failed: how many bytes of standard input were read before it.
 #[derive(Clone, Copy)]
-enum Input {
-    Whole(usize),
-    Failed(usize),
-}
+struct Unread(usize);
 
 // Room for one byte more than the program takes, so that a longer input shows.
 fn input_buffer() -> [u8; 65537]
@@ -30,37 +28,40 @@ fn output_buffer() -> [u8; 2097152]
     [0; 2097152]
 }
 
-// Reads standard input to the start of buf. A read that fails is not the input's end: what came before it may be half a file.
-fn read_input<R: Read>(input: &mut R, buf: &mut [u8]) -> Input
+// Reads standard input to the start of buf: how many bytes, to its end or to the buffer's. A read that fails is not the input's end: what came before it may be
+// half a file.
+fn read_input<R: Read>(input: &mut R, buf: &mut [u8]) -> Result<usize, Unread>
     ensures { (bytes_read result ≤ length buf.new) × (length buf.new ≡ length buf.old) }
 {
     let mut n: usize = 0;
     while n < buf.len() {
         match input.read(&mut buf[n..]) {
-            Err(_) => return Input::Failed(n),
-            Ok(0) => return Input::Whole(n),
+            Err(_) => return Err(Unread(n)),
+            Ok(0) => break,
             Ok(more) => n += more,
         }
     }
-    Input::Whole(n)
+    Ok(n)
 }
 
 // The line for an input that could not be read to its end.
 fn put_unread(out: &mut [u8], n: usize) -> usize
     ensures { Prints (unread_line n) out.old result out.new }
 {
-    let after_number = texts::put_field(out, 0, b"(unread ", n as u64);
-    texts::put_text(out, after_number, b")\n")
+    let mut w = Writer::new(out);
+    w.put_field(b"(unread ", n as u64);
+    w.put_text(b")\n");
+    w.place()
 }
 
 // The output for what was read.
-fn put_answer(out: &mut [u8], read: Input, input: &[u8]) -> usize
+fn put_answer(out: &mut [u8], read: Result<usize, Unread>, input: &[u8]) -> usize
     requires { bytes_read read ≤ length input.now }
     ensures { Prints (text_for read input.now) out.old result out.new }
 {
     match read {
-        Input::Whole(n) => program::run(&input[..n], out),
-        Input::Failed(n) => put_unread(out, n),
+        Ok(n) => program::run(&input[..n], out),
+        Err(Unread(n)) => put_unread(out, n),
     }
 }
 
@@ -72,8 +73,5 @@ fn main(rt: HostRuntime) {
     let mut stdout = rt.stdout();
     let read = read_input(&mut stdin, &mut input);
     let length = put_answer(&mut output, read, &input);
-    match stdout.write_all(&output[..length]) {
-        Ok(()) => {}
-        Err(_) => {}
-    }
+    let _ = stdout.write_all(&output[..length]);
 }

@@ -1,8 +1,6 @@
 -- Computed checks of the program's definition: the worked example of document 01 and cases of document 02, K10, K1, K5 and K6, from input to output, and
 -- refusals.
-use mathlib.Core.Path.{◌≡◌, refl}
-use mathlib.Core.List.{List, ◌++◌}
-use Prim.Native.Nat.{ℕ}
+use Rattle.std.proofs.Common.{◌≡◌, refl, List, ◌++◌, ℕ}
 use Prim.Native.String.{String}
 use Rattle.laws.specs.Text.{bytes}
 use Rattle.laws.specs.Windows.{windows}

@@ -1,12 +1,8 @@
 -- Copies with T for U (document 02, K2) in the program: for a survey line and a file, and for the same line and a copy of the file, it prints the same, where
 -- the line's letters have T and no U (`same_output`). From the laws of copies in the crates files and tally_book, and from what is proved of reading a survey line.
-use mathlib.Core.Path.{◌≡◌, refl, sym, ap, ◌∙◌}
-use mathlib.Core.Bool.{true}
+use Rattle.std.proofs.Common.{◌≡◌, refl, sym, ap, ◌∙◌, true, List, ◌++◌, append_assoc, ℕ, length, length-append, eqb}
 use mathlib.Core.List.Forall₂
-use mathlib.Core.List.{List, ◌++◌, append_assoc, append_cancel_right}
-use Prim.Native.Nat.{ℕ}
-use lib.ListN.{length, length-append}
-use lib.Dec.{eqb}
+use mathlib.Core.List.{append_cancel_right}
 use Rattle.lines.proofs.Mapped.{first_mapped}
 use Rattle.settings.specs.Settings.{rank_in, reads_u_as_t}
 use Rattle.settings.specs.Copies.{t_for_u, CopyWithT}

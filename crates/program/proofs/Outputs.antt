@@ -1,30 +1,28 @@
 -- The program's output for settings and a file: from what the add to the cleared table answers and leaves. Every output fits 2 MiB.
-use mathlib.Core.Path.{◌≡◌, sym, ap, ◌∙◌}
-use Prim.Native.Nat.{ℕ, ◌+◌, ◌-◌, ◌<◌, ◌≤◌}
-use native.Mathlib.Omega.{arith}
-use mathlib.Core.List.{List, ◌++◌}
-use borrow.Author.Tests.{lt-ltb, le-ltb}
-use lib.ListN.{length, take, drop, length-append, length-replicate}
-use lib.Seq.{length-take-le}
+use Rattle.std.proofs.Common.{◌≡◌, refl, sym, ap, subst, ◌∙◌, ℕ, ◌+◌, ◌-◌, ◌<◌, ◌≤◌, arith, List, ◌++◌, lt-ltb, le-ltb, length, take, drop, length-append, length-take-le, Ok}
+use lib.ListN.{length-replicate}
+use Rattle.settings.specs.declared.Settings.{Settings}
 use Rattle.settings.specs.Grounds.{Ground, Outcome, given, refused, outcome}
 use Rattle.settings.specs.Settings.{rank_in, settings_ground, settings_of}
 use Rattle.settings.proofs.Outcomes.{passed, refused_on, first_none}
 use Rattle.fasta.specs.declared.Numbers.{Numbers}
-use Rattle.files.specs.File.{File, file_numbers}
+use Rattle.files.specs.declared.Kind.{Kind}
+use Rattle.files.specs.File.{File, file_of, file_numbers}
 use Rattle.tally_book.specs.Table.{class_count, places, one_more, ready_ground, table_ground, call_ground, add, table_after, Added}
 use Rattle.table.proofs.CallGrounds.{ready_bad}
 use Rattle.tally_book.proofs.Ready.{ready_settings, ready_room}
 use Rattle.tally_book.proofs.Changes.{length_changes}
 use Rattle.texts.proofs.Decimals.{decimal-length}
-use Rattle.texts.specs.Needs.{Puts}
+use Rattle.texts.specs.declared.Writer.{Writer}
+use Rattle.texts.specs.Needs.{Puts, Writes}
 use Rattle.texts.proofs.Writing.{measured, then}
-use Rattle.survey.specs.declared.Head.TheVariants.{Survey}
+use Rattle.survey.specs.declared.Survey.{Survey}
 use Rattle.survey.specs.Claims.{of_head}
 use Rattle.survey.specs.Reading.{read_input}
 use Rattle.listing.specs.Listing.{listing_of}
 use Rattle.listing.specs.Needs.{AllCounts, longest}
 use Rattle.listing.proofs.ListingAnswers.{all_counts}
-use Rattle.program.specs.Program.{file_line, refused_line, unread_line, cleared_table, answer_text, survey_text, program_file, line_text, program_text, Prints}
+use Rattle.program.specs.Program.{file_line, refused_line, unread_line, cleared_table, answer_text, survey_text, kind_by_first_byte, program_file, line_text, program_text, Prints}
 
 -- ---- lengths
 
@@ -39,25 +37,20 @@ pub unread_short : (n : ℕ) → n < 100000000000000000000 → length (unread_li
 unfolding unread_line
 unread_short n h = simp length-append (omega (arith, decimal-length 19 n (omega arith)))
 
--- Each of a file's numbers fits 64 bits.
-pub record SmallNumbers (n : Numbers) : Type 0 where
-  pub records : n.records < 18446744073709551616
-  pub letters : n.letters < 18446744073709551616
-  pub foreign : n.foreign < 18446744073709551616
-  pub edge : n.edge < 18446744073709551616
-  pub windows : n.windows < 18446744073709551616
-
-file_line_short : (n : Numbers) → SmallNumbers n → length (file_line n) ≤ 200
+pub file_line_short : (n : Numbers) → n.records < 100000000000000000000 → n.letters < 100000000000000000000 → n.foreign < 100000000000000000000
+    → n.edge < 100000000000000000000
+    → n.windows < 100000000000000000000
+    → length (file_line n) ≤ 200
 unfolding file_line
-file_line_short n S =
+file_line_short n records letters foreign edge windows =
     simp length-append
     (omega (
       arith,
-      decimal-length 19 n.records (omega (arith, S.records)),
-      decimal-length 19 n.letters (omega (arith, S.letters)),
-      decimal-length 19 n.foreign (omega (arith, S.foreign)),
-      decimal-length 19 n.edge (omega (arith, S.edge)),
-      decimal-length 19 n.windows (omega (arith, S.windows)),
+      decimal-length 19 n.records (omega arith),
+      decimal-length 19 n.letters (omega arith),
+      decimal-length 19 n.foreign (omega arith),
+      decimal-length 19 n.edge (omega arith),
+      decimal-length 19 n.windows (omega arith),
     ))
 
 -- ---- the add to the cleared table
@@ -108,11 +101,11 @@ module _ (letters : List ℕ) (k m : ℕ) (file : File) where
         record { grown = grown; long = long; all = all_counts letters k m q t' good q_is (omega arith) long; few = few }
 
     -- The listing of its counts and then the file line are the output.
-    pub taken_prints : {out out' out'' : List ℕ} {a r : ℕ} → SmallNumbers n
+    pub taken_prints : {u v w : Writer} → length (file_line n) ≤ 200
         → length (listing_of letters k m (take q t')) ≤ longest (length (take q t'))
-        → Puts out out' 0 a (listing_of letters k m (take q t'))
-        → Puts out' out'' a r (file_line n)
-        → Prints (survey_text letters k m file) out r out''
+        → Writes u v (listing_of letters k m (take q t'))
+        → Writes v w (file_line n)
+        → Writes u w (survey_text letters k m file) × (length (survey_text letters k m file) ≤ 2097152)
     taken_prints small short P Q =
         let T = taken_in_lem in
         let text : survey_text letters k m file ≡ listing_of letters k m (take q t') ++ file_line n =
@@ -120,16 +113,40 @@ module _ (letters : List ℕ) (k m : ℕ) (file : File) where
         ∙ ap (λ (t : List ℕ). listing_of letters k m (take (class_count letters k m) t) ++ file_line n) (sym T.grown)
         ∙ ap (λ (p : ℕ). listing_of letters k m (take p t') ++ file_line n) (sym q_is) in
         let counted = length-take-le q t' T.long in
-        rw text
-        (printed (then P Q)
-        (omega (
-          arith,
-          length-append (listing_of letters k m (take q t')) (file_line n),
-          file_line_short n small,
-          short,
-          counted,
-          T.few,
-        )))
+        rw text (
+          then P Q,
+          omega (
+            arith,
+            length-append (listing_of letters k m (take q t')) (file_line n),
+            small,
+            short,
+            counted,
+            T.few,
+          ),
+        )
+
+-- The same of the program's call: settings that the check gave, and a file of the kind that its first byte tells.
+module _ (letters : List ℕ) (k m : ℕ) (bytes : List ℕ) {kind : Kind} (kind_is : kind ≡ kind_by_first_byte bytes) {t t' : List ℕ} (cleared : t ≡ cleared_table) where
+  added : {answer : Outcome Numbers} → Added letters k m t (file_of kind bytes) answer t' → Added letters k m t (program_file bytes) answer t'
+  added {answer} A = subst (λ (x : Kind). Added letters k m t (file_of x bytes) answer t') kind_is A
+
+  pub not_added : {f : Ground} → Added letters k m t (file_of kind bytes) (refused f) t' → survey_text letters k m (program_file bytes) ≡ refused_line f
+  not_added {f} A = refused_text letters k m (program_file bytes) f refl cleared (added A)
+
+  module _ {st : Settings} (checked : given st ≡ outcome (settings_ground letters k m) (settings_of letters k m))
+      {n : Numbers} (A : Added letters k m t (file_of kind bytes) (given n) t') where
+    classes_are : st.classes ≡ class_count letters k m
+    classes_are = ap (λ (s : Settings). s.classes) (passed (settings_of letters k m) (settings_ground letters k m) checked).value
+
+    pub counted : TakenIn letters k m (program_file bytes) st.classes t'
+    counted = taken_in_lem letters k m (program_file bytes) classes_are n refl cleared (added A)
+
+    pub counted_prints : {u v w : Writer} → length (file_line n) ≤ 200
+        → length (listing_of letters k m (take st.classes t')) ≤ longest (length (take st.classes t'))
+        → Writes u v (listing_of letters k m (take st.classes t'))
+        → Writes v w (file_line n)
+        → Writes u w (survey_text letters k m (program_file bytes)) × (length (survey_text letters k m (program_file bytes)) ≤ 2097152)
+    counted_prints = taken_prints letters k m (program_file bytes) classes_are n refl cleared (added A)
 
 -- ---- the whole input
 
@@ -144,7 +161,7 @@ module _ (input : List ℕ) where
     refusal_text e = rw (le-ltb 65536 (length input) short, e)
 
     -- The letters end at the place from + len.
-    pub line_text_lem : (from len k m next : ℕ) → read_input input ≡ of_head input (Survey from len k m next)
-        → program_text input ≡ survey_text (take (from + len - from) (drop from input)) k m (program_file (drop next input))
+    pub line_text_lem : (s : Survey) → of_head input (Ok s) ≡ read_input input
+        → program_text input ≡ survey_text (take (s.from + s.len - s.from) (drop s.from input)) s.k s.mirror (program_file (drop s.next input))
     unfolding program_text line_text
-    line_text_lem from len k m next e = let n : from + len - from ≡ len = omega arith in rw (le-ltb 65536 (length input) short, e, n)
+    line_text_lem s e = let n : s.from + s.len - s.from ≡ s.len = omega arith in rw (le-ltb 65536 (length input) short, ← e, n)

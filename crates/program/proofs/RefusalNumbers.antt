@@ -1,15 +1,9 @@
 -- Which refusals the program prints. Never 3: "Refusal 3 then never occurs" (document 02, K10). 19 only for lines in another order, and 13 only for inputs that
 -- are neither those nor survey lines (K5). From the numbers of an add's refusals and what is proved of reading a survey line, by a test that the line of one
 -- refusal passes and no other output does.
-use mathlib.Core.Path.{◌≡◌, refl, sym, ap, ◌∙◌, subst}
-use mathlib.Core.Bool.{Bool, true, false, ◌&&◌, false≢true}
-use Rattle.std.specs.Prelude.{Option, None, Some}
-use mathlib.Core.List.{List, [], ◌∷◌}
-use Prim.Native.Nat.{ℕ}
+use Rattle.std.proofs.Common.{◌≡◌, refl, sym, ap, ◌∙◌, subst, Bool, true, false, ◌&&◌, Option, None, Some, List, [], ◌∷◌, ℕ, ne_eqb, eqb, ltb, length, get_or}
+use mathlib.Core.Bool.{false≢true}
 use native.Mathlib.Decide.{ℕ_discrete}
-use borrow.Author.Tests.{ne_eqb}
-use lib.Dec.{eqb, ltb}
-use lib.ListN.{length, get_or}
 use Rattle.laws.specs.Each.{Each}
 use Rattle.laws.proofs.Tests.{by_test}
 use Rattle.settings.specs.Grounds.{Ground, Outcome, refused, ground, outcome}

@@ -3,12 +3,7 @@
 -- that 14 does not refuse, forms in another order are refused 19, whatever the settings and the file (`refuses_another_order`), and what is neither 13
 -- (`refuses_neither`), so also what begins with the line that we print (`refuses_the_printed_line`); that these are printed only then is in RefusalNumbers.
 -- From what is proved of reading a survey line, and of the line that we print.
-use mathlib.Core.Path.{◌≡◌, ◌∙◌}
-use Rattle.std.specs.Prelude.{None}
-use mathlib.Core.List.{List, ◌++◌, append_assoc}
-use Prim.Native.Nat.{ℕ, ◌≤◌}
-use borrow.Author.Tests.{le-ltb}
-use lib.ListN.{length}
+use Rattle.std.proofs.Common.{◌≡◌, ◌∙◌, None, List, ◌++◌, append_assoc, ℕ, ◌≤◌, le-ltb, length}
 use Rattle.laws.specs.Text.{bytes}
 use Rattle.settings.specs.Settings.{rank_in, settings_ground}
 use Rattle.settings.proofs.Outcomes.{first_none}

@@ -1,2 +1,3 @@
--- What the counter program prints.
+-- What the counter program prints. Needs has what functions below `run` promise each other.
 pub mod Program
+pub mod Needs

@@ -1,6 +1,5 @@
 -- `counter::output_buffer` meets its contract. The length comes by a law: counting two million places one by one is beyond the checker.
-use mathlib.Core.Path.{sym}
-use Prim.Native.Nat.{ℕ}
+use Rattle.std.proofs.Common.{sym, ℕ}
 use lib.ListN.{length-replicate}
 use Rattle.counter.proofs.output_buffer.Goals as goal
 

@@ -1,5 +1,5 @@
 -- `program::cleared_table` meets its contract: the array is the definition's list.
-use mathlib.Core.Path.{refl}
+use Rattle.std.proofs.Common.{refl}
 use Rattle.program.specs.Program.{cleared_table}
 use Rattle.program.proofs.cleared_table.Goals as goal
 
