@@ -1,17 +1,9 @@
 -- What functions below the calls ask of each other; no sentence of the documents rests on it.
-use Rattle.std.specs.Prelude.{◌≡◌, Bool, true, List, ℕ, ◌+◌, ◌<◌, length, drop, get_or, eqb, Option}
+use Rattle.std.specs.Prelude.{◌≡◌, List, ℕ, ◌+◌, ◌<◌, length, drop, eqb, Option}
 use Rattle.lines.specs.Needs.{first_line}
 use Rattle.settings.specs.Grounds.{Ground, ground_at, ◌or_else◌}
 use Rattle.fasta.specs.File.{is_letter}
 use Rattle.fastq.specs.Fastq.{unless_at, first_failing, is_quality, record_fault}
-
--- ---- bytes that pass a test
-
--- Each byte below a place passes, by what a test may answer.
-abbrev pub AllPass : (ℕ → Bool → Type 0) → List ℕ → ℕ → Type 0
-AllPass test text e = (k : ℕ) → k < e → test (get_or text k 0) true
-
--- ---- records
 
 -- Grounds 16 and 17 of a quality text at an offset, for a sequence text of n bytes.
 unfoldable pub quality_ground : (n at : ℕ) → List ℕ → Option Ground

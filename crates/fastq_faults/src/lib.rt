@@ -3,46 +3,13 @@
 
 #![tactic(auto)]
 
-ghost use Rattle.std.specs.Prelude.{◌≡◌, ℕ, true, false, ◌+◌, ◌^◌, ◌<◌, ◌≤◌, length, slice_index, MatchOption};
+ghost use Rattle.std.specs.Prelude.{◌≡◌, ◌+◌, ◌^◌, ◌<◌, length};
 ghost use Rattle.settings.specs.Grounds.{fault_of};
 ghost use Rattle.lines.specs.Lines.{lines};
 ghost use Rattle.fastq.specs.Fastq.{fastq_fault};
-ghost use Rattle.fastq_faults.specs.Needs.{AllPass, quality_ground, text_ground, LinesAt, record_at};
+ghost use Rattle.fastq_faults.specs.Needs.{quality_ground, text_ground, LinesAt, record_at};
 
 use settings::Refusal;
-
-// Whether the bytes of a block all pass a test. No branch in the loop, so that they are judged at once.
-fn all_pass<F: Fn(u8) -> bool>(block: &[u8; 16], passes: &F) -> bool
-    requires { F.IsAlwaysCallable passes.now }
-    ensures { result ≡ true → AllPass (F.post passes.now) block.now 16 }
-{
-    let mut all = true;
-    for b in block {
-        all &= passes(*b);
-    }
-    all
-}
-
-// The first place of a text whose byte fails a test, if there is one: past the blocks of 16 bytes that all pass, and then byte by byte.
-fn first_failing<F: Fn(u8) -> bool>(text: &[u8], passes: F) -> Option<usize>
-    requires { F.IsAlwaysCallable passes }
-    ensures { MatchOption result (AllPass (F.post passes) text.now (length text.now))
-        (λ p. (p < length text.now) × F.post passes (slice_index text.now p) false × AllPass (F.post passes) text.now p) }
-{
-    let mut i = 0;
-    while let Some(block) = text[i..].first_chunk::<16>() {
-        if !all_pass(block, &passes) {
-            break;
-        }
-        i += 16;
-    }
-    for (j, b) in text[i..].iter().enumerate() {
-        if !passes(*b) {
-            return Some(i + j);
-        }
-    }
-    None
-}
 
 // Grounds 16 and 17 of a record whose sequence text has `count` bytes, of its quality text, which stands at `at`.
 fn quality_fault(count: usize, quality: &[u8], at: usize) -> Result<(), Refusal>
@@ -52,7 +19,7 @@ fn quality_fault(count: usize, quality: &[u8], at: usize) -> Result<(), Refusal>
     if quality.len() != count {
         return Err(Refusal::QualityLength(at));
     }
-    match first_failing(quality, |b| (33..=126).contains(&b)) {
+    match lines::first_failing(quality, |b| (33..=126).contains(&b)) {
         Some(p) => Err(Refusal::QualityByte(at + p)),
         None => Ok(()),
     }
@@ -63,7 +30,7 @@ fn text_fault(sequence: &[u8], from: usize, quality: &[u8], at: usize) -> Result
     requires { (from + length sequence.now < 2 ^ 64) × (at + length quality.now < 2 ^ 64) }
     ensures { fault_of result ≡ text_ground from sequence.now at quality.now }
 {
-    match first_failing(sequence, |b| b.is_ascii_alphabetic()) {
+    match lines::first_failing(sequence, |b| b.is_ascii_alphabetic()) {
         Some(p) => Err(Refusal::StrayByte(from + p)),
         None => quality_fault(sequence.len(), quality, at),
     }

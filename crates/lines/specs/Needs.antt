@@ -1,5 +1,5 @@
 -- What laws of lines, and functions below the calls, speak of; no sentence of the documents rests on it.
-use Rattle.std.specs.Prelude.{◌≡◌, cond, List, [], ◌∷◌, ◌++◌, ℕ, ◌<◌, ◌≤◌, length, get_or, eqb}
+use Rattle.std.specs.Prelude.{◌≡◌, Bool, true, cond, List, [], ◌∷◌, ◌++◌, ℕ, ◌<◌, ◌≤◌, length, get_or, eqb}
 
 -- The first line of a text, with its end; [] where the text has none.
 unfoldable pub first_line : List ℕ → List ℕ
@@ -21,3 +21,7 @@ pub record NoLf (text : List ℕ) (i e : ℕ) : Type 0 where
 pub record LineEnd (text : List ℕ) (i e : ℕ) : Type 0 where
   pub none_before : NoLf text i e
   pub there : e < length text → get_or text e 0 ≡ 10
+
+-- Each byte below a place passes, by what a test may answer.
+abbrev pub AllPass : (ℕ → Bool → Type 0) → List ℕ → ℕ → Type 0
+AllPass test text e = (k : ℕ) → k < e → test (get_or text k 0) true

@@ -2,10 +2,9 @@
 
 #![tactic(auto)]
 
-ghost use Rattle.std.specs.Prelude.{◌≡◌, ◌==◌, false, ◌+◌, ◌≤◌, length, drop};
-ghost use Rattle.std.specs.List.{list_any};
+ghost use Rattle.std.specs.Prelude.{◌≡◌, true, false, ◌+◌, ◌<◌, ◌≤◌, length, drop, slice_index, MatchOption};
 ghost use Rattle.lines.specs.Lines.{text_of, first_byte_is};
-ghost use Rattle.lines.specs.Needs.{first_line, LineEnd};
+ghost use Rattle.lines.specs.Needs.{first_line, LineEnd, AllPass};
 
 // Whether the byte at a place is there and is b.
 pub fn byte_is(text: &[u8], at: usize, b: u8) -> bool
@@ -14,31 +13,48 @@ pub fn byte_is(text: &[u8], at: usize, b: u8) -> bool
     text.get(at).is_some_and(|x| *x == b)
 }
 
-// Whether an LF is among the bytes of a block. No branch in the loop, so that they are compared at once.
-fn has_lf(block: &[u8; 16]) -> bool
-    ensures { result ≡ list_any (λ b. b == 10) block.now }
+// Whether the bytes of a block all pass a test. No branch in the loop, so that they are judged at once.
+fn all_pass<F: Fn(u8) -> bool>(block: &[u8; 16], passes: &F) -> bool
+    requires { F.IsAlwaysCallable passes.now }
+    ensures { result ≡ true → AllPass (F.post passes.now) block.now 16 }
 {
-    let mut found = false;
+    let mut all = true;
     for b in block {
-        found |= *b == b'\n';
+        all &= passes(*b);
     }
-    found
+    all
 }
 
-// The first place from `from` on whose byte is LF, or the text's end: past the blocks of 16 bytes that have no LF, and then byte by byte.
-pub fn line_end(text: &[u8], from: usize) -> usize
-    requires { from ≤ length text.now }
-    ensures { LineEnd text.now from result }
+// The first place of a text whose byte fails a test, if there is one: past the blocks of 16 bytes that all pass, and then byte by byte.
+pub fn first_failing<F: Fn(u8) -> bool>(text: &[u8], passes: F) -> Option<usize>
+    requires { F.IsAlwaysCallable passes }
+    ensures { MatchOption result (AllPass (F.post passes) text.now (length text.now))
+        (λ p. (p < length text.now) × F.post passes (slice_index text.now p) false × AllPass (F.post passes) text.now p) }
 {
-    let mut i = from;
+    let mut i = 0;
     while let Some(block) = text[i..].first_chunk::<16>() {
-        if has_lf(block) {
+        if !all_pass(block, &passes) {
             break;
         }
         i += 16;
     }
-    let rest = &text[i..];
-    i + rest.iter().position(|b| *b == b'\n').unwrap_or(rest.len())
+    for (j, b) in text[i..].iter().enumerate() {
+        if !passes(*b) {
+            return Some(i + j);
+        }
+    }
+    None
+}
+
+// The first place from `from` on whose byte is LF, or the text's end.
+pub fn line_end(text: &[u8], from: usize) -> usize
+    requires { from ≤ length text.now }
+    ensures { LineEnd text.now from result }
+{
+    match first_failing(&text[from..], |b| b != b'\n') {
+        Some(p) => from + p,
+        None => text.len(),
+    }
 }
 
 // The place behind the line that starts at a place; behind the text that place itself.

@@ -1,22 +1,19 @@
--- `lines::line_end` meets its contract. The invariant: no byte from `from` up to i is LF.
-use Rattle.std.proofs.Common.{◌≡◌, sym, ◌∙◌, arith, rules, tests, length-drop, take_all}
-use Rattle.std.proofs.lemmas.Iterator.{IsFirst-from_position, YieldsList-from_slice}
-use Rattle.lines.proofs.Searching.{no_lf_none, block_past, end_behind, end_found}
+-- `lines::line_end` meets its contract: the first LF is the first byte that fails the search's test.
+use Rattle.std.proofs.Common.{arith, length-drop, rules, tests}
+use lib.Seq.{take_all}
+use Rattle.lines.proofs.Searching.{lf_found, no_lf_found}
 use Rattle.lines.proofs.line_end.Goals as goal
 
-pub loop-block-init : goal.loop-block-init
-loop-block-init c = record { inside = c.requires; none_before = no_lf_none }
-
-pub loop-block-preserved : goal.loop-block-preserved
-loop-block-preserved c =
+pub returns-in-Some : goal.returns-in-Some
+returns-in-Some c =
     let a = c.args in
-    let rest = take_all _ _ (omega (arith, length-drop c.loop-block.i a.text.now)) in
-    let past = block_past a.text.now a.from c.loop-block.i _ _ c.loop-block.invariant.inside rest c.loop-block.invariant.none_before c.in-Some.ensures.cases (sym c.has_lf.ensures ∙ c.if-has_lf.false) in
-    record { inside = past.0; none_before = past.1 }
+    let f = c.in-Some.ensures in
+    let rest = take_all _ _ (omega (arith, length-drop a.from a.text.now)) in
+    lf_found a.text.now a.from _ c.requires rest c.in-Some.p f.0 (search (rules, tests)) (λ j h. let passes = f.2 j h in search (rules, tests))
 
-pub returns : goal.returns
-returns c =
+pub returns-in-None : goal.returns-in-None
+returns-in-None c =
     let a = c.args in
-    let found = IsFirst-from_position _ _ c.position.result (λ x. x ≡ 10) (λ x. x ≡ 10 → ⊥) c.position.ensures.ran (YieldsList-from_slice _ c.iter.ensures.rest) (λ x q k. search (rules, tests)) (λ x q k. search (rules, tests)) in
-    end_behind c.loop-block.invariant.none_before
-    (end_found a.text.now c.loop-block.i _ _ _ c.loop-block.invariant.inside (take_all _ _ (omega (arith, length-drop c.loop-block.i a.text.now))) found c.unwrap_or.ensures)
+    let f = c.in-None.ensures in
+    let rest = take_all _ _ (omega (arith, length-drop a.from a.text.now)) in
+    no_lf_found a.text.now a.from _ c.requires rest (λ j h. let passes = f j h in search (rules, tests))

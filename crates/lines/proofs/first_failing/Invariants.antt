@@ -1,7 +1,7 @@
 -- The loops of this function: what holds at each turn, and what falls.
 use Rattle.std.proofs.Common.{◌+◌, ◌-◌, ◌≤◌, length}
-use Rattle.fastq_faults.specs.Needs.{AllPass}
-use Rattle.fastq_faults.proofs.first_failing.Given as goal
+use Rattle.lines.specs.Needs.{AllPass}
+use Rattle.lines.proofs.first_failing.Given as goal
 
 abbrev pub invariant-loop-block : goal.invariant-loop-block
 invariant-loop-block g l = record { inside : l.i ≤ length l.text; passed : AllPass (goal.F-post g l.passes) l.text l.i }

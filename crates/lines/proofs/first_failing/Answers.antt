@@ -1,7 +1,7 @@
--- `fastq_faults::first_failing` meets its contract: a block of which all bytes pass is passed over.
+-- `lines::first_failing` meets its contract: a block of which all bytes pass is passed over.
 use Rattle.std.proofs.Common.{arith, length-drop, take_all}
-use Rattle.fastq_faults.proofs.Searching.{block_passed}
-use Rattle.fastq_faults.proofs.first_failing.Goals as goal
+use Rattle.lines.proofs.Searching.{block_passed}
+use Rattle.lines.proofs.first_failing.Goals as goal
 
 pub loop-block-preserved : goal.loop-block-preserved
 loop-block-preserved g c =
