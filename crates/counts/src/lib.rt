@@ -1,8 +1,8 @@
-// The counts, one a class: set to 0, their highest, and one more or one less at each of some codes.
+// The counts, one a class: the highest of them, and one more or one less at each of some codes.
 
 #![tactic(auto)]
 
-ghost use Rattle.std.specs.Prelude.{◌≡◌, ◌++◌, ◌≤◌, max, length, drop, replicate};
+ghost use Rattle.std.specs.Prelude.{◌≡◌, ◌≤◌, max, length};
 ghost use Rattle.std.specs.List.{fold};
 ghost use Rattle.tally_book.specs.Table.{changes, one_more, full};
 ghost use Rattle.laws.specs.Each.{Each};
@@ -17,14 +17,6 @@ use ranks::Code;
 pub enum Way {
     In,
     Out,
-}
-
-// Sets the first n places to 0.
-pub fn set_zero(table: &mut [u32], n: usize)
-    requires { n ≤ length table.old }
-    ensures { table.new ≡ replicate n 0 ++ drop n table.old }
-{
-    table[..n].fill(0);
 }
 
 // The highest count, and 0 where there is none. There is no early end, so that several counts are compared at once.
