@@ -12,11 +12,24 @@ ghost use Rattle.generator.specs.Needs.{SomeLetters, records_length};
 use settings::{Refusal, Settings};
 use texts::Writer;
 
+// a * b modulo 2^64, by halves of 32 bits: no product of halves wraps, and what is above 2^64 is left out.
+// Stays: document 01 names this form, an own wrapping multiply helper with the supplied wrapping add.
+fn wrapping_mul(a: u64, b: u64) -> u64
+    ensures { result ≡ (a * b) % 2 ^ 64 }
+{
+    let a0 = a % 4294967296;
+    let a1 = a / 4294967296;
+    let b0 = b % 4294967296;
+    let b1 = b / 4294967296;
+    let crossed = (a1 * b0 % 4294967296 + a0 * b1 % 4294967296) % 4294967296;
+    (a0 * b0).wrapping_add(crossed * 4294967296)
+}
+
 // The state after one letter more.
 fn step(state: u64) -> u64
     ensures { result ≡ stepped state }
 {
-    let product = state.wrapping_mul(6364136223846793005);
+    let product = wrapping_mul(state, 6364136223846793005);
     product.wrapping_add(1442695040888963407)
 }
 

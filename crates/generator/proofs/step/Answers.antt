@@ -6,4 +6,4 @@ use Rattle.generator.proofs.step.Goals as goal
 
 pub returns : goal.returns
 unfolding stepped
-returns c = mod-add-mod _ (2 ^ 64) 1442695040888963407
+returns c = rw c.wrapping_mul-product.ensures (mod-add-mod _ (2 ^ 64) 1442695040888963407)
