@@ -28,7 +28,7 @@ use Rattle.loading.proofs.Lines.{ended_by, past}
 use Rattle.loading.proofs.Numbers.{number_is_decimal, decimal-is_number, decimal-no_lf}
 use Rattle.loading.proofs.Words.{letters_no_lf}
 use Rattle.loading.proofs.Shapes.{inner-is}
-use Rattle.settings.specs.Given.{the_settings}
+use Rattle.settings.specs.Given.{Given, the_settings}
 
 -- ---- the end with the number of classes
 
@@ -152,6 +152,20 @@ unfolding is_in
 mirror-no_lf zero = refl
 mirror-no_lf (suc m) = refl
 
+-- The line that is printed has one LF, at its end, where the letters have none.
+one_line : (s : Given) → is_in 10 s.letters ≡ false → Ended (survey_line s)
+unfolding survey_line is_in
+one_line s none =
+    let n = (settings_of s).classes in
+    ended_by (line_of (printed_forms s ++ (form (bytes "classes") (decimal n) ∷ [])))
+    (simp (append_assoc, append-nil)
+    (rw (
+      past 10 s.letters _ none,
+      past 10 (decimal s.k) _ (decimal-no_lf s.k),
+      past 10 (mirror_name s.mirror) _ (mirror-no_lf s.mirror),
+      past 10 (decimal n) _ (decimal-no_lf n),
+    )))
+
 module _ (letters : List ℕ) (k m : ℕ) (good : settings_ground (the_settings letters k m) ≡ None) where
   pub survey_shape : is_survey_line (survey_line (the_settings letters k m)) ≡ true
   survey_shape =
@@ -160,17 +174,7 @@ module _ (letters : List ℕ) (k m : ℕ) (good : settings_ground (the_settings 
       survey_there (survey_line (the_settings letters k m)) (decimal n) P.letters_good P.k_good P.mirror_good (decimal-is_number n).0 (printed_line (the_settings letters k m))
 
   pub survey_one_line : Ended (survey_line (the_settings letters k m))
-  unfolding survey_line is_in
-  survey_one_line =
-      let n = (settings_of (the_settings letters k m)).classes in
-      ended_by (line_of (printed_forms (the_settings letters k m) ++ (form (bytes "classes") (decimal n) ∷ [])))
-      (simp (append_assoc, append-nil)
-      (rw (
-        past 10 letters _ (letters_no_lf letters k m good),
-        past 10 (decimal k) _ (decimal-no_lf k),
-        past 10 (mirror_name m) _ (mirror-no_lf m),
-        past 10 (decimal n) _ (decimal-no_lf n),
-      )))
+  survey_one_line = one_line (the_settings letters k m) (letters_no_lf letters k m good)
 
   -- 21, "when the survey line differs from the settings or their number of classes": a line of the shape is the line that is printed under the settings, byte by
   -- byte, exactly where its letters, k, mirror and number of classes are theirs.
