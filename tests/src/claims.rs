@@ -17,7 +17,7 @@ const INDEX: &str = "\n## Index of names\n";
 const WORDS: [&str; 2] = ["requires", "returns"];
 
 /// The specs files of what functions below the calls ask of each other.
-const APART: [&str; 4] = ["/Needs.antt", "/RankTables.antt", "/Kernels.antt", "/Coders.antt"];
+const APART: [&str; 5] = ["/Needs.antt", "/RankTables.antt", "/Kernels.antt", "/Coders.antt", "/Ordered.antt"];
 
 /// What stands between backticks in a text, in order.
 fn quoted(text: &str) -> Vec<&str> {
