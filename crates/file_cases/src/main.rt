@@ -13,9 +13,9 @@
 ghost use Rattle.std.specs.Prelude.{◌≡◌, ◌<◌, ◌≤◌, length, IfOk};
 
 use fasta::Numbers;
-use files::Kind;
+use files::{Kind, SequenceFile};
 use records::Record;
-use settings::Refusal;
+use settings::{Refusal, Settings};
 use std::io::{self, Read, Write};
 
 // The value of a hexadecimal digit, 0 to 9 or a to f; 0 for every other byte.
@@ -106,12 +106,17 @@ fn scan_case<W: Write>(out: &mut W, kind: Kind, s: &[u8], file: &mut [u8]) -> io
     let (k, s) = field(s);
     let (mirror, s) = field(s);
     let n = unescape(s, file);
-    let scanned = files::scan(
-        kind,
-        &file[..n],
+    let settings = Settings {
         letters,
-        decimal(k),
-        decimal(mirror) as u64,
+        k: decimal(k),
+        mirror: decimal(mirror) as u64,
+    };
+    let scanned = files::scan(
+        &SequenceFile {
+            kind,
+            bytes: &file[..n],
+        },
+        &settings,
     );
     put_scanned(out, scanned)
 }
