@@ -1,15 +1,8 @@
 -- One batch: its codes in the array that was filled, of which `limit` at most are asked for, and what a batch keeps of its letters.
-use mathlib.Core.Path.{◌≡◌, sym, ap, ◌∙◌}
-use Prim.Native.Nat.{ℕ, ◌+◌, ◌-◌, ◌≤◌, min}
-use native.Mathlib.Omega.{arith}
-use mathlib.Core.Bool.{false}
-use mathlib.Core.List.{List}
-use lib.ListN.{length, take, drop}
-use lib.Seq.{take-take, paste}
-use Rattle.std.proofs.Common.{zero-add}
+use Rattle.std.proofs.Common.{◌≡◌, sym, ap, ◌∙◌, ℕ, ◌+◌, ◌-◌, ◌≤◌, min, arith, false, List, length, take, drop, take-take, zero-add, length-drop}
+use lib.Seq.{paste}
 use Rattle.std.proofs.lemmas.List.{drop-take}
 use Rattle.std.proofs.lemmas.List.Edits.{take-paste}
-use lib.ListN.{length-drop}
 use Rattle.std.specs.List.{copy_within}
 use Rattle.settings.specs.Settings.{classes}
 use Rattle.encoding.specs.Words.{Ranks}

@@ -1,11 +1,6 @@
 -- A file's windows counted or taken away, batch by batch: what holds at the head of the loop of `change_file`, beside the walk, and what each way out of it
 -- leaves. From the laws of the walk (Walks) and of the counts (tally_book).
-use mathlib.Core.Path.{◌≡◌, refl, sym, ap, subst, ◌∙◌}
-use Prim.Native.Nat.{ℕ, ◌+◌, ◌-◌, ◌<◌, ◌≤◌, min}
-use native.Mathlib.Omega.{arith}
-use mathlib.Core.List.{List}
-use lib.ListN.{length, get_or, take}
-use lib.Seq.{take_all, take-take, get_or-take}
+use Rattle.std.proofs.Common.{◌≡◌, refl, sym, ap, subst, ◌∙◌, ℕ, ◌+◌, ◌-◌, ◌<◌, ◌≤◌, min, arith, List, length, get_or, take, take_all, take-take, get_or-take}
 use Rattle.fasta.specs.declared.Mode.{Mode}
 use Rattle.kernels.specs.declared.Coder.{Coder}
 use Rattle.laws.specs.Windows.{windows}

@@ -1,16 +1,7 @@
 -- Gathering the letters of a run into an array: what holds at the head of the loop of `gather`, what a turn does to it, and its ends.
-use mathlib.Core.Path.{◌≡◌, refl, sym, ap, ◌∙◌}
-use Prim.Native.Nat.{ℕ, zero, suc, ◌+◌, ◌-◌, ◌<◌, ◌≤◌}
+use Rattle.std.proofs.Common.{◌≡◌, refl, sym, ap, ◌∙◌, ℕ, zero, suc, ◌+◌, ◌-◌, ◌<◌, ◌≤◌, add-one, arith, Bool, true, false, cond, true≢false, Option, None, Some, List, [], ◌∷◌, ◌++◌, append-nil, length, get_or, take, drop, set, length-set, eqb, eq-eqb, ne_eqb, take-suc-set}
 use native.Mathlib.Decide.{ℕ_discrete}
-use native.Mathlib.Numerals.{add-one}
-use native.Mathlib.Omega.{arith}
-use mathlib.Core.Bool.{Bool, true, false, cond, true≢false}
-use Rattle.std.specs.Prelude.{Option, None, Some}
-use mathlib.Core.List.{List, [], ◌∷◌, ◌++◌, append-nil}
-use lib.ListN.{length, get_or, take, drop, set, length-set}
-use lib.Dec.{eqb}
-use borrow.Author.Tests.{eq-eqb, ne_eqb}
-use lib.Seq.{take-set-le, take-suc-set}
+use lib.Seq.{take-set-le}
 use Rattle.encoding.specs.Words.{Ranks}
 use Rattle.laws.proofs.Each.{each_append}
 use Rattle.fasta.specs.declared.Item.{Item}

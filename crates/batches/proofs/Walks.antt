@@ -1,11 +1,8 @@
 -- A walk over a file's windows, batch by batch: so many codes are done, and what is left of them is what the rest of the file gives.
-use mathlib.Core.Path.{◌≡◌, refl, sym, ap, ◌∙◌}
-use Prim.Native.Nat.{ℕ, ◌+◌, ◌-◌, ◌<◌, ◌≤◌}
-use native.Mathlib.Omega.{arith}
-use mathlib.Core.Bool.{Bool, true, false, cond}
-use mathlib.Core.List.{List, [], ◌++◌, map-append}
-use lib.ListN.{length, get_or, take, drop, length-append, length-drop, get_or-append}
-use lib.Seq.{drop_at, drop-drop, take-add, length-take-le, take-append-le, get_or-drop}
+use Rattle.std.proofs.Common.{◌≡◌, refl, sym, ap, ◌∙◌, ℕ, ◌+◌, ◌-◌, ◌<◌, ◌≤◌, arith, Bool, true, false, cond, List, [], ◌++◌, length, get_or, take, drop, length-append, length-drop, drop_at, drop-drop, take-add, length-take-le, get_or-drop}
+use mathlib.Core.List.{map-append}
+use lib.ListN.{get_or-append}
+use lib.Seq.{take-append-le}
 use Rattle.settings.proofs.Limits.{k_at_most}
 use Rattle.encoding.specs.Words.{Ranks}
 use Rattle.encoding.specs.Codes.{code}

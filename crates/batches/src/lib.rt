@@ -18,8 +18,7 @@ use kernels::Coder;
 use settings::RankTable;
 
 // What a byte does to the present run: how many letters it adds, 0 or 1, with the letter's rank; or that it ends the run.
-// Stays: a struct, and no enum. `gather` writes and adds it without a branch: 3.9 ns a byte of a test load, where `match` on an enum of the three takes 4.8 and on an
-// `Option` of rank and letters 5.4.
+// Stays: `gather` adds it without a branch, in 3.9 ns a byte of a test load; with an enum of the three it takes 4.8, with an `Option` of rank and letters 5.4.
 #[derive(Clone, Copy)]
 struct Mark {
     rank: u8,
@@ -28,6 +27,7 @@ struct Mark {
 }
 
 // How far the file was read and in which mode, how many letters of the present run stand in the array, and whether the run ended there.
+// Stays: a flag beside the letters, since they stand there in either case.
 #[derive(Clone, Copy)]
 struct Gathered {
     at: usize,
@@ -81,6 +81,7 @@ fn gather(
     requires room { letters < length array.old }
     ensures { Gathers table.now (take letters array.old) file.now mode at result array.new }
 {
+    // Stays: the place goes past all bytes that a mode passes over, whose end is found 16 bytes at a time.
     while at < file.len() && letters < array.len() {
         let e = mode.pass_over(file, at);
         if e == file.len() {
@@ -132,6 +133,7 @@ fn change_batch(counts: &mut [u32], ranks: &[u8], coder: &Coder, way: Way, limit
     requires fits { way ≡ In → Fits (take limit (window_codes coder.now.s coder.now.mirror coder.now.k ranks.now)) counts.old }
     ensures { Changed way counts.old (take limit (window_codes coder.now.s coder.now.mirror coder.now.k ranks.now)) result counts.new }
 {
+    // Stays: a buffer of a batch's size, as the house has no heap (1,024 letters have 1,024 windows at most).
     let mut codes = [0u64; 1024];
     coder.fill_codes(ranks, &mut codes);
     let n = limit.min(kernels::window_count(ranks.len(), coder.k));
@@ -157,6 +159,7 @@ pub fn change_file(
     let mut mode = start;
     let mut n: usize = 0;
     let mut done: usize = 0;
+    // Stays: a turn takes as much of the file as fills the array, and no fixed part of it.
     while at < file.len() {
         let g = gather(file, &coder.ranks, at, mode, n, &mut array);
         let r = change_batch(counts, &array[..g.letters], coder, way, limit - done);
@@ -173,6 +176,7 @@ pub fn change_file(
 
 // Takes 1 from its class for each window of a file, of which there are `windows`; where some class has too few, what was taken is counted again, and all
 // counts are as before. Answers whether that was so.
+// Stays: a bool, as `counts::too_full` answers: which refusal it comes to is said in one place, where the call is answered (`second_pass::change_counts`).
 pub fn take_file(
     counts: &mut [u32],
     file: &[u8],

@@ -1,16 +1,8 @@
 -- The loops over counts: what holds at the head of each, and what a turn does to it; room for more counts, and ground 12 read from the highest count.
-use mathlib.Core.Path.{◌≡◌, refl, sym, ap, ◌∙◌}
-use Prim.Native.Nat.{ℕ, suc, ◌+◌, ◌-◌, ◌<◌, ◌≤◌, max}
+use Rattle.std.proofs.Common.{◌≡◌, refl, sym, ap, ◌∙◌, ℕ, suc, ◌+◌, ◌-◌, ◌<◌, ◌≤◌, max, add-one, arith, Bool, true, false, cond, ◌||◌, List, [], ◌∷◌, ◌++◌, eqb, ltb, length, get_or, take, drop, drop_of_length-le, drop-cons, take-add, take_all, lt-ltb, le-ltb, eq-eqb}
 use native.Mathlib.Decide.{dec_le}
-use native.Mathlib.Numerals.{add-one}
-use native.Mathlib.Omega.{arith}
-use mathlib.Core.Bool.{Bool, true, false, cond, ◌||◌, or-false, or_assoc}
-use mathlib.Core.List.{List, [], ◌∷◌, ◌++◌}
-use lib.Dec.{eqb, ltb}
+use mathlib.Core.Bool.{or-false, or_assoc}
 use Rattle.std.specs.List.{fold}
-use lib.ListN.{length, get_or, take, drop, drop_of_length-le}
-use lib.Seq.{drop-cons, take-add, take_all}
-use borrow.Author.Tests.{lt-ltb, le-ltb, eq-eqb}
 use Rattle.tally_book.specs.Table.{change, one_more, changes, occurrences, full}
 use Rattle.laws.specs.Each.{Each}
 use Rattle.tally_book.specs.Needs.{Below}

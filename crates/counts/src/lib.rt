@@ -68,8 +68,7 @@ fn take_codes(counts: &mut [u32], codes: &[u64]) -> usize
 }
 
 // One more or one less for each of some codes; on the way out up to the first of whose class no count is left. Answers for how many.
-// Stays: the step goes by `way`, and not by a closure that is lent. Which of the two codes are counted by is also what the calls are named by (`call_of`), and a
-// closure's contract over `Fits` and `Changed` would stand in each of the four functions that pass it on.
+// Stays: the step by `way`, which names the call too (`call_of`); a closure's contract over `Fits` and `Changed` would stand in each of four functions.
 pub fn change_codes(counts: &mut [u32], codes: &[u64], way: Way) -> usize
     requires fits { way ≡ In → Fits codes.now counts.old }
     requires each { Each (Below (length counts.old)) codes.now }

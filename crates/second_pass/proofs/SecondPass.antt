@@ -1,13 +1,7 @@
 -- The second pass over a file: that there is room for its windows, what a coder of the settings makes of a file, and from the counts of the classes to the whole
 -- table.
-use mathlib.Core.Path.{◌≡◌, refl, sym, ap, ◌∙◌}
-use Prim.Native.Nat.{ℕ, ◌≤◌}
-use native.Mathlib.Omega.{arith}
-use mathlib.Core.Bool.{false}
-use Rattle.std.specs.Prelude.{Option, None, Some}
-use mathlib.Core.List.{List, ◌++◌, map}
-use lib.ListN.{length, take, drop, length-map, take-append-drop}
-use lib.Seq.{take_all}
+use Rattle.std.proofs.Common.{◌≡◌, refl, sym, ap, ◌∙◌, ℕ, ◌≤◌, arith, false, Option, None, Some, List, ◌++◌, map, length, take, drop, take-append-drop, take_all}
+use lib.ListN.{length-map}
 use Rattle.settings.specs.declared.Checked.{Checked}
 use Rattle.settings.specs.Grounds.{Ground, Outcome, ground, outcome, unless_refused}
 use Rattle.settings.specs.Settings.{rank_in, mirror_of, classes, settings_ground, settings_of}

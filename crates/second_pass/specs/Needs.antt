@@ -1,6 +1,5 @@
 -- What the functions of the second pass ask of each other and promise each other. No claim and no call of document 01 rests on it.
-use Rattle.std.specs.Prelude.{◌≡◌, ℕ, ◌≤◌, List, length, take, drop}
-use Rattle.std.specs.Prelude.{Option, None}
+use Rattle.std.specs.Prelude.{◌≡◌, ℕ, ◌≤◌, List, length, take, drop, Option, None}
 use Rattle.settings.specs.Grounds.{Ground, Outcome, ground, outcome, unless_refused}
 use Rattle.settings.specs.Settings.{rank_in}
 use Rattle.fasta.specs.declared.Numbers.{Numbers}

@@ -16,6 +16,7 @@ use settings::{Checked, Refusal};
 
 // The second pass over a file, in the counts alone: all its windows are counted, or none where some count is too high for them; or all are taken away,
 // or none where some count is too low for them.
+// Stays: a match on the way. What is asked first, and of which refusal, differs with it too, so that two closures would have to be lent.
 fn change_counts(
     way: Way,
     counts: &mut [u32],

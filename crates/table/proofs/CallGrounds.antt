@@ -1,13 +1,7 @@
 -- The grounds of the table calls one after the other, as the calls meet them: what is answered and left at each.
-use mathlib.Core.Path.{◌≡◌, ap, ◌∙◌}
+use Rattle.std.proofs.Common.{◌≡◌, ap, ◌∙◌, ℕ, ◌<◌, ◌≤◌, arith, false, ◌||◌, None, Some, List, ◌++◌, length, drop, replicate, lt-ltb, le-ltb, ltb-false}
 use mathlib.Mathlib.Data.Bool.Basic.{or-eq-false-eq-eq-false-and-eq-false}
-use Prim.Native.Nat.{ℕ, ◌<◌, ◌≤◌}
-use native.Mathlib.Omega.{arith}
-use mathlib.Core.Bool.{false, ◌||◌}
-use Rattle.std.specs.Prelude.{None, Some}
-use mathlib.Core.List.{List, ◌++◌}
-use lib.ListN.{length, drop, replicate, length-replicate}
-use borrow.Author.Tests.{lt-ltb, le-ltb, ltb-false}
+use lib.ListN.{length-replicate}
 use Rattle.settings.specs.declared.Checked.{Checked}
 use Rattle.settings.specs.Grounds.{Ground, Outcome, given, refused, ground, ground_at, too_short, outcome, ◌or_else◌}
 use Rattle.settings.specs.Settings.{rank_in, settings_ground, settings_of}

@@ -80,6 +80,7 @@ pub fn call(
     second_pass::call_scanned(way, table, file, st, &coder, n)
 }
 
+// Stays: `add` and `withdraw` are the two calls of documents 01 and 02, each with its own contract (`Added`, `Withdrawn`), over one function.
 // Adds 1 for each window of a file, or refuses the file on the grounds 1, 2, 4, 6, 7, those of its kind or 12, and changes no count.
 pub fn add(settings: &Settings, table: &mut [u32], file: &SequenceFile) -> Result<Numbers, Refusal>
     ensures { Added (as_given settings.now) table.old (as_file file.now) (outcome_of result) table.new }

@@ -1,10 +1,7 @@
 -- The definitions computed on small files, with ACGT, k 2 and complement: the example of document 01, "Listing and counter program", in the book and in
 -- the table; an empty file; a file that is refused and changes nothing; the example's reads as FASTQ, alone and in a list that mixes both kinds of file;
 -- withdrawals.
-use mathlib.Core.Path.{◌≡◌, refl}
-use Rattle.std.specs.Prelude.{None, Some}
-use mathlib.Core.List.{[], ◌∷◌}
-use lib.ListN.{replicate}
+use Rattle.std.proofs.Common.{◌≡◌, refl, None, Some, [], ◌∷◌, replicate}
 use Rattle.laws.specs.Text.{bytes}
 use Rattle.lines.specs.Lines.{lines, text_of, first_byte_is}
 use Rattle.settings.specs.Grounds.{Outcome, given, refused}

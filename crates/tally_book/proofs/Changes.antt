@@ -2,16 +2,10 @@
 -- the sum of the counts by how many places are named; it falls by how often its place is named, as far as 0; what was taken away and is counted again is as
 -- it was, and what was counted and is taken away again too. From the definitions `change`, `changes`, `one_more`, `one_less` (specs/Table.antt) and `sum`
 -- (specs/Demand.antt), and the library's laws of `set`.
-use mathlib.Core.Path.{◌≡◌, refl, sym, ap, ◌∙◌}
-use Prim.Native.Nat.{ℕ, zero, suc, ◌+◌, ◌-◌, ◌≤◌, ◌<◌}
+use Rattle.std.proofs.Common.{◌≡◌, refl, sym, ap, ◌∙◌, ℕ, zero, suc, ◌+◌, ◌-◌, ◌≤◌, ◌<◌, arith, Bool, true, false, cond, List, [], ◌∷◌, ◌++◌, length, take, drop, get_or, set, length-set, take-append-drop, get_or-set_same, get_or-set_other, drop-set-lt, length-take-le, get_or-take, ext_get_or, eqb, eqb-true}
 use native.Mathlib.Decide.{dec_le}
-use native.Mathlib.Omega.{arith}
-use mathlib.Core.Bool.{Bool, true, false, cond}
-use mathlib.Core.List.{List, [], ◌∷◌, ◌++◌}
-use lib.ListN.{length, take, drop, get_or, set, length-set, take-append-drop}
-use lib.Seq.{get_or-set_same, get_or-set_other, drop-set-lt, take-set-lt, length-take-le, get_or-take, ext_get_or}
-use lib.Dec.{eqb}
-use borrow.Author.Tests.{eqb-true, eqb-false}
+use lib.Seq.{take-set-lt}
+use borrow.Author.Tests.{eqb-false}
 use Rattle.tally_book.specs.Table.{change, changes, one_more, one_less, occurrences}
 use Rattle.tally_book.specs.Demand.{sum}
 use Rattle.laws.specs.Each.{Each}

@@ -1,11 +1,5 @@
 -- The codes of words within the limits, and places and classes under settings that pass the check. From the theorems of the encoding.
-use mathlib.Core.Path.{◌≡◌, refl, sym, ap, ◌∙◌}
-use Prim.Native.Nat.{ℕ, ◌<◌}
-use Rattle.std.specs.Prelude.{None}
-use mathlib.Core.List.{List, [], ◌∷◌, map}
-use lib.ListN.{length}
-use lib.Dec.{eqb}
-use borrow.Author.Tests.{eqb-true, eq-eqb}
+use Rattle.std.proofs.Common.{◌≡◌, refl, sym, ap, ◌∙◌, ℕ, ◌<◌, None, List, [], ◌∷◌, map, length, eqb, eqb-true, eq-eqb}
 use Rattle.settings.specs.Settings.{mirror_of, classes, settings_ground}
 use Rattle.settings.specs.Limits.{Limits}
 use Rattle.settings.proofs.SettingsGrounds.{limits}

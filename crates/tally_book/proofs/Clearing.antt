@@ -1,14 +1,8 @@
 -- The grounds of a clearing, which other calls on a table have too: the one that applies at each test (`clear_settings`, `clear_many`, `clear_short`,
 -- `clear_passed`), and what is known where none does: the settings pass the check, the classes are at most 16,777,216, and each has a place. And the table after
 -- a clearing: its first places, one a class, are 0, and it agrees with the cleared book. From the definitions in specs/Table.antt.
-use mathlib.Core.Path.{◌≡◌, refl, sym, ap, ◌∙◌}
-use Prim.Native.Nat.{ℕ, zero, suc, ◌<◌, ◌≤◌}
-use native.Mathlib.Omega.{arith}
-use Rattle.std.specs.Prelude.{None, Some}
-use mathlib.Core.List.{List, ◌++◌}
-use lib.ListN.{length, drop, replicate, length-replicate, get_or-replicate, length-append, length-drop, get_or-append}
-use lib.Seq.{drop_at}
-use borrow.Author.Tests.{lt-ltb, le-ltb}
+use Rattle.std.proofs.Common.{◌≡◌, refl, sym, ap, ◌∙◌, ℕ, zero, suc, ◌<◌, ◌≤◌, arith, None, Some, List, ◌++◌, length, drop, replicate, length-append, length-drop, drop_at, lt-ltb, le-ltb}
+use lib.ListN.{length-replicate, get_or-replicate, get_or-append}
 use Rattle.laws.proofs.Buffers.{front_is, front_fits}
 use Rattle.settings.specs.declared.Checked.{Checked}
 use Rattle.settings.specs.Grounds.{Ground, Outcome, given, refused, ground, ground_at, too_short, outcome, ◌or_else◌}

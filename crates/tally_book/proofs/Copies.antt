@@ -2,11 +2,8 @@
 -- copy to the same table give the same answer, numbers or refusal and P, and leave the same table, and two withdrawals likewise (`copy_called`); and so do
 -- two lists of adds and withdrawals, the one with copies in place of some or all of the other's files (`copies_called`). From the laws of copies in the crate
 -- files; for lists call by call, by `same_calls`.
-use mathlib.Core.Path.{◌≡◌, refl, sym, ap₂, ◌∙◌}
-use mathlib.Core.Bool.{true}
-use mathlib.Core.List.{List, ◌∷◌, Forall₂}
-use Prim.Native.Nat.{ℕ}
-use lib.ListN.{length}
+use Rattle.std.proofs.Common.{◌≡◌, refl, sym, ap₂, ◌∙◌, true, List, ◌∷◌, ℕ, length}
+use mathlib.Core.List.{Forall₂}
 use Rattle.settings.specs.Grounds.{Outcome}
 use Rattle.settings.specs.Settings.{reads_u_as_t}
 use Rattle.settings.proofs.Copies.{same_length}

@@ -1,13 +1,7 @@
 -- The theorems of demand 3, for all settings that pass the check and every list of adds and withdrawals, each of which meets the contract `Called` on the
 -- table that the last one left: from any table that agrees with a book (`kept`, `same_counts`), and from a cleared table (`demand_three`,
 -- `demand_three_same_counts`). The statements are those of specs/Demand.antt.
-use mathlib.Core.Path.{◌≡◌, refl, sym, ap, ◌∙◌}
-use Prim.Native.Nat.{ℕ, ◌+◌}
-use native.Mathlib.Omega.{arith}
-use Rattle.std.specs.Prelude.{None}
-use mathlib.Core.List.{List}
-use lib.ListN.{length, get_or, length-append}
-use lib.Seq.{length-take-le, get_or-take, ext_get_or}
+use Rattle.std.proofs.Common.{◌≡◌, refl, sym, ap, ◌∙◌, ℕ, ◌+◌, arith, None, List, length, get_or, length-append, length-take-le, get_or-take, ext_get_or}
 use Rattle.settings.specs.Grounds.{Outcome}
 use Rattle.settings.specs.Settings.{mirror_of, settings_ground}
 use Rattle.settings.proofs.SettingsGrounds.{good_settings}

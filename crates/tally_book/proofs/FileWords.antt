@@ -1,13 +1,5 @@
 -- A file's windows are words of k letters. From the definitions of marks, runs and windows, and that a letter's rank is below the number of letters.
-use mathlib.Core.Path.{◌≡◌, refl, sym}
-use Prim.Native.Nat.{ℕ, suc, ◌<◌}
-use mathlib.Core.Bool.{Bool, true, false, cond}
-use Rattle.std.specs.Prelude.{Option, None, Some}
-use mathlib.Core.List.{List, [], ◌∷◌}
-use lib.ListN.{length, take}
-use lib.Seq.{length-take-le}
-use lib.Dec.{leb}
-use borrow.Author.Tests.{leb-true}
+use Rattle.std.proofs.Common.{◌≡◌, refl, sym, ℕ, suc, ◌<◌, Bool, true, false, cond, Option, None, Some, List, [], ◌∷◌, length, take, length-take-le, leb, leb-true}
 use Rattle.settings.specs.Settings.{rank_in}
 use Rattle.encoding.specs.Words.{Ranks, IsWord}
 use Rattle.encoding.proofs.Ends.{ranks_take}

@@ -1,14 +1,8 @@
 -- Ground 12: it applies exactly where some count of a table, or some tally of a book, is too high. From the definition `full` (specs/Table.antt) and the
 -- laws of such tests (Some).
-use mathlib.Core.Path.{◌≡◌, refl, sym, ap, ◌∙◌}
-use Prim.Native.Nat.{ℕ, zero, suc, ◌-◌, ◌≤◌, ◌<◌}
+use Rattle.std.proofs.Common.{◌≡◌, refl, sym, ap, ◌∙◌, ℕ, zero, suc, ◌-◌, ◌≤◌, ◌<◌, arith, Bool, true, false, ◌||◌, List, [], ◌∷◌, map, length, get_or, ltb, ltb-true, lt-ltb}
 use native.Mathlib.Decide.{dec_le}
-use native.Mathlib.Omega.{arith}
-use mathlib.Core.Bool.{Bool, true, false, ◌||◌, or-true, false≢true}
-use mathlib.Core.List.{List, [], ◌∷◌, map}
-use lib.ListN.{length, get_or}
-use lib.Dec.{ltb}
-use borrow.Author.Tests.{ltb-true, lt-ltb}
+use mathlib.Core.Bool.{or-true, false≢true}
 use Rattle.laws.proofs.Tests.{bool_ext}
 use Rattle.tally_book.specs.Table.{full, some_below}
 use Rattle.tally_book.specs.Book.{some_of}

@@ -1,12 +1,5 @@
 -- "Adding a file that is taken in and withdrawing it next gives the table back." From the contract `Called` of both calls.
-use mathlib.Core.Path.{◌≡◌, sym, ap, ◌∙◌}
-use Prim.Native.Nat.{ℕ, ◌≤◌}
-use native.Mathlib.Omega.{arith}
-use mathlib.Core.Bool.{false}
-use Rattle.std.specs.Prelude.{Option, None}
-use mathlib.Core.List.{List}
-use lib.ListN.{length, take}
-use lib.Seq.{length-take-le, get_or-take}
+use Rattle.std.proofs.Common.{◌≡◌, sym, ap, ◌∙◌, ℕ, ◌≤◌, arith, false, Option, None, List, length, take, length-take-le, get_or-take}
 use Rattle.settings.specs.Grounds.{Ground, Outcome, given, ground, outcome, unless_refused}
 use Rattle.settings.specs.Settings.{rank_in}
 use Rattle.settings.proofs.Outcomes.{passed, first_none, later_none}

@@ -1,11 +1,6 @@
 -- Ground 18: it does not apply where each count is at least as high as its place is named, and it applies where some count is lower. From the definition
 -- `lacks` (specs/Table.antt) and the laws of such tests (Some).
-use mathlib.Core.Path.{◌≡◌}
-use mathlib.Core.Bool.{true, false}
-use mathlib.Core.List.{List}
-use Prim.Native.Nat.{ℕ, ◌<◌, ◌≤◌}
-use lib.ListN.{length, get_or}
-use borrow.Author.Tests.{le-ltb, lt-ltb}
+use Rattle.std.proofs.Common.{◌≡◌, true, false, List, ℕ, ◌<◌, ◌≤◌, length, get_or, le-ltb, lt-ltb}
 use Rattle.tally_book.specs.Table.{occurrences, lacks}
 use Rattle.tally_book.proofs.Some.{some_below_at, none_below_by}
 

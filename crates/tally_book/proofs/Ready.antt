@@ -1,9 +1,5 @@
 -- What is known where no ground applies before a file is read: the settings pass the check, and the table has a place for each class. From `ready_ground`.
-use mathlib.Core.Path.{◌≡◌}
-use Prim.Native.Nat.{ℕ, ◌≤◌}
-use mathlib.Core.Bool.{◌||◌}
-use Rattle.std.specs.Prelude.{None}
-use mathlib.Core.List.{List}
+use Rattle.std.proofs.Common.{◌≡◌, ℕ, ◌≤◌, ◌||◌, None, List}
 use Rattle.settings.specs.Grounds.{ground}
 use Rattle.settings.specs.Settings.{settings_ground}
 use Rattle.settings.proofs.Outcomes.{first_none, later_none, nowhere_met, room_enough}

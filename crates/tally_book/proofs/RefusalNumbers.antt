@@ -1,9 +1,5 @@
 -- The numbers of the refusals that the table calls give. From the definitions of their grounds. "Refusal 3 then never occurs" (document 02, K10).
-use mathlib.Core.Path.{refl}
-use mathlib.Core.Bool.{Bool, ◌||◌}
-use mathlib.Core.List.{List, [], ◌∷◌}
-use Prim.Native.Nat.{ℕ}
-use borrow.Author.Tests.{eq-eqb}
+use Rattle.std.proofs.Common.{refl, Bool, ◌||◌, List, [], ◌∷◌, ℕ, eq-eqb}
 use Rattle.settings.specs.Grounds.{Ground, ground, ◌or_else◌}
 use Rattle.settings.specs.Settings.{is_in, RefusedOnlyBy}
 use Rattle.settings.proofs.FirstGround.{Has, NumberIn, in_behind, test_has, then_has, sizes_has}

@@ -1,14 +1,6 @@
 -- The grounds of a call read alike from a table and from a book that agree: 12, 18, and so all of them; and each count is high enough where no ground
 -- applies to a withdrawal. From the laws of tests (Some) and of places and classes (Classes).
-use mathlib.Core.Path.{◌≡◌, sym, ap, ◌∙◌}
-use Prim.Native.Nat.{ℕ, ◌-◌, ◌≤◌, ◌<◌}
-use native.Mathlib.Omega.{arith}
-use mathlib.Core.Bool.{Bool, true}
-use Rattle.std.specs.Prelude.{Option, None}
-use mathlib.Core.List.{List}
-use lib.ListN.{length, take, get_or}
-use lib.Dec.{ltb}
-use borrow.Author.Tests.{le-ltb, ltb-false}
+use Rattle.std.proofs.Common.{◌≡◌, sym, ap, ◌∙◌, ℕ, ◌-◌, ◌≤◌, ◌<◌, arith, Bool, true, Option, None, List, length, take, get_or, ltb, le-ltb, ltb-false}
 use Rattle.laws.proofs.Tests.{bool_ext}
 use Rattle.settings.specs.Grounds.{Ground, ground}
 use Rattle.settings.specs.Settings.{mirror_of, settings_ground}

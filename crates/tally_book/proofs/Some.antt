@@ -1,15 +1,10 @@
 -- Whether some number below n, or some word of a list, passes a test: where one does there is one, and where there is one it does. From the definitions
 -- `some_below` (specs/Table.antt) and `some_of` (specs/Book.antt).
-use mathlib.Core.Path.{◌≡◌, refl, sym, ap, ◌∙◌}
-use mathlib.Core.Logic.{⊎_elim}
-use Prim.Native.Nat.{ℕ, zero, suc, ◌<◌, ◌≤◌}
+use Rattle.std.proofs.Common.{◌≡◌, refl, sym, ap, ◌∙◌, ⊎_elim, ℕ, zero, suc, ◌<◌, ◌≤◌, arith, Bool, true, false, ◌||◌, List, [], ◌∷◌, length, take, get_or, length-take-le, get_or-take}
 use native.Mathlib.Decide.{ℕ_discrete}
-use native.Mathlib.Omega.{arith}
-use mathlib.Core.Bool.{Bool, true, false, ◌||◌, or-true, false≢true}
+use mathlib.Core.Bool.{or-true, false≢true}
 use mathlib.Core.List.Memᴰ
-use mathlib.Core.List.{List, [], ◌∷◌, Memᴰ}
-use lib.ListN.{length, take, get_or}
-use lib.Seq.{length-take-le, get_or-take}
+use mathlib.Core.List.{Memᴰ}
 use Rattle.tally_book.specs.Table.{some_below}
 use Rattle.tally_book.specs.Book.{some_of}
 

@@ -1,11 +1,7 @@
 -- One call beside the book: a table that agrees with the book agrees with it after an add or a withdrawal, the answers are the same, later places stay, and
 -- each count and their sum have moved by the file's windows. From the laws of counts (Changes) and of the grounds (SameGrounds).
-use mathlib.Core.Path.{◌≡◌, refl, ◌∙◌}
-use Prim.Native.Nat.{ℕ, ◌+◌, ◌<◌}
-use native.Mathlib.Omega.{arith}
-use Rattle.std.specs.Prelude.{Option, None, Some}
-use mathlib.Core.List.{List}
-use lib.ListN.{length, drop, get_or, length-map}
+use Rattle.std.proofs.Common.{◌≡◌, refl, ◌∙◌, ℕ, ◌+◌, ◌<◌, arith, Option, None, Some, List, length, drop, get_or}
+use lib.ListN.{length-map}
 use Rattle.settings.specs.Grounds.{Ground, Outcome, given, refused, outcome, unless_refused}
 use Rattle.settings.specs.Settings.{rank_in, mirror_of, settings_ground}
 use Rattle.fasta.specs.declared.Numbers.{Numbers}

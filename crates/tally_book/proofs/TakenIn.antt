@@ -1,10 +1,6 @@
 -- The files that a list of calls takes in and those that it takes out: their windows and their letters. From the definitions in specs/Demand.antt, and
 -- from what is known of the windows (FileWords) and the letters (`letters_are`) of one file.
-use mathlib.Core.Path.{◌≡◌}
-use Prim.Native.Nat.{ℕ, ◌+◌, ◌≤◌}
-use native.Mathlib.Omega.{arith}
-use mathlib.Core.List.{List, [], ◌∷◌, ◌++◌}
-use lib.ListN.{length, length-append}
+use Rattle.std.proofs.Common.{◌≡◌, ℕ, ◌+◌, ◌≤◌, arith, List, [], ◌∷◌, ◌++◌, length, length-append}
 use Rattle.settings.specs.Grounds.{Outcome, given, refused}
 use Rattle.settings.specs.Settings.{rank_in}
 use Rattle.encoding.specs.Words.{Mirror, IsWord}

@@ -1,15 +1,9 @@
 -- Words told apart by a test, and the list of all canonical words: it has those words that are canonical words of a class, and no others.
 -- From the definitions in specs/Book.antt.
-use mathlib.Core.Path.{◌≡◌, refl, sym, ap, ap₂, ◌∙◌}
-use mathlib.Core.Logic.{◌⊎◌, inl, inr, ⊎_elim}
-use Prim.Native.Nat.{ℕ, zero, suc, ◌<◌}
+use Rattle.std.proofs.Common.{◌≡◌, refl, sym, ap, ap₂, ◌∙◌, ◌⊎◌, inl, inr, ⊎_elim, ℕ, zero, suc, ◌<◌, arith, Bool, true, false, cond, ◌&&◌, ◌||◌, List, [], ◌∷◌, ◌++◌, map, length, eqb, eqb-true, eq-eqb}
 use native.Mathlib.Decide.{ℕ_discrete}
-use native.Mathlib.Omega.{arith}
-use mathlib.Core.Bool.{Bool, true, false, cond, ◌&&◌, ◌||◌, or-true, false≢true}
-use mathlib.Core.List.{List, [], ◌∷◌, ◌++◌, map, Memᴰ}
-use lib.ListN.{length}
-use lib.Dec.{eqb}
-use borrow.Author.Tests.{eqb-true, eq-eqb}
+use mathlib.Core.Bool.{or-true, false≢true}
+use mathlib.Core.List.{Memᴰ}
 use Rattle.encoding.specs.Words.{Mirror, Ranks, mirror, canonical}
 use Rattle.tally_book.specs.Book.{same_word, same_class, CanonicalWord, with_front, all_words, canonical_ones}
 

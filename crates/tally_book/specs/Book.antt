@@ -1,8 +1,7 @@
 -- Document 01, "The tally book", and document 02, K4, withdrawals in it. It keeps one tally a class, by the class's canonical word, and reads neither codes nor the
 -- table's places; the rules for the grounds are those of Table.
 -- Throughout, s is the number of letters and m the mirror.
-use Rattle.std.specs.Prelude.{◌≡◌, Bool, true, false, cond, ◌&&◌, ◌||◌, List, [], ◌∷◌, ◌++◌, map, ℕ, zero, suc, ◌+◌, ◌-◌, length, eqb, ltb}
-use Rattle.std.specs.Prelude.{Option}
+use Rattle.std.specs.Prelude.{◌≡◌, Bool, true, false, cond, ◌&&◌, ◌||◌, List, [], ◌∷◌, ◌++◌, map, ℕ, zero, suc, ◌+◌, ◌-◌, length, eqb, ltb, Option}
 use Rattle.settings.specs.Grounds.{Ground, Outcome, ground, outcome, unless_refused}
 use Rattle.settings.specs.Settings.{rank_in, mirror_of}
 use Rattle.encoding.specs.Words.{Mirror, IsWord, mirror, canonical}

@@ -1,7 +1,6 @@
 -- Document 01, "Table" and "Grounds for refusing", and document 02, K4: what clearing, adding and withdrawing answer, and the table that they leave. A file
 -- is one with its kind (document 02, K1).
-use Rattle.std.specs.Prelude.{◌≡◌, Bool, false, cond, ◌||◌, List, [], ◌∷◌, map, ℕ, zero, suc, ◌+◌, ◌-◌, length, take, get_or, set, replicate, eqb, ltb}
-use Rattle.std.specs.Prelude.{Option}
+use Rattle.std.specs.Prelude.{◌≡◌, Bool, false, cond, ◌||◌, List, [], ◌∷◌, map, ℕ, zero, suc, ◌+◌, ◌-◌, length, take, get_or, set, replicate, eqb, ltb, Option}
 use Rattle.settings.specs.Grounds.{Ground, Outcome, ground, ground_at, too_short, outcome, unless_refused, Overwrites, ◌or_else◌}
 use Rattle.settings.specs.Settings.{rank_in, mirror_of, classes, settings_ground}
 use Rattle.encoding.specs.Codes.{code}

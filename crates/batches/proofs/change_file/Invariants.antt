@@ -1,6 +1,5 @@
 -- The loops of this function: what holds at each turn, and what falls.
-use Prim.Native.Nat.{◌-◌}
-use lib.ListN.{length}
+use Rattle.std.proofs.Common.{◌-◌, length}
 use Rattle.batches.proofs.FileLoops.{Changing}
 use Rattle.batches.proofs.change_file.Given as goal
 
