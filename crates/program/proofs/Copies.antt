@@ -19,6 +19,7 @@ use Rattle.survey.specs.Grammar.LineEnd.{lf, crlf, with_the_input}
 use Rattle.survey.proofs.Theorems.{another_end}
 use Rattle.program.specs.Program.{cleared_table, answer_text, survey_text, kind_by_first_byte, program_file, program_text}
 use Rattle.program.proofs.SurveyLines.{survey_line_text}
+use Rattle.settings.specs.Given.{the_settings}
 
 -- ---- a file
 
@@ -33,16 +34,16 @@ file_copy C =
 
 module _ (letters : List ℕ) (reads : reads_u_as_t letters ≡ true) (k m : ℕ) where
   -- The same text at the same answer, since the places counted are the same.
-  same_answer_text : {file copy : File} → FileCopy file copy → (answer : Outcome Numbers) → answer_text letters k m file answer ≡ answer_text letters k m copy answer
+  same_answer_text : {file copy : File} → FileCopy file copy → (answer : Outcome Numbers) → answer_text (the_settings letters k m) file answer ≡ answer_text (the_settings letters k m) copy answer
   same_answer_text D (given n) = rw (same_windows_of_file letters k D reads)
   same_answer_text D (refused g) = refl
 
   same_survey_text : {bytes copy : List ℕ} → CopyWithT bytes copy
-      → survey_text letters k m (program_file bytes) ≡ survey_text letters k m (program_file copy)
+      → survey_text (the_settings letters k m) (program_file bytes) ≡ survey_text (the_settings letters k m) (program_file copy)
   unfolding survey_text call_ground
   same_survey_text {bytes} C =
       let D = file_copy C in
-      same_answer_text D (outcome (table_ground letters k m cleared_table (add (program_file bytes))) (file_numbers (rank_in letters) k (program_file bytes)))
+      same_answer_text D (outcome (table_ground (the_settings letters k m) cleared_table (add (program_file bytes))) (file_numbers (rank_in letters) k (program_file bytes)))
       ∙ rw (same_windows_of_file letters k D reads, same_ready_ground letters k D m (length cleared_table), same_file_fault D, same_file_numbers D letters reads k)
 
 -- ---- the whole input

@@ -22,6 +22,7 @@ use Rattle.survey.specs.Reading.{read_input}
 use Rattle.survey.proofs.Theorems.{other_order_only, refuses, one_of_three}
 use Rattle.listing.specs.Listing.{listing_of}
 use Rattle.program.specs.Program.{refused_line, cleared_table, answer_text, survey_text, program_file, line_text, program_text}
+use Rattle.settings.specs.Given.{the_settings}
 
 -- (refused 19 .. has an r in its place 1 and its number from place 9 on: whether a text has that r, and there the bytes a and b. Of a number of one digit the
 -- second is the space behind it.
@@ -45,16 +46,16 @@ module _ (a b : ℕ) where
   -- Where no refusal of an add shows them, nothing that is printed for settings and a file does.
   module _ (of-an-add : (kind : Kind) → ShownByNone a b (call_numbers 12 kind)) (letters : List ℕ) (k m : ℕ) (file : File) where
     answered : (g : Option Ground) → RefusedOnlyBy (call_numbers 12 file.kind) g
-        → shows a b (answer_text letters k m file (outcome g (file_numbers (rank_in letters) k file))) ≡ false
+        → shows a b (answer_text (the_settings letters k m) file (outcome g (file_numbers (rank_in letters) k file))) ≡ false
     unfolding shows listing_of survey_line
     answered None h = refl
     answered (Some g) h = by_none (call_numbers 12 file.kind) (of-an-add file.kind) g (h g refl)
 
-    of_a_survey : shows a b (survey_text letters k m file) ≡ false
+    of_a_survey : shows a b (survey_text (the_settings letters k m) file) ≡ false
     unfolding survey_text
     of_a_survey =
-        let full = table_full letters k m cleared_table file in
-        answered (call_ground letters k m (length cleared_table) file (ground 12 full)) (call_numbers_lem letters k m (length cleared_table) file 12 full)
+        let full = table_full (the_settings letters k m) cleared_table file in
+        answered (call_ground (the_settings letters k m) (length cleared_table) file (ground 12 full)) (call_numbers_lem letters k m (length cleared_table) file 12 full)
 
   -- If 14 does not show them either, they tell which answer the reader gave: one of the two whose refusal shows them.
   module _ (of-an-add : (kind : Kind) → ShownByNone a b (call_numbers 12 kind)) (of_length : shows a b (refused_line (14, 0)) ≡ false)

@@ -14,6 +14,7 @@ use Rattle.texts.specs.Decimals.{decimal}
 use Rattle.survey.specs.Claims.{InputParts}
 use Rattle.survey.specs.Reading.{read_input}
 use Rattle.listing.specs.Listing.{listing}
+use Rattle.settings.specs.Given.{Given, the_settings}
 
 -- (file (records 2) (letters 9) (foreign 1) (edge 2) (windows 6)) and LF
 unfoldable pub file_line : Numbers → List ℕ
@@ -34,14 +35,14 @@ unfoldable pub cleared_table : List ℕ
 cleared_table = replicate 16384 0
 
 -- It "prints the whole listing, then the file line", of the table that the add of the file leaves; or the refusal.
-abbrev pub answer_text : (letters : List ℕ) (k mirror : ℕ) (file : File) → Outcome Numbers → List ℕ
-answer_text letters k m file (given n) = listing letters k m (table_after letters k m cleared_table (add file)) ++ file_line n
-answer_text letters k m file (refused g) = refused_line g
+abbrev pub answer_text : (settings : Given) (file : File) → Outcome Numbers → List ℕ
+answer_text settings file (given n) = listing settings (table_after settings cleared_table (add file)) ++ file_line n
+answer_text settings file (refused g) = refused_line g
 
 -- What is printed for settings and a file: the add to a cleared table of 16,384 places answers it.
-unfoldable pub survey_text : (letters : List ℕ) (k mirror : ℕ) (file : File) → List ℕ
-survey_text letters k m file =
-    answer_text letters k m file (outcome (table_ground letters k m cleared_table (add file)) (file_numbers (rank_in letters) k file))
+unfoldable pub survey_text : (settings : Given) (file : File) → List ℕ
+survey_text settings file =
+    answer_text settings file (outcome (table_ground settings cleared_table (add file)) (file_numbers (rank_in settings.letters) settings.k file))
 
 -- "the program takes a file whose first byte is @ for FASTQ" (64 is @), and any other, an empty one too, for FASTA.
 unfoldable pub kind_by_first_byte : (bytes : List ℕ) → Kind
@@ -52,7 +53,7 @@ program_file bytes = file_of (kind_by_first_byte bytes) bytes
 
 -- "a survey line, then a sequence file": what is printed for what the input is read as; 13 and 19 (document 02, K5: "it precedes 1") are the reader's.
 unfoldable pub line_text : Outcome InputParts → List ℕ
-line_text (given p) = survey_text p.letters p.k p.mirror (program_file p.file)
+line_text (given p) = survey_text (the_settings p.letters p.k p.mirror) (program_file p.file)
 line_text (refused g) = refused_line g
 
 -- 14, "standard input above 65,536 bytes", comes before 13 and 19.

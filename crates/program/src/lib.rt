@@ -3,14 +3,16 @@
 #![tactic(auto)]
 
 ghost use Rattle.std.specs.Prelude.{◌≡◌, ◌≤◌, length};
+ghost use Rattle.settings.specs.Given.{as_given};
 ghost use Rattle.settings.specs.Grounds.{ground_of};
+ghost use Rattle.files.specs.File.{as_file};
 ghost use Rattle.texts.specs.Needs.{Writes};
-ghost use Rattle.program.specs.Program.{file_line, refused_line, cleared_table, survey_text, kind_by_first_byte, program_file, program_text, Prints};
+ghost use Rattle.program.specs.Program.{file_line, refused_line, cleared_table, survey_text, kind_by_first_byte, program_text, Prints};
 ghost use Rattle.program.specs.Needs.{WritesOrRefuses};
 
 use fasta::Numbers;
-use files::Kind;
-use settings::Refusal;
+use files::{Kind, SequenceFile};
+use settings::{Refusal, Settings};
 use texts::Writer;
 
 // The most bytes of an input.
@@ -58,28 +60,15 @@ fn kind_by_first_byte(file: &[u8]) -> Kind
     }
 }
 
-// The output for settings and a file of the kind that its first byte tells; nothing where it is refused.
-fn put_counted(
-    w: &mut Writer,
-    letters: &[u8],
-    k: usize,
-    mirror: u64,
-    file: &[u8],
-) -> Result<(), Refusal>
-    ensures { WritesOrRefuses (survey_text letters.now k mirror (program_file file.now)) w.old w.new result }
+// The output for settings and a file; nothing where it is refused.
+fn put_counted(w: &mut Writer, settings: &Settings, file: &SequenceFile) -> Result<(), Refusal>
+    ensures { WritesOrRefuses (survey_text (as_given settings.now) (as_file file.now)) w.old w.new result }
 {
-    let st = settings::check(letters, k, mirror)?;
+    let st = settings.check()?;
     let mut table = cleared_table();
-    let n = table::add(
-        letters,
-        k,
-        mirror,
-        &mut table,
-        kind_by_first_byte(file),
-        file,
-    )?;
+    let n = table::add(settings, &mut table, file)?;
     let classes = st.classes as usize;
-    listing::put_listing(w, letters, k, mirror, &table[..classes]);
+    listing::put_listing(w, settings, &table[..classes]);
     put_file_line(w, n);
     Ok(())
 }
@@ -92,8 +81,17 @@ fn put_answer(w: &mut Writer, input: &[u8]) -> Result<(), Refusal>
         return Err(Refusal::LongInput);
     }
     let survey = survey_reader::read_line(input)?;
-    let letters = &input[survey.from..survey.from + survey.len];
-    put_counted(w, letters, survey.k, survey.mirror, &input[survey.next..])
+    let settings = Settings {
+        letters: &input[survey.from..survey.from + survey.len],
+        k: survey.k,
+        mirror: survey.mirror,
+    };
+    let bytes = &input[survey.next..];
+    let file = SequenceFile {
+        kind: kind_by_first_byte(bytes),
+        bytes,
+    };
+    put_counted(w, &settings, &file)
 }
 
 // The output for an input, or the line of its refusal.

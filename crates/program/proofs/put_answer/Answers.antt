@@ -19,4 +19,4 @@ returns c =
     let survey = c.in_ok-survey.survey in
     let rest : length (drop survey.next input) ≤ length input - survey.next = omega (arith, length-drop survey.next input) in
     rw (line_text_lem input c.if-input-gt-MOST_INPUT.false survey c.in_ok-survey.ensures.answers)
-    (rw (take_all (length input - survey.next) (drop survey.next input) rest) at c.put_counted.ensures)
+    (rw (c.kind_by_first_byte.ensures, take_all (length input - survey.next) (drop survey.next input) rest) at c.put_counted.ensures)
