@@ -11,6 +11,7 @@ use Rattle.settings.specs.RankTables.{RanksOf, rank_by_table}
 use Rattle.settings.specs.declared.RankTable.{RankTable}
 use Rattle.settings.specs.Settings.{mirror_of, settings_of}
 use Rattle.settings.specs.declared.Checked.{Checked}
+use Rattle.settings.specs.Given.{Given}
 use Rattle.settings.proofs.SettingsGrounds.{good_settings, limits}
 use Rattle.encoding.specs.Words.{Mirror, mirror as mirror_word, plain}
 use Rattle.encoding.specs.Codes.{code}
@@ -38,7 +39,6 @@ use Rattle.loading.specs.Loading.{ranks_in, code_in, canonical_in, count_in, goo
 use Rattle.loading.proofs.Words.{word_is, canonical-test}
 use Rattle.loading.proofs.Shapes.{CountParts, count_parts}
 use Rattle.loader.specs.Needs.{ForTable, Bounded, ClassLine, StepIs, is_right}
-use Rattle.settings.specs.Given.{the_settings}
 
 -- ---- a text that is written to compare with
 
@@ -66,11 +66,11 @@ total_held sum small size P =
     let long : length (total_line sum) ≤ 29 = simp length-append (omega (arith, decimal-length 19 sum (omega arith))) in
     held P (omega arith) (omega arith)
 
-pub survey_held : {old new : List ℕ} {n : ℕ} (letters : List ℕ) (k m : ℕ) → ForTable (the_settings letters k m) → length old ≡ 128 → Puts old new 0 n (survey_line (the_settings letters k m))
-    → Held (survey_line (the_settings letters k m)) new n
-survey_held letters k m T size P =
-    let g = good_settings letters k m T.good in
-    let fit = survey_length letters k m g.few g.short_k T.few in
+pub survey_held : {old new : List ℕ} {n : ℕ} (settings : Given) → ForTable settings → length old ≡ 128 → Puts old new 0 n (survey_line settings)
+    → Held (survey_line settings) new n
+survey_held settings T size P =
+    let g = good_settings settings.letters settings.k settings.mirror T.good in
+    let fit = survey_length settings.letters settings.k settings.mirror g.few g.short_k T.few in
     held P (omega arith) (omega arith)
 
 -- ---- what the line of a class says
@@ -84,78 +84,78 @@ count_long letters k l e =
     let d = decimal (spelt 0 (digits_in k l)) in
     omega (arith, ap length C.is, length-append w (bytes " " ++ (d ++ bytes ")\n")), length-append d (bytes ")\n"), C.word_long)
 
-pub count_part : (k : ℕ) (l : List ℕ) → take (length l - 2 - (8 + k)) (drop (8 + k) l) ≡ digits_in k l
-count_part k l = let n : length l - 2 - (8 + k) ≡ length l - (8 + k + 2) = omega arith in ap (λ (x : ℕ). take x (drop (8 + k) l)) n
-
 word_part : (k : ℕ) (l : List ℕ) → take (7 + k - 7) (drop 7 l) ≡ word_in k l
 word_part k l = let n : 7 + k - 7 ≡ k = omega arith in ap (λ (x : ℕ). take x (drop 7 l)) n
 
 -- What is known of the ranks of its word, of k letters, as they were looked up, and of what is coded of them.
-pub record WordRead (letters : List ℕ) (k mirror : ℕ) (l : List ℕ) (s : ℕ) (m : Mirror) (own : List ℕ) : Type 0 where
+pub record WordRead (settings : Given) (l : List ℕ) (s : ℕ) (m : Mirror) (own : List ℕ) : Type 0 where
   pub fits : FitWord s own × (s ≤ 16)
-  pub code_is : {x : ℕ} → x ≡ code s m (length own) own → x ≡ code_in (the_settings letters k mirror) l
-  pub canonical_is : {b : Bool} → b ≡ leb (plain s own) (plain s (mirror_word s m own)) → b ≡ canonical_in (the_settings letters k mirror) l
+  pub code_is : {x : ℕ} → x ≡ code s m (length own) own → x ≡ code_in settings l
+  pub canonical_is : {b : Bool} → b ≡ leb (plain s own) (plain s (mirror_word s m own)) → b ≡ canonical_in settings l
 
-pub word_read : {letters : List ℕ} {mirror : ℕ} {st : Checked} {table : RankTable} {l own : List ℕ} → ForTable (the_settings letters st.k mirror)
-    → st ≡ settings_of (the_settings letters st.k mirror) → RanksOf letters table → Bytes l → 7 + st.k ≤ length l
-    → own ≡ ranks_by (rank_by_table table) (take (7 + st.k - 7) (drop 7 l)) → WordRead letters st.k mirror l st.s st.mirror own
-word_read {letters} {mirror} {st} {table} {l} {own} T checked R B h e =
-    let lim = limits letters st.k mirror T.good in
-    let word = take (7 + st.k - 7) (drop 7 l) in
-    let looked-up = ranks_by_table R word (take-bytes (7 + st.k - 7) (drop 7 l) (drop-bytes 7 l B)) in
-    let are : own ≡ ranks_in letters st.k l = e ∙ looked-up ∙ ap (ranks_of letters) (word_part st.k l) in
-    let long : length (word_in st.k l) ≡ st.k = length-take-le st.k (drop 7 l) (omega (arith, length-drop 7 l)) in
-    let size : length own ≡ st.k = ap length are ∙ length-ranks_of letters (word_in st.k l) ∙ long in
-    let within : Limits (length letters) (length (word_in st.k l)) = rw long lim in
+pub word_read : {settings : Given} {st : Checked} {table : RankTable} {l own : List ℕ} → ForTable settings → st ≡ settings_of settings
+    → RanksOf settings.letters table → Bytes l → 7 + settings.k ≤ length l
+    → own ≡ ranks_by (rank_by_table table) (take (7 + settings.k - 7) (drop 7 l)) → WordRead settings l st.s st.mirror own
+word_read {settings} {st} {table} {l} {own} T checked R B h e =
+    let letters = settings.letters in
+    let k = settings.k in
+    let lim = limits letters k settings.mirror T.good in
+    let word = take (7 + k - 7) (drop 7 l) in
+    let looked-up = ranks_by_table R word (take-bytes (7 + k - 7) (drop 7 l) (drop-bytes 7 l B)) in
+    let are : own ≡ ranks_in letters k l = e ∙ looked-up ∙ ap (ranks_of letters) (word_part k l) in
+    let long : length (word_in k l) ≡ k = length-take-le k (drop 7 l) (omega (arith, length-drop 7 l)) in
+    let size : length own ≡ k = ap length are ∙ length-ranks_of letters (word_in k l) ∙ long in
+    let within : Limits (length letters) (length (word_in k l)) = rw long lim in
     let s-is : st.s ≡ length letters = ap (λ (x : Checked). x.s) checked in
-    let m-is : st.mirror ≡ mirror_of mirror = ap (λ (x : Checked). x.mirror) checked in
+    let m-is : st.mirror ≡ mirror_of settings.mirror = ap (λ (x : Checked). x.mirror) checked in
     record {
-      fits = (rw s-is (ranks_fit letters (word_in st.k l) within are), rw s-is lim.few);
+      fits = (rw s-is (ranks_fit letters (word_in k l) within are), rw s-is lim.few);
       code_is = λ x. x ∙ rw (s-is, m-is, size, are);
-      canonical_is = λ x. x ∙ rw (s-is, m-is, are) (sym (canonical-test (length letters) (mirror_of mirror) (ranks_in letters st.k l)));
+      canonical_is = λ x. x ∙ rw (s-is, m-is, are) (sym (canonical-test (length letters) (mirror_of settings.mirror) (ranks_in letters k l)));
     }
 
 -- ---- each ground at its test
 
-module _ (letters : List ℕ) (k m low sum at : ℕ) (l : List ℕ) where
-  pub total_good : is_total_line l ≡ true → same_text l (total_line sum) ≡ true → StepIs (the_settings letters k m) (CountOrTotal low sum) at l (Ok Nothing)
+module _ (settings : Given) (low sum at : ℕ) (l : List ℕ) where
+  pub total_good : is_total_line l ≡ true → same_text l (total_line sum) ≡ true → StepIs settings (CountOrTotal low sum) at l (Ok Nothing)
   unfolding line_fault next_after unless_at
   total_good t e = (rw (t, e), rw t, tt)
 
-  pub total_bad : is_total_line l ≡ true → same_text l (total_line sum) ≡ false → StepIs (the_settings letters k m) (CountOrTotal low sum) at l (Err (BadCount at))
+  pub total_bad : is_total_line l ≡ true → same_text l (total_line sum) ≡ false → StepIs settings (CountOrTotal low sum) at l (Err (BadCount at))
   unfolding line_fault unless_at
   total_bad t e = rw (t, e)
 
-  pub no_shape : is_total_line l ≡ false → is_count_line letters k l ≡ false → StepIs (the_settings letters k m) (CountOrTotal low sum) at l (Err (BadLine at))
+  pub no_shape : is_total_line l ≡ false → is_count_line settings.letters settings.k l ≡ false → StepIs settings (CountOrTotal low sum) at l (Err (BadLine at))
   unfolding line_fault unless_at
   no_shape t e = rw (t, e)
 
-  module _ (T : ForTable (the_settings letters k m)) (L : ClassLine letters k l) where
-    parts : CountParts letters k l
-    parts = count_parts letters k l L.shaped
+  module _ (T : ForTable settings) (L : ClassLine settings.letters settings.k l) where
+    parts : CountParts settings.letters settings.k l
+    parts = count_parts settings.letters settings.k l L.shaped
 
-    bad_count : good_count (the_settings letters k m) low l ≡ false → StepIs (the_settings letters k m) (CountOrTotal low sum) at l (Err (BadCount at))
+    bad_count : good_count settings low l ≡ false → StepIs settings (CountOrTotal low sum) at l (Err (BadCount at))
     unfolding line_fault unless_at
     bad_count e = rw (L.no_total, L.shaped, e)
 
     -- The code is below the number of classes.
-    pub code_below : code_in (the_settings letters k m) l < class_count (the_settings letters k m)
-    code_below = place_below letters k m T.good (ranks_in letters k l) (word_is letters k m T.good (word_in k l) parts.word_long)
+    pub code_below : code_in settings l < class_count settings
+    code_below = place_below settings.letters settings.k settings.mirror T.good (ranks_in settings.letters settings.k l)
+        (word_is settings.letters settings.k settings.mirror T.good (word_in settings.k l) parts.word_long)
 
     -- What was read of it, right or wrong.
-    module _ (q n : ℕ) (own : Bool) (own-is : own ≡ canonical_in (the_settings letters k m) l) (q_is : q ≡ code_in (the_settings letters k m) l) (n-is : n ≡ min (count_in k l) 4294967296) where
-      right_is : is_right own q n low ≡ good_count (the_settings letters k m) low l
+    module _ (q n : ℕ) (own : Bool) (own-is : own ≡ canonical_in settings l) (q_is : q ≡ code_in settings l) (n-is : n ≡ min (count_in settings.k l) 4294967296) where
+      right_is : is_right own q n low ≡ good_count settings low l
       unfolding good_count
       right_is =
-          let most : leb n 4294967295 ≡ leb (count_in k l) 4294967295 = grind (arith, nat_tests) in
-          let some : leb 1 n ≡ leb 1 (count_in k l) = grind (arith, nat_tests) in
+          let most : leb n 4294967295 ≡ leb (count_in settings.k l) 4294967295 = grind (arith, nat_tests) in
+          let some : leb 1 n ≡ leb 1 (count_in settings.k l) = grind (arith, nat_tests) in
           rw (most, some, q_is, own-is)
 
-      pub class_bad : is_right own q n low ≡ false → StepIs (the_settings letters k m) (CountOrTotal low sum) at l (Err (BadCount at))
+      pub class_bad : is_right own q n low ≡ false → StepIs settings (CountOrTotal low sum) at l (Err (BadCount at))
       class_bad e = bad_count (sym right_is ∙ e)
 
       pub class_good : is_right own q n low ≡ true → Bounded (CountOrTotal low sum)
-          → StepIs (the_settings letters k m) (CountOrTotal low sum) at l (Ok (CountOrTotal (q + 1) (sum + n)))
+          → StepIs settings (CountOrTotal low sum) at l (Ok (CountOrTotal (q + 1) (sum + n)))
       unfolding line_fault next_after unless_at
       class_good e fits =
           let a = (and-eq-true_iff own (leb low q && (leb 1 n && leb n 4294967295))).0 e in
@@ -163,26 +163,26 @@ module _ (letters : List ℕ) (k m low sum at : ℕ) (l : List ℕ) where
           let c = (and-eq-true_iff (leb 1 n) (leb n 4294967295)).0 b.1 in
           let few = leb-true n 4294967295 c.1 in
           let rises = leb-true low q b.0 in
-          let count : n ≡ count_in k l = omega arith in
-          let next : suc (code_in (the_settings letters k m) l) ≡ q + 1 = omega arith in (
+          let count : n ≡ count_in settings.k l = omega arith in
+          let next : suc (code_in settings l) ≡ q + 1 = omega arith in (
             rw (L.no_total, L.shaped, sym right_is ∙ e),
             rw (L.no_total, next, ← count),
             (omega (arith, code_below, T.few), omega arith),
           )
 
-module _ (letters : List ℕ) (k m at : ℕ) (l : List ℕ) where
-  pub survey_no_shape : is_survey_line l ≡ false → StepIs (the_settings letters k m) Survey at l (Err (BadLine at))
+module _ (settings : Given) (at : ℕ) (l : List ℕ) where
+  pub survey_no_shape : is_survey_line l ≡ false → StepIs settings Survey at l (Err (BadLine at))
   unfolding line_fault unless_at
   survey_no_shape e = rw e
 
-  pub survey_other : is_survey_line l ≡ true → same_text l (survey_line (the_settings letters k m)) ≡ false → StepIs (the_settings letters k m) Survey at l (Err (OtherSettings at))
+  pub survey_other : is_survey_line l ≡ true → same_text l (survey_line settings) ≡ false → StepIs settings Survey at l (Err (OtherSettings at))
   unfolding line_fault unless_at
   survey_other e f = rw (e, f)
 
-  pub survey_good : is_survey_line l ≡ true → same_text l (survey_line (the_settings letters k m)) ≡ true → StepIs (the_settings letters k m) Survey at l (Ok (CountOrTotal 0 0))
+  pub survey_good : is_survey_line l ≡ true → same_text l (survey_line settings) ≡ true → StepIs settings Survey at l (Ok (CountOrTotal 0 0))
   unfolding line_fault next_after unless_at
   survey_good e f = (rw (e, f), refl, (omega arith, omega arith))
 
-  pub none_belongs : StepIs (the_settings letters k m) Nothing at l (Err (BadLine at))
+  pub none_belongs : StepIs settings Nothing at l (Err (BadLine at))
   unfolding line_fault
   none_belongs = refl

@@ -3,6 +3,7 @@ use Rattle.std.specs.Prelude.{◌≡◌, Bool, true, false, ◌&&◌, List, [], 
 use Rattle.settings.specs.declared.Refusal.{Refusal}
 use Rattle.settings.specs.Grounds.{ground_of, Outcome, Overwrites}
 use Rattle.settings.specs.Settings.{settings_ground}
+use Rattle.settings.specs.Given.{Given}
 use Rattle.tally_book.specs.Table.{class_count}
 use Rattle.loading.specs.Shapes.{is_count_line, is_total_line}
 use Rattle.loading.specs.declared.Next.{Next}
@@ -10,7 +11,6 @@ use Rattle.loading.specs.declared.Next.TheVariants.{Survey, CountOrTotal, Nothin
 use Rattle.loading.specs.Loading.{code_in, count_in, next_after, line_fault, text_fault, loaded_counts}
 use denote.Ref.{Bor}
 use Rattle.lines.specs.Lines.{lines}
-use Rattle.settings.specs.Given.{Given, the_settings}
 
 -- Good settings with few enough classes for a table.
 pub record ForTable (settings : Given) : Type 0 where
@@ -39,10 +39,10 @@ pub record FirstLine (text line after : List ℕ) : Type 0 where
   pub parts : length line + length after ≡ length text
   pub some : 1 ≤ length line
 
--- What is found of a text: its first line, or that it has none.
-abbrev pub NextLine : (text : List ℕ) → Option (Bor (List ℕ) × Bor (List ℕ)) → Type 0
-NextLine text None = text ≡ []
-NextLine text (Some (line, after)) = FirstLine text line.now after.now
+-- What is found of a text: its first line, and what is left behind it; no line where no text is left.
+abbrev pub NextLine : (text : List ℕ) → Option (Bor (List ℕ)) → (after : List ℕ) → Type 0
+NextLine text None after = (text ≡ []) × (after ≡ [])
+NextLine text (Some line) after = FirstLine text line.now after
 
 -- Whether a word of a class's line, its code and its count are right.
 abbrev pub is_right : (canonical : Bool) (code n low : ℕ) → Bool
@@ -55,9 +55,9 @@ pub record ClassRead (settings : Given) (l : List ℕ) : Type 0 where
   pub few : count_in settings.k l ≤ 4294967295
 
 -- A text without a ground, and counts of all classes.
-pub record SetsCounts (text letters : List ℕ) (k mirror : ℕ) (counts : List ℕ) : Type 0 where
-  pub no_fault : text_fault (the_settings letters k mirror) text ≡ None
-  pub one_a_class : length counts ≡ class_count (the_settings letters k mirror)
+pub record SetsCounts (text : List ℕ) (settings : Given) (counts : List ℕ) : Type 0 where
+  pub no_fault : text_fault settings text ≡ None
+  pub one_a_class : length counts ≡ class_count settings
 
 -- A load into counts, one a class, to which only the text's grounds may still apply.
 abbrev pub LoadsCounts : (settings : Given) (text counts : List ℕ) (answer : Outcome ℕ) (counts' : List ℕ) → Type 0

@@ -1,5 +1,6 @@
 // One line of a listing: what it says, and whether it is what belongs at its place.
 ghost use Rattle.std.specs.Prelude.{◌≡◌, ◌+◌, ◌≤◌, min, length};
+ghost use Rattle.settings.specs.Given.{as_given};
 ghost use Rattle.settings.specs.RankTables.{RanksOf, rank_by_table};
 ghost use Rattle.settings.specs.Settings.{settings_of};
 ghost use Rattle.words.specs.Needs.{ranks_by};
@@ -13,20 +14,19 @@ ghost use Rattle.loader.specs.Needs.{ForTable, Bounded, ClassLine, StepIs, is_ri
 
 use codes::to_code::{WordCode, ranks_code};
 use loading::Next;
-use settings::{HIGHEST_COUNT, RankTable, Refusal, Settings};
+use settings::{Checked, HIGHEST_COUNT, RankTable, Refusal, Settings};
 use texts::Writer;
 use words::letters::fill_ranks_by;
 
 // What a listing's lines are judged by, made once a call: settings that passed the check, with few enough classes for a table, and the ranks of all bytes.
 #[derive(Drop)]
 pub struct Judge<'a> {
-    pub letters: &'a [u8],
-    pub mirror: u64,
-    pub settings: Settings,
+    pub settings: Settings<'a>,
+    pub checked: Checked,
     pub ranks: RankTable,
-    ghost table: { ForTable letters.now settings.k mirror },
-    ghost checked: { settings ≡ settings_of letters.now settings.k mirror },
-    ghost ranks_are: { RanksOf letters.now ranks },
+    ghost table: { ForTable (as_given settings) },
+    ghost derived: { checked ≡ settings_of (as_given settings) },
+    ghost ranks_are: { RanksOf settings.letters.now ranks },
 }
 
 // The ranks of a word in lent places, looked up in a table.
@@ -72,18 +72,15 @@ fn is_right(word: WordCode, n: u64, low: u64) -> bool
 }
 
 impl<'a> Judge<'a> {
-    pub fn new(letters: &'a [u8], mirror: u64, settings: Settings) -> Judge<'a>
-        requires table { ForTable letters.now settings.k mirror }
-        requires checked { settings ≡ settings_of letters.now settings.k mirror }
-        ensures letters { result.letters.now ≡ letters.now }
-        ensures mirror { result.mirror ≡ mirror }
-        ensures settings { result.settings ≡ settings }
+    pub fn new(settings: &Settings<'a>, checked: Checked) -> Judge<'a>
+        requires table { ForTable (as_given settings.now) }
+        requires derived { checked ≡ settings_of (as_given settings.now) }
+        ensures { as_given result.settings ≡ as_given settings.now }
     {
-        let ranks = RankTable::new(letters);
+        let ranks = RankTable::new(settings.letters);
         Judge {
-            letters,
-            mirror,
-            settings,
+            settings: *settings,
+            checked,
             ranks,
         }
     }
@@ -91,13 +88,13 @@ impl<'a> Judge<'a> {
     // The code of the word in a class's line, and whether the word is canonical.
     pub fn word_in(&self, line: &[u8]) -> WordCode
         requires { 7 + self.now.settings.k ≤ length line.now }
-        ensures { (result.code.0 ≡ code_in self.now.letters.now self.now.settings.k self.now.mirror line.now)
-            × (result.canonical ≡ canonical_in self.now.letters.now self.now.settings.k self.now.mirror line.now) }
+        ensures { (result.code.0 ≡ code_in (as_given self.now.settings) line.now)
+            × (result.canonical ≡ canonical_in (as_given self.now.settings) line.now) }
     {
         let mut places = [0u64; 64];
         let word = &line[7..7 + self.settings.k];
         let ranks = word_ranks(&self.ranks, word, &mut places);
-        ranks_code(ranks, self.settings.s, self.settings.mirror)
+        ranks_code(ranks, self.checked.s, self.checked.mirror)
     }
 
     // The count in a class's line, as far as one above the highest.
@@ -110,8 +107,8 @@ impl<'a> Judge<'a> {
 
     // The line of a class, by its shape, where one whose code is at least `low` belongs.
     fn class_line(&self, line: &[u8], at: usize, low: u64, sum: u64) -> Result<Next, Refusal>
-        requires { Bounded (CountOrTotal low sum) × ClassLine self.now.letters.now self.now.settings.k line.now }
-        ensures { StepIs self.now.letters.now self.now.settings.k self.now.mirror (CountOrTotal low sum) at line.now result }
+        requires { Bounded (CountOrTotal low sum) × ClassLine self.now.settings.letters.now self.now.settings.k line.now }
+        ensures { StepIs (as_given self.now.settings) (CountOrTotal low sum) at line.now result }
     {
         let word = self.word_in(line);
         let n = self.count_in(line);
@@ -124,7 +121,7 @@ impl<'a> Judge<'a> {
     // A line where the line of a class or the total belongs.
     fn count_line(&self, line: &[u8], at: usize, low: u64, sum: u64) -> Result<Next, Refusal>
         requires { Bounded (CountOrTotal low sum) }
-        ensures { StepIs self.now.letters.now self.now.settings.k self.now.mirror (CountOrTotal low sum) at line.now result }
+        ensures { StepIs (as_given self.now.settings) (CountOrTotal low sum) at line.now result }
     {
         if shapes::is_total_line(line) {
             if !is_total_of(line, sum) {
@@ -132,7 +129,7 @@ impl<'a> Judge<'a> {
             }
             return Ok(Next::Nothing);
         }
-        if !shapes::is_count_line(self.letters, self.settings.k, line) {
+        if !shapes::is_count_line(self.settings.letters, self.settings.k, line) {
             return Err(Refusal::BadLine(at));
         }
         self.class_line(line, at, low, sum)
@@ -140,17 +137,16 @@ impl<'a> Judge<'a> {
 
     // Writes the survey line of the settings to the start of out, and answers its length.
     fn write_survey(&self, out: &mut [u8]) -> usize
-        ensures { Puts out.old out.new 0 result (survey_line self.now.letters.now self.now.settings.k self.now.mirror) }
+        ensures { Puts out.old out.new 0 result (survey_line (as_given self.now.settings)) }
     {
-        let Settings { k, classes, .. } = self.settings;
         let mut own = Writer::new(out);
-        survey_writer::put_survey(&mut own, self.letters, k, self.mirror, classes as usize);
+        survey_writer::put_survey(&mut own, &self.settings, self.checked.classes as usize);
         own.place()
     }
 
     // Whether a line is the survey line of the settings.
     fn is_own_survey(&self, line: &[u8]) -> bool
-        ensures { result ≡ same_text line.now (survey_line self.now.letters.now self.now.settings.k self.now.mirror) }
+        ensures { result ≡ same_text line.now (survey_line (as_given self.now.settings)) }
     {
         let mut buffer = [0u8; 128];
         let n = self.write_survey(&mut buffer);
@@ -159,7 +155,7 @@ impl<'a> Judge<'a> {
 
     // A line where the survey line belongs.
     fn survey_line(&self, line: &[u8], at: usize) -> Result<Next, Refusal>
-        ensures { StepIs self.now.letters.now self.now.settings.k self.now.mirror Survey at line.now result }
+        ensures { StepIs (as_given self.now.settings) Survey at line.now result }
     {
         if !shapes::is_survey_line(line) {
             return Err(Refusal::BadLine(at));
@@ -173,7 +169,7 @@ impl<'a> Judge<'a> {
     // The line at an offset, judged by what belongs there: what belongs behind it, or its fault.
     pub fn line(&self, line: &[u8], at: usize, next: Next) -> Result<Next, Refusal>
         requires { Bounded next }
-        ensures { StepIs self.now.letters.now self.now.settings.k self.now.mirror next at line.now result }
+        ensures { StepIs (as_given self.now.settings) next at line.now result }
     {
         match next {
             Next::Survey => self.survey_line(line, at),

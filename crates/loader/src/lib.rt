@@ -6,7 +6,9 @@
 mod judge; // one line of a listing
 
 ghost use Rattle.std.specs.Prelude.{◌≡◌, length, drop, set};
+ghost use Rattle.std.specs.Iterator.{at_most};
 ghost use Rattle.lines.specs.Lines.{lines};
+ghost use Rattle.settings.specs.Given.{as_given};
 ghost use Rattle.settings.specs.Grounds.{outcome_of, fault_of};
 ghost use Rattle.tally_book.specs.Table.{class_count};
 ghost use Rattle.loading.specs.Loading.{code_in, count_in, missing, text_fault, loaded_from, Loads};
@@ -14,7 +16,7 @@ ghost use Rattle.loader.specs.Needs.{ClassRead, SetsCounts, LoadsCounts, NextLin
 
 use judge::Judge;
 use loading::Next;
-use settings::{MOST_CLASSES, Refusal};
+use settings::{MOST_CLASSES, Refusal, Settings};
 
 // The text's end, where a line may be missing.
 fn at_end(next: Next, at: usize) -> Result<(), Refusal>
@@ -26,37 +28,48 @@ fn at_end(next: Next, at: usize) -> Result<(), Refusal>
     }
 }
 
-// The first line of a text and what stands behind it; no line where no text is left.
-fn next_line(text: &[u8]) -> Option<(&[u8], &[u8])>
-    ensures { NextLine text.now result }
-{
-    if text.is_empty() {
-        return None;
+// The lines of a text, each with its LF if it has one: what is left of the text.
+#[derive(Drop)]
+struct Lines<'a> {
+    rest: &'a [u8],
+}
+
+impl<'a> Iterator for Lines<'a> {
+    type Item = &'a [u8];
+
+    ghost next_gives = { λ l line moved. NextLine l.rest.now line moved.rest.now };
+
+    ghost remaining = { λ l. at_most (length l.rest.now) };
+
+    fn next(&mut self) -> Option<&'a [u8]> {
+        if self.rest.is_empty() {
+            return None;
+        }
+        let (line, rest) = self.rest.split_at(lines::after_line(self.rest, 0));
+        self.rest = rest;
+        Some(line)
     }
-    Some(text.split_at(lines::after_line(text, 0)))
 }
 
 // The first ground of a text, line by line.
 fn text_fault(judge: &Judge, text: &[u8]) -> Result<(), Refusal>
-    ensures { fault_of result ≡ text_fault judge.now.letters.now judge.now.settings.k judge.now.mirror text.now }
+    ensures { fault_of result ≡ text_fault (as_given judge.now.settings) text.now }
 {
     let mut next = Next::Survey;
     let mut at: usize = 0;
-    let mut rest = text;
-    while let Some((line, after)) = next_line(rest) {
+    for line in (Lines { rest: text }) {
         next = judge.line(line, at, next)?;
         at += line.len();
-        rest = after;
     }
     at_end(next, at)
 }
 
 // Sets the count of the class that a line lists; the line is known to be a class's.
 fn set_count(judge: &Judge, line: &[u8], counts: &mut [u32])
-    requires { ClassRead judge.now.letters.now judge.now.settings.k judge.now.mirror line.now
-        × (length counts.old ≡ class_count judge.now.letters.now judge.now.settings.k judge.now.mirror) }
+    requires { ClassRead (as_given judge.now.settings) line.now
+        × (length counts.old ≡ class_count (as_given judge.now.settings)) }
     ensures { counts.new
-        ≡ set counts.old (code_in judge.now.letters.now judge.now.settings.k judge.now.mirror line.now)
+        ≡ set counts.old (code_in (as_given judge.now.settings) line.now)
         (count_in judge.now.settings.k line.now) }
 {
     let q = judge.word_in(line).code;
@@ -65,26 +78,24 @@ fn set_count(judge: &Judge, line: &[u8], counts: &mut [u32])
 
 // Sets the count of each class that a listing lists; the text is known to be one.
 fn set_counts(judge: &Judge, text: &[u8], counts: &mut [u32])
-    requires { SetsCounts text.now judge.now.letters.now judge.now.settings.k judge.now.mirror counts.old }
+    requires { SetsCounts text.now (as_given judge.now.settings) counts.old }
     ensures { counts.new
-        ≡ loaded_from judge.now.letters.now judge.now.settings.k judge.now.mirror counts.old (drop 1 (lines text.now)) }
+        ≡ loaded_from (as_given judge.now.settings) counts.old (drop 1 (lines text.now)) }
 {
-    let Some((_, mut rest)) = next_line(text) else {
-        return;
-    };
-    while let Some((line, after)) = next_line(rest) {
+    let mut listing = Lines { rest: text };
+    let _survey = listing.next();
+    for line in listing {
         if shapes::is_total_line(line) {
             return;
         }
         set_count(judge, line, counts);
-        rest = after;
     }
 }
 
 // Loads a listing into counts, one a class, under settings that passed the check.
 fn load_counts(judge: &Judge, counts: &mut [u32], text: &[u8]) -> Result<usize, Refusal>
-    requires { length counts.old ≡ class_count judge.now.letters.now judge.now.settings.k judge.now.mirror }
-    ensures { LoadsCounts judge.now.letters.now judge.now.settings.k judge.now.mirror
+    requires { length counts.old ≡ class_count (as_given judge.now.settings) }
+    ensures { LoadsCounts (as_given judge.now.settings)
         text.now counts.old (outcome_of result) counts.new }
 {
     text_fault(judge, text)?;
@@ -95,21 +106,17 @@ fn load_counts(judge: &Judge, counts: &mut [u32], text: &[u8]) -> Result<usize, 
 
 // Loads a listing into a table: its counts replace the old ones, 0 for a class not listed. Refused by the first of the grounds 1, 2, 4, 6 and 7, and then by
 // that of the text's first line at fault, 20, 21 or 22.
-pub fn load(
-    settings: &Settings,
-    table: &mut [u32],
-    text: &[u8],
-) -> Result<usize, Refusal>
+pub fn load(settings: &Settings, table: &mut [u32], text: &[u8]) -> Result<usize, Refusal>
     ensures { Loads (as_given settings.now) text.now table.old (outcome_of result) table.new }
 {
-    let settings = settings.check()?;
-    if settings.classes > MOST_CLASSES {
+    let checked = settings.check()?;
+    if checked.classes > MOST_CLASSES {
         return Err(Refusal::TooLarge);
     }
-    let classes = settings.classes as usize;
+    let classes = checked.classes as usize;
     if table.len() < classes {
         return Err(Refusal::ShortBuffer(classes));
     }
-    let judge = Judge::new(settings.letters, settings.mirror, settings);
+    let judge = Judge::new(settings, checked);
     load_counts(&judge, &mut table[..classes], text)
 }

@@ -94,18 +94,27 @@ module _ (letters : List ℕ) (k : ℕ) (l : List ℕ) where
     count_short h =
         eq-false_of_not-eq-true (λ f. let H = count_has f in omega (arith, ap length H.1, length-append (word_in k l) (32 ∷ decimal (spelt 0 (digits_in k l)))))
 
-    -- What stands there, cut behind k bytes.
+    -- What stands there, cut behind k bytes, and what std's `strip_prefix` finds of a space behind them.
     module _ (w r : List ℕ) (cut : IsSplitAt x k w r) where
-      pub count_no_space : ((d : List ℕ) → r ≢ bytes " " ++ d) → is_count_line letters k l ≡ false
+      pub count_no_space : pointwise eqb (take 1 r) (bytes " ") ≡ false → is_count_line letters k l ≡ false
       count_no_space h =
           eq-false_of_not-eq-true (λ f.
           let H = count_has f in
           let d = decimal (spelt 0 (digits_in k l)) in
-          h d (cut.2 ∙ ap (drop k) H.1 ∙ drop_at (word_in k l) (32 ∷ d) k H.0))
+          let other = strip_prefix_is Decides-eqb r (bytes " ") None h in
+          other d (cut.2 ∙ ap (drop k) H.1 ∙ drop_at (word_in k l) (32 ∷ d) k H.0))
 
-      pub count_rest : (d : List ℕ) → r ≡ bytes " " ++ d → is_count_line letters k l ≡ (of_letters letters w && is_number d)
-      unfolding is_count_line
-      count_rest d f =
-          let parts : x ≡ w ++ (32 ∷ d) = sym (rw (cut.1, sym f ∙ cut.2) (take-append-drop k x)) in
-          let is : l ≡ count_shape w d = e ∙ ap (λ (u : List ℕ). bytes "(count " ++ (u ++ bytes ")\n")) parts ∙ simp append_assoc in
-          rw (is, word_in_lem k w d cut.3, digits_in_lem k w d cut.3, same_word_lem (count_shape w d), eq-eqb (length w) k cut.3)
+      module _ (d : Bor (List ℕ)) (space : (pointwise eqb (take 1 r) (bytes " ") ≡ true) × (d.now ≡ drop 1 r) × (length d.now + 1 ≡ length r)) where
+        count_rest : is_count_line letters k l ≡ (of_letters letters w && is_number d.now)
+        unfolding is_count_line
+        count_rest =
+            let rest : r ≡ 32 ∷ d.now = strip_prefix_is Decides-eqb r (bytes " ") (Some d) space in
+            let parts : x ≡ w ++ (32 ∷ d.now) = sym (rw (cut.1, sym rest ∙ cut.2) (take-append-drop k x)) in
+            let is : l ≡ count_shape w d.now = e ∙ ap (λ (u : List ℕ). bytes "(count " ++ (u ++ bytes ")\n")) parts ∙ simp append_assoc in
+            rw (is, word_in_lem k w d.now cut.3, digits_in_lem k w d.now cut.3, same_word_lem (count_shape w d.now), eq-eqb (length w) k cut.3)
+
+        pub count_number : of_letters letters w ≡ true → is_number d.now ≡ is_count_line letters k l
+        count_number t = sym (count_rest ∙ rw t)
+
+        pub count_foreign : of_letters letters w ≡ false → false ≡ is_count_line letters k l
+        count_foreign t = sym (count_rest ∙ rw t)

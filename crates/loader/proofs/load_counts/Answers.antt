@@ -4,4 +4,4 @@ use Rattle.loader.proofs.LoadAnswers.{counts_set}
 use Rattle.loader.proofs.load_counts.Goals as goal
 
 pub returns : goal.returns
-returns c = counts_set _ _ _ _ _ c.requires (sym c.in_ok-text_fault.ensures) (c.fill.ensures.after (λ y h. h)) c.set_counts.ensures
+returns c = counts_set _ _ _ c.requires (sym c.in_ok-text_fault.ensures) (c.fill.ensures.after (λ y h. h)) c.set_counts.ensures

@@ -1,10 +1,7 @@
--- The loop of this function: what holds at each turn, and what falls.
-use Rattle.std.proofs.Common.{length}
+-- The loop of this function: what holds at each turn.
 use Rattle.loader.proofs.Setting.{Setting}
+use Rattle.settings.specs.Given.{as_given}
 use Rattle.loader.proofs.set_counts.Given as goal
 
 abbrev pub invariant-loop-line : goal.invariant-loop-line
-invariant-loop-line l = Setting l.text l.judge.letters.now l.judge.settings.k l.judge.mirror l.initial.counts l.counts l.rest
-
-abbrev pub decreases-loop-line : goal.decreases-loop-line
-decreases-loop-line l = length l.rest
+invariant-loop-line l = Setting l.text (as_given l.judge.settings) l.initial.counts l.counts l.line-iterator.rest.now

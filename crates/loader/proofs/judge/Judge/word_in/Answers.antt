@@ -8,15 +8,15 @@ use Rattle.loader.proofs.judge.Judge.word_in.Goals as goal
 pub word_ranks-ranks-requires : goal.word_ranks-ranks-requires
 word_ranks-ranks-requires c =
     let j = c.args.self.now in
-    omega (arith, length-take (7 + j.settings.k - 7) (drop 7 c.args.line.now), k_at_most (limits j.letters.now j.settings.k j.mirror j.table.good))
+    omega (arith, length-take (7 + j.settings.k - 7) (drop 7 c.args.line.now), k_at_most (limits j.settings.letters.now j.settings.k j.settings.mirror j.table.good))
 
 pub ranks_code-requires : goal.ranks_code-requires
 ranks_code-requires c =
     let j = c.args.self.now in
-    (word_read j.table j.checked j.ranks_are (record { below = λ i h. omega (arith, c.type_inv.line i) }) c.requires c.word_ranks-ranks.ensures).fits
+    (word_read j.table j.derived j.ranks_are (record { below = λ i h. omega (arith, c.type_inv.line i) }) c.requires c.word_ranks-ranks.ensures).fits
 
 pub returns : goal.returns
 returns c =
     let j = c.args.self.now in
-    let W = word_read j.table j.checked j.ranks_are (record { below = λ i h. omega (arith, c.type_inv.line i) }) c.requires c.word_ranks-ranks.ensures in
+    let W = word_read j.table j.derived j.ranks_are (record { below = λ i h. omega (arith, c.type_inv.line i) }) c.requires c.word_ranks-ranks.ensures in
     (W.code_is c.ranks_code.ensures.0, W.canonical_is c.ranks_code.ensures.1)
