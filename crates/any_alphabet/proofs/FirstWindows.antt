@@ -1,12 +1,6 @@
 -- The first window, letter by letter, as the kernel for every alphabet takes it in: i of the n letters from place j are in its plain rank u and in its
 -- mirror's v.
-use mathlib.Core.Path.{◌≡◌, refl, sym, ◌∙◌}
-use mathlib.Core.List.{List}
-use Prim.Native.Nat.{ℕ, suc, ◌+◌, ◌*◌, ◌^◌, ◌<◌, ◌≤◌}
-use native.Mathlib.Nat.{lt_of_lt_of_le}
-use native.Mathlib.Numerals.{add-one}
-use native.Mathlib.Omega.{arith}
-use lib.ListN.{length, get_or}
+use Rattle.std.proofs.Common.{◌≡◌, refl, sym, ◌∙◌, List, ℕ, suc, ◌+◌, ◌*◌, ◌^◌, ◌<◌, ◌≤◌, lt_of_lt_of_le, add-one, arith, length, get_or}
 use Rattle.encoding.specs.Words.{Mirror, Ranks, mirror_rank, mirror, plain}
 use Rattle.ranks.specs.Needs.{part}
 use Rattle.ranks.proofs.WordParts.{ranks_at}

@@ -1,4 +1,4 @@
--- Laws of the kernel for every alphabet: the code of one letter (OneLetter), the first window (FirstWindows), and the windows after it (AnyAlphabet).
+-- Laws of the kernel for every alphabet: the code of one letter (OneLetter), the first window (FirstWindows), and the windows after it (WindowLaws).
 pub mod OneLetter
 pub mod FirstWindows
-pub mod AnyAlphabet
+pub mod WindowLaws

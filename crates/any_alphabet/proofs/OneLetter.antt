@@ -1,8 +1,5 @@
 -- The code of a word of one letter, as `middle_code` works it out: by cases on the mirror and, under complement, on the half of the ranks.
-use mathlib.Core.Path.{◌≡◌, sym, ap, ◌∙◌}
-use mathlib.Core.List.{[], ◌∷◌}
-use Prim.Native.Nat.{ℕ, ◌-◌, ◌/◌, ◌<◌, ◌≤◌, min}
-use native.Mathlib.Omega.{arith}
+use Rattle.std.proofs.Common.{◌≡◌, sym, ap, ◌∙◌, [], ◌∷◌, ℕ, ◌-◌, ◌/◌, ◌<◌, ◌≤◌, min, arith}
 use Rattle.encoding.specs.Words.{Mirror, Reversal, Complement}
 use Rattle.encoding.specs.Codes.{code}
 use Rattle.encoding.proofs.CodesByEnds.{middle_code, code_one}

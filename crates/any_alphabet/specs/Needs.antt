@@ -1,10 +1,9 @@
--- What the kernel for every alphabet asks and keeps. No sentence of document 01 rests on it.
-use Rattle.std.specs.Prelude.{◌≡◌, List, ℕ, suc, ◌+◌, ◌-◌, ◌^◌, ◌≤◌, length, get_or}
+-- What the kernel for every alphabet asks. No sentence of document 01 rests on it.
+use Rattle.std.specs.Prelude.{◌≡◌, List, [], ◌∷◌, ℕ, ◌+◌, ◌-◌, ◌^◌, ◌≤◌, get_or}
+use Rattle.std.specs.Coded.{×_prop, Unit-prop, le_prop}
 use Rattle.settings.specs.Limits.{Limits}
-use Rattle.encoding.specs.Words.{Mirror, Ranks, mirror_rank, mirror, plain}
+use Rattle.encoding.specs.Words.{Mirror, Ranks, mirror_rank}
 use Rattle.encoding.specs.Needs.{palindromes}
-use Rattle.ranks.specs.Needs.{part}
-use Rattle.any_alphabet.specs.declared.Inner.{Inner}
 
 -- A table that has the powers of s up to s^k.
 pub record Powers (s k : ℕ) (table : List ℕ) : Type 0 where
@@ -14,21 +13,18 @@ pub record Powers (s k : ℕ) (table : List ℕ) : Type 0 where
 abbrev pub CountsPalindromes : ℕ → Mirror → ℕ → ℕ → Type 0
 CountsPalindromes s m k n = n ≡ palindromes s m k
 
+-- Ranks are below s in one way only, as is asked of what a type says of its values.
+pub Ranks-prop : (s : ℕ) (w : List ℕ) → IsProp (Ranks s w)
+Ranks-prop s [] = Unit-prop
+Ranks-prop s (x ∷ xs) = ×_prop le_prop (Ranks-prop s xs)
+
 -- Settings within the limits, their powers, and a list of ranks.
 pub record Input (s k : ℕ) (powers d : List ℕ) : Type 0 where
   pub limits : Limits s k
   pub table : Powers s k powers
   pub ranks : Ranks s d
 
--- A window of k letters at place j, with what is kept of it.
-pub record Window (s : ℕ) (m : Mirror) (k : ℕ) (powers d : List ℕ) (j : ℕ) (t : Inner) : Type 0 where
-  pub input : Input s k powers d
-  pub inside : j + k ≤ length d
-  pub count : t.palindromes ≡ palindromes s m k
-  pub ahead : t.forward ≡ plain s (part (suc j) (k - 2) d)
-  pub behind : t.back ≡ plain s (mirror s m (part (suc j) (k - 2) d))
-
--- Its outer letters, the last one as the mirror shows it.
+-- The outer letters of a window of k letters at place j, the last one as the mirror shows it.
 pub record OuterPair (s : ℕ) (m : Mirror) (k : ℕ) (d : List ℕ) (j l r : ℕ) : Type 0 where
   pub two : 2 ≤ k
   pub first : l ≡ get_or d j 0

@@ -5,22 +5,42 @@
 #![tactic(auto)]
 
 ghost use Rattle.std.specs.Prelude.{◌≡◌, ◌≢◌, [], ◌∷◌, ◌+◌, ◌-◌, ◌/◌, ◌^◌, ◌<◌, ◌≤◌, length, get_or};
+ghost use Rattle.settings.specs.Limits.{Limits};
 ghost use Rattle.encoding.specs.Words.{Ranks, mirror_rank};
 ghost use Rattle.encoding.specs.Codes.{code};
-ghost use Rattle.ranks.specs.Needs.{part};
 ghost use Rattle.windows.specs.Windows.{window_codes};
 ghost use Rattle.windows.specs.Needs.{Fills};
-ghost use Rattle.any_alphabet.specs.Needs.{Powers, CountsPalindromes, Input, Window, OuterPair};
+ghost use Rattle.any_alphabet.specs.Needs.{Powers, CountsPalindromes, OuterPair, Ranks-prop};
 
-use ranks::{higher, lower, mirror_rank, pair_rank, rank_at};
+use ranks::{mirror_rank, pair_rank, rank_at};
 use settings::Mirror;
 
-// Of a window: the number of palindromes of its length, and the plain ranks of the letters between its first and last and of their mirror.
+// A list of ranks, and what the kernel needs to know of good settings: the number of letters, k, the mirror, the number of palindromes, and the powers
+// of s up to s^k.
 #[derive(Clone, Copy)]
-pub struct Inner {
+pub struct AnyAlphabet<'a> {
+    pub s: u64,
+    pub k: usize,
+    pub mirror: Mirror,
     pub palindromes: u64,
-    pub forward: u64,
-    pub back: u64,
+    pub powers: &'a [u64; 64],
+    pub ranks: &'a [u8],
+    pub ghost limits: { Limits s k },
+    pub ghost some: { 1 ≤ k },
+    pub ghost count: { CountsPalindromes s mirror k palindromes },
+    pub ghost powers_are: { Powers s k powers.now },
+    pub ghost ranks_below: { Ranks s ranks.now } by { Ranks-prop s ranks.now },
+}
+
+// A window by its place and length, with the number of palindromes of its length and the plain ranks of the letters between its first and last and of
+// their mirror.
+#[derive(Clone, Copy)]
+struct Window {
+    at: usize,
+    length: usize,
+    palindromes: u64,
+    forward: u64,
+    back: u64,
 }
 
 // The first number where l is below r, else the second.
@@ -78,239 +98,173 @@ fn middle_code(s: u64, m: Mirror, x: u64) -> u64
     }
 }
 
-// A power of s, of those up to k.
-fn power_at(powers: &[u64; 64], s: u64, k: usize, i: usize) -> u64
-    requires powers { Powers s k powers.now }
-    requires i_le_k { i ≤ k }
-    requires k_bound { k < 64 }
-    ensures { result ≡ s ^ i }
-{
-    powers[i]
-}
-
-// The rank at place i, as the mirror shows it.
-fn mirror_rank_at(ranks: &[u8], i: usize, s: u64, m: Mirror) -> u64
-    requires i_in_bounds { i < length ranks.now }
-    requires ranks { Ranks s ranks.now }
-    ensures { result ≡ mirror_rank s m (get_or ranks.now i 0) }
-{
-    mirror_rank(s, m, rank_at(ranks, i))
-}
-
-// The code of the window at j, whose outer letters l and r (as the mirror shows it) differ.
-fn differing_code(
-    ranks: &[u8],
-    j: usize,
-    k: usize,
-    s: u64,
-    m: Mirror,
-    powers: &[u64; 64],
-    inner: Inner,
-    l: u64,
-    r: u64,
-) -> u64
-    requires window { Window s m k powers.now ranks.now j inner }
-    requires outer_pair { OuterPair s m k ranks.now j l r }
-    requires letters_differ { l ≢ r }
-    ensures { result ≡ code s m k (part j k ranks.now) }
-{
-    let between = by_order(l, r, inner.forward, inner.back);
-    let top = power_at(powers, s, k, k - 1);
-    let low = power_at(powers, s, k, k - 2);
-    let pair = pair_rank(s, lower(l, r), higher(l, r));
-    (top + inner.palindromes) / 2 + pair * low + between
-}
-
-// What is kept of the window within, two letters shorter.
-fn inner_window(
-    ranks: &[u8],
-    j: usize,
-    k: usize,
-    s: u64,
-    m: Mirror,
-    powers: &[u64; 64],
-    inner: Inner,
-) -> Inner
-    requires window { Window s m k powers.now ranks.now j inner }
-    requires le_k { 2 ≤ k }
-    ensures { Window s m (k - 2) powers.now ranks.now (j + 1) result }
-{
-    let palindromes = divided(inner.palindromes, s);
-    if k < 4 {
-        return Inner {
-            palindromes,
-            forward: 0,
-            back: 0,
-        };
-    }
-    let power = power_at(powers, s, k, k - 3);
-    let first = rank_at(ranks, j + 1) * power;
-    let last = mirror_rank_at(ranks, j + k - 2, s, m) * power;
-    Inner {
-        palindromes,
-        forward: divided(inner.forward - first, s),
-        back: divided(inner.back - last, s),
-    }
-}
-
-// The code of the window at j, by a scan of its pairs from the outside inwards.
-fn scanned_code(
-    ranks: &[u8],
-    j: usize,
-    k: usize,
-    s: u64,
-    m: Mirror,
-    powers: &[u64; 64],
-    outer: Inner,
-) -> u64
-    requires { Window s m k powers.now ranks.now j outer }
-    ensures { result ≡ code s m k (part j k ranks.now) }
-{
-    let mut inner = outer;
-    let mut a = j;
-    let mut n = k;
-    let mut closing: u64 = 0;
-    let mut scale: u64 = 1;
-    while 2 <= n {
-        let l = rank_at(ranks, a);
-        let r = mirror_rank_at(ranks, a + n - 1, s, m);
-        if l != r {
-            return closing + scale * differing_code(ranks, a, n, s, m, powers, inner, l, r);
-        }
-        closing = closing + scale * l;
-        inner = inner_window(ranks, a, n, s, m, powers, inner);
-        scale = scale * s;
-        a += 1;
-        n -= 2;
-    }
-    if n == 1 {
-        closing + scale * middle_code(s, m, rank_at(ranks, a))
-    } else {
-        closing
-    }
-}
-
-// The code of the window at j: at once where its outer letters differ.
-fn window_code(
-    ranks: &[u8],
-    j: usize,
-    k: usize,
-    s: u64,
-    m: Mirror,
-    powers: &[u64; 64],
-    inner: Inner,
-) -> u64
-    requires window { Window s m k powers.now ranks.now j inner }
-    requires le_k { 1 ≤ k }
-    ensures { result ≡ code s m k (part j k ranks.now) }
-{
-    if k == 1 {
-        return scanned_code(ranks, j, k, s, m, powers, inner);
-    }
-    let l = rank_at(ranks, j);
-    let r = mirror_rank_at(ranks, j + k - 1, s, m);
-    if l != r {
-        return differing_code(ranks, j, k, s, m, powers, inner, l, r);
-    }
-    scanned_code(ranks, j, k, s, m, powers, inner)
-}
-
 // How many letters stand between the first and the last of k.
 fn inner_length(k: usize) -> usize
     ensures { result ≡ k - 2 }
 {
-    if k < 2 { 0 } else { k - 2 }
+    k.saturating_sub(2)
 }
 
-// What is kept of the window at 0, letter by letter.
-fn first_window(
-    ranks: &[u8],
-    k: usize,
-    s: u64,
-    m: Mirror,
-    powers: &[u64; 64],
-    palindromes: u64,
-) -> Inner
-    requires input { Input s k powers.now ranks.now }
-    requires k_in_bounds { k ≤ length ranks.now }
-    requires counts_palindromes { CountsPalindromes s m k palindromes }
-    ensures { Window s m k powers.now ranks.now 0 result }
-{
-    let n = inner_length(k);
-    let mut forward: u64 = 0;
-    let mut back: u64 = 0;
-    let mut i: usize = 0;
-    while i < n {
-        let x = rank_at(ranks, i + 1);
-        forward = forward * s + x;
-        back = back + mirror_rank(s, m, x) * power_at(powers, s, k, i);
-        i += 1;
-    }
-    Inner {
-        palindromes,
-        forward,
-        back,
-    }
-}
+// Stays: that a window is one of these ranks, `IsWindow`, is said in each contract. In a ghost field it would have the ranks and settings beside it in every
+// window, and each contract would say that two windows have the same.
+impl AnyAlphabet<'_> {
+    ghost use Rattle.any_alphabet.specs.Windows.{IsWindow, code_of};
 
-// From the window at j to the next one: of the letters between the first and the last, one leaves in front and one enters at the end, `shown` as
-// the mirror shows it.
-fn next_window(
-    ranks: &[u8],
-    j: usize,
-    k: usize,
-    s: u64,
-    m: Mirror,
-    powers: &[u64; 64],
-    inner: Inner,
-) -> Inner
-    requires window { Window s m k powers.now ranks.now j inner }
-    requires le_k { 1 ≤ k }
-    requires k_in_bounds { j + k < length ranks.now }
-    ensures { Window s m k powers.now ranks.now (j + 1) result }
-{
-    let n = inner_length(k);
-    let power = power_at(powers, s, k, n);
-    let leaving = rank_at(ranks, j + 1);
-    let entering = rank_at(ranks, j + 1 + n);
-    let shown = mirror_rank(s, m, entering);
-    let palindromes = inner.palindromes;
-    let forward = inner.forward * s + entering - leaving * power;
-    let back = divided(inner.back + shown * power, s);
-    Inner {
-        palindromes,
-        forward,
-        back,
+    // The rank at place i, as the mirror shows it.
+    fn mirror_rank_at(&self, i: usize) -> u64
+        requires { i < length self.now.ranks.now }
+        ensures { result ≡ mirror_rank self.now.s self.now.mirror (get_or self.now.ranks.now i 0) }
+    {
+        mirror_rank(self.s, self.mirror, rank_at(self.ranks, i))
     }
-}
 
-// The codes of all windows of a list of ranks, from the start of a lent list.
-pub fn fill(
-    ranks: &[u8],
-    k: usize,
-    s: u64,
-    m: Mirror,
-    powers: &[u64; 64],
-    palindromes: u64,
-    out: &mut [u64],
-)
-    requires input { Input s k powers.now ranks.now }
-    requires le_k { 1 ≤ k }
-    requires counts_palindromes { CountsPalindromes s m k palindromes }
-    requires k_in_bounds { length ranks.now + 1 - k ≤ length out.old }
-    ensures { Fills (window_codes s m k ranks.now) out.old out.new }
-{
-    if ranks.len() < k {
-        return;
+    // The code of a window whose outer letters l and r (as the mirror shows it) differ.
+    fn differing_code(&self, w: Window, l: u64, r: u64) -> u64
+        requires window { IsWindow self.now w }
+        requires outer_pair { OuterPair self.now.s self.now.mirror w.length self.now.ranks.now w.at l r }
+        requires letters_differ { l ≢ r }
+        ensures { result ≡ code_of self.now w }
+    {
+        let between = by_order(l, r, w.forward, w.back);
+        let top = self.powers[w.length - 1];
+        let low = self.powers[w.length - 2];
+        let pair = pair_rank(self.s, l.min(r), l.max(r));
+        (top + w.palindromes) / 2 + pair * low + between
     }
-    let mut inner = first_window(ranks, k, s, m, powers, palindromes);
-    let first = window_code(ranks, 0, k, s, m, powers, inner);
-    out[0] = first;
-    let mut i: usize = 0;
-    while i + k < ranks.len() {
-        inner = next_window(ranks, i, k, s, m, powers, inner);
-        i += 1;
-        let c = window_code(ranks, i, k, s, m, powers, inner);
-        out[i] = c;
+
+    // The window within, two letters shorter.
+    fn inner_window(&self, w: Window) -> Window
+        requires window { IsWindow self.now w }
+        requires two { 2 ≤ w.length }
+        ensures inner { IsWindow self.now result }
+        ensures place { result.at ≡ w.at + 1 }
+        ensures shorter { result.length ≡ w.length - 2 }
+    {
+        let at = w.at + 1;
+        let length = w.length - 2;
+        let palindromes = divided(w.palindromes, self.s);
+        if w.length < 4 {
+            return Window {
+                at,
+                length,
+                palindromes,
+                forward: 0,
+                back: 0,
+            };
+        }
+        let power = self.powers[w.length - 3];
+        let first = rank_at(self.ranks, at) * power;
+        let last = self.mirror_rank_at(w.at + w.length - 2) * power;
+        Window {
+            at,
+            length,
+            palindromes,
+            forward: divided(w.forward - first, self.s),
+            back: divided(w.back - last, self.s),
+        }
+    }
+
+    // The code of a window, by a scan of its pairs from the outside inwards.
+    fn scanned_code(&self, outer: Window) -> u64
+        requires { IsWindow self.now outer }
+        ensures { result ≡ code_of self.now outer }
+    {
+        let mut w = outer;
+        let mut closing: u64 = 0;
+        let mut scale: u64 = 1;
+        while 2 <= w.length {
+            let l = rank_at(self.ranks, w.at);
+            let r = self.mirror_rank_at(w.at + w.length - 1);
+            if l != r {
+                return closing + scale * self.differing_code(w, l, r);
+            }
+            closing += scale * l;
+            scale *= self.s;
+            w = self.inner_window(w);
+        }
+        if w.length == 1 {
+            closing + scale * middle_code(self.s, self.mirror, rank_at(self.ranks, w.at))
+        } else {
+            closing
+        }
+    }
+
+    // The code of a window: at once where its outer letters differ.
+    fn window_code(&self, w: Window) -> u64
+        requires window { IsWindow self.now w }
+        requires some { 1 ≤ w.length }
+        ensures { result ≡ code_of self.now w }
+    {
+        if w.length == 1 {
+            return self.scanned_code(w);
+        }
+        let l = rank_at(self.ranks, w.at);
+        let r = self.mirror_rank_at(w.at + w.length - 1);
+        if l != r {
+            return self.differing_code(w, l, r);
+        }
+        self.scanned_code(w)
+    }
+
+    // The window at 0, letter by letter.
+    fn first_window(&self) -> Window
+        requires { self.now.k ≤ length self.now.ranks.now }
+        ensures window { IsWindow self.now result }
+        ensures place { result.at ≡ 0 }
+        ensures length { result.length ≡ self.now.k }
+    {
+        let mut forward: u64 = 0;
+        let mut back: u64 = 0;
+        for i in 0..inner_length(self.k) {
+            let x = rank_at(self.ranks, i + 1);
+            forward = forward * self.s + x;
+            back += mirror_rank(self.s, self.mirror, x) * self.powers[i];
+        }
+        Window {
+            at: 0,
+            length: self.k,
+            palindromes: self.palindromes,
+            forward,
+            back,
+        }
+    }
+
+    // The next window: of the letters between the first and the last, one leaves in front and one enters at the end, `shown` as the mirror shows it.
+    fn next_window(&self, w: Window) -> Window
+        requires window { IsWindow self.now w }
+        requires some { 1 ≤ w.length }
+        requires inside { w.at + w.length < length self.now.ranks.now }
+        ensures next { IsWindow self.now result }
+        ensures place { result.at ≡ w.at + 1 }
+        ensures length { result.length ≡ w.length }
+    {
+        let n = inner_length(w.length);
+        let power = self.powers[n];
+        let leaving = rank_at(self.ranks, w.at + 1);
+        let entering = rank_at(self.ranks, w.at + 1 + n);
+        let shown = mirror_rank(self.s, self.mirror, entering);
+        Window {
+            at: w.at + 1,
+            length: w.length,
+            palindromes: w.palindromes,
+            forward: w.forward * self.s + entering - leaving * power,
+            back: divided(w.back + shown * power, self.s),
+        }
+    }
+
+    // The codes of all windows of the ranks, from the start of a lent list.
+    pub fn fill(&self, out: &mut [u64])
+        requires { length self.now.ranks.now + 1 - self.now.k ≤ length out.old }
+        ensures { Fills (window_codes self.now.s self.now.mirror self.now.k self.now.ranks.now) out.old out.new }
+    {
+        if self.ranks.len() < self.k {
+            return;
+        }
+        let mut window = self.first_window();
+        out[0] = self.window_code(window);
+        for i in 0..self.ranks.len() - self.k {
+            window = self.next_window(window);
+            out[i + 1] = self.window_code(window);
+        }
     }
 }

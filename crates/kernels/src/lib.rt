@@ -14,6 +14,7 @@ ghost use Rattle.packed.specs.Mirrors.{MirrorTable};
 ghost use Rattle.any_alphabet.specs.Needs.{Powers, CountsPalindromes};
 ghost use Rattle.kernels.specs.Kernels.{Takes, GoodSettings};
 
+use any_alphabet::AnyAlphabet;
 use settings::{Checked, Mirror, RankTable};
 use two_bit::TwoBit;
 
@@ -94,15 +95,17 @@ impl Coder {
         ensures { Fills (window_codes self.now.s self.now.mirror self.now.k ranks.now) out.old out.new }
     {
         match self.kernel {
-            Kernel::AnyAlphabet => any_alphabet::fill(
-                ranks,
-                self.k,
-                self.s,
-                self.mirror,
-                &self.powers,
-                self.palindromes,
-                out,
-            ),
+            Kernel::AnyAlphabet => {
+                let words = AnyAlphabet {
+                    s: self.s,
+                    k: self.k,
+                    mirror: self.mirror,
+                    palindromes: self.palindromes,
+                    powers: &self.powers,
+                    ranks,
+                };
+                words.fill(out);
+            }
             Kernel::TwoBit => {
                 let words = TwoBit {
                     k: self.k as u64,

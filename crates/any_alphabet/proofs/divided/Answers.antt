@@ -1,6 +1,5 @@
 -- `any_alphabet::divided` meets its contract. A case for each number of letters.
-use mathlib.Core.Path.{◌≡◌}
-use native.Mathlib.Omega.{arith}
+use Rattle.std.proofs.Common.{◌≡◌, arith}
 use Rattle.any_alphabet.proofs.divided.Goals as goal
 
 pub returns-in-2 : goal.returns-in-2

@@ -1,10 +1,6 @@
 -- `any_alphabet::middle_code` meets its contract. A case for each mirror and, under complement, for each half of the ranks (OneLetter).
-use borrow.Author.Rules.{rules}
 use Rattle.any_alphabet.proofs.OneLetter.{one_reversed, one_low, one_high}
 use Rattle.any_alphabet.proofs.middle_code.Goals as goal
-
-pub enum_told-1 : goal.enum_told-1
-enum_told-1 c = search rules
 
 pub returns-in-Reversal : goal.returns-in-Reversal
 returns-in-Reversal c =

@@ -2,11 +2,11 @@
 use Rattle.kernels.proofs.Coders.{two_bit_ranks, two_bit_small, two_bit_count, two_bit_codes}
 use Rattle.kernels.proofs.Coder.fill_codes.Goals as goal
 
-pub invariant_of-words-clause-small : goal.invariant_of-words-clause-small
-invariant_of-words-clause-small c = two_bit_small c.args.self.now c.in-TwoBit.is
+pub invariant_of-words-in-TwoBit-clause-small : goal.invariant_of-words-in-TwoBit-clause-small
+invariant_of-words-in-TwoBit-clause-small c = two_bit_small c.args.self.now c.in-TwoBit.is
 
-pub invariant_of-words-clause-count : goal.invariant_of-words-clause-count
-invariant_of-words-clause-count c = two_bit_count c.args.self.now c.in-TwoBit.is
+pub invariant_of-words-in-TwoBit-clause-count : goal.invariant_of-words-in-TwoBit-clause-count
+invariant_of-words-in-TwoBit-clause-count c = two_bit_count c.args.self.now c.in-TwoBit.is
 
 pub fill-requires-in-TwoBit-clause-ranks : goal.fill-requires-in-TwoBit-clause-ranks
 fill-requires-in-TwoBit-clause-ranks c = two_bit_ranks c.args.self.now c.in-TwoBit.is _ c.requires.ranks

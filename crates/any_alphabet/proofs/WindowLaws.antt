@@ -1,14 +1,8 @@
--- The kernel for every alphabet: what follows from a window (`Window`) of its code, of the window within and of the next one, the invariant of the
+-- The kernel for every alphabet: what follows from a window (`Kept`) of its code, of the window within and of the next one, the invariant of the
 -- scan, and the first window (FirstWindows) in the terms of this kernel.
-use mathlib.Core.Path.{◌≡◌, refl, sym, ap, ◌∙◌}
-use mathlib.Core.List.{List, [], ◌∷◌}
-use mathlib.Core.Logic.{◌≢◌}
-use Prim.Native.Nat.{ℕ, suc, ◌+◌, ◌-◌, ◌*◌, ◌/◌, ◌^◌, ◌<◌, ◌≤◌, min, max}
-use native.Mathlib.Nat.{pow-suc, pow-le-pow_right, mul-le-mul_left, mul-le-mul_right, lt_of_lt_of_le}
-use native.Mathlib.Numerals.{add-one}
-use native.Mathlib.Omega.{arith}
+use Rattle.std.proofs.Common.{◌≡◌, refl, sym, ap, ◌∙◌, List, [], ◌∷◌, ◌≢◌, ℕ, suc, ◌+◌, ◌-◌, ◌*◌, ◌/◌, ◌^◌, ◌<◌, ◌≤◌, min, max, pow-suc, mul-le-mul_left, mul-le-mul_right, lt_of_lt_of_le, add-one, arith, length, get_or}
+use native.Mathlib.Nat.{pow-le-pow_right}
 use lib.Arith.{digits_div}
-use lib.ListN.{length, get_or}
 use Rattle.laws.proofs.Powers.{pow-one, pow-fits}
 use Rattle.settings.proofs.Limits.{k_at_most, limits_less}
 use Rattle.encoding.specs.Words.{Mirror, mirror_rank, mirror, plain}
@@ -16,12 +10,14 @@ use Rattle.encoding.specs.Codes.{pair_rank, code}
 use Rattle.encoding.specs.Needs.{palindromes}
 use Rattle.encoding.proofs.Canonical.{mirror_rank-lt}
 use Rattle.encoding.proofs.CodesByEnds.{code_none}
-use Rattle.any_alphabet.specs.declared.Inner.{Inner}
+use Rattle.any_alphabet.specs.declared.Window.{Window}
+use Rattle.any_alphabet.specs.declared.AnyAlphabet.{AnyAlphabet}
 use Rattle.ranks.specs.Needs.{part}
-use Rattle.any_alphabet.specs.Needs.{Input, Window, OuterPair}
+use Rattle.any_alphabet.specs.Needs.{Input, OuterPair}
+use Rattle.any_alphabet.specs.Windows.{Kept}
 use Rattle.ranks.proofs.WordParts.{ranks_at, part-cons}
 use Rattle.windows.proofs.Parts.{plain_more, plain_first, part_lt, back_more, back_first, back_lt}
-use Rattle.any_alphabet.proofs.FirstWindows.{Opened}
+use Rattle.any_alphabet.proofs.FirstWindows.{Opened, Letter}
 use Rattle.windows.proofs.WindowEnds.{code_lt, differ_is, same_is, forward_is, back_is, palindromes-within}
 
 module _ {s k : ℕ} {pw d : List ℕ} (I : Input s k pw d) where
@@ -31,7 +27,7 @@ module _ {s k : ℕ} {pw d : List ℕ} (I : Input s k pw d) where
   pub power_fits : (i : ℕ) → i ≤ k → s ^ i ≤ 2 ^ 62
   power_fits i h = pow-fits s i k I.limits.two h I.limits.small
 
-module _ {s : ℕ} {m : Mirror} {k : ℕ} {pw d : List ℕ} {j : ℕ} {t : Inner} (W : Window s m k pw d j t) where
+module _ {s : ℕ} {m : Mirror} {k : ℕ} {pw d : List ℕ} {j : ℕ} {t : Window} (W : Kept s m k pw d j t) where
   two : 1 < s
   two = W.input.limits.two
 
@@ -70,7 +66,7 @@ module _ {s : ℕ} {m : Mirror} {k : ℕ} {pw d : List ℕ} {j : ℕ} {t : Inner
       }
 
   -- It has fewer than two letters between its ends.
-  pub within_short : (e : ℕ) → 2 ≤ k → k < 4 → e ≡ t.palindromes / s → Window s m (k - 2) pw d (j + 1) (record { palindromes = e; forward = 0; back = 0 })
+  pub within_short : (e : ℕ) → 2 ≤ k → k < 4 → e ≡ t.palindromes / s → Kept s m (k - 2) pw d (j + 1) (record { at = j + 1; length = k - 2; palindromes = e; forward = 0; back = 0 })
   unfolding plain mirror
   within_short e h g q =
       let z : k - 2 - 2 ≡ 0 = omega arith in
@@ -100,7 +96,7 @@ module _ {s : ℕ} {m : Mirror} {k : ℕ} {pw d : List ℕ} {j : ℕ} {t : Inner
   pub within_long : (e f b q x y : ℕ) → 4 ≤ k → e ≡ t.palindromes / s → q ≡ s ^ (k - 3) → x ≡ get_or d (j + 1) 0 → y ≡ mirror_rank s m (get_or d (j + k - 2) 0)
       → f ≡ (t.forward - x * q) / s
       → b ≡ (t.back - y * q) / s
-      → Window s m (k - 2) pw d (j + 1) (record { palindromes = e; forward = f; back = b })
+      → Kept s m (k - 2) pw d (j + 1) (record { at = j + 1; length = k - 2; palindromes = e; forward = f; back = b })
   within_long e f b q x y h ee eq ex ey ef eb =
       record {
         input = inner_input (omega arith);
@@ -115,18 +111,22 @@ module _ {s : ℕ} {m : Mirror} {k : ℕ} {pw d : List ℕ} {j : ℕ} {t : Inner
       rw (O.first, add-one)
       (same_is s m two d W.input.ranks j k (j + k - 1) O.two W.inside refl (sym O.first ∙ e ∙ O.last))
 
+pub outer_pair : {s : ℕ} {m : Mirror} {k : ℕ} {d : List ℕ} {j l r : ℕ} → 2 ≤ k → l ≡ get_or d j 0 → r ≡ mirror_rank s m (get_or d (j + k - 1) 0)
+    → OuterPair s m k d j l r
+outer_pair two first last = record { two = two; first = first; last = last }
+
 -- ---- the scan: after some equal pairs n letters are left, from place a
 
-pub record Scan (s : ℕ) (m : Mirror) (k : ℕ) (pw d : List ℕ) (j : ℕ) (t : Inner) (a n closing scale : ℕ) : Type 0 where
-  pub window : Window s m n pw d a t
+pub record Scan (s : ℕ) (m : Mirror) (k : ℕ) (pw d : List ℕ) (j : ℕ) (t : Window) (a n closing scale : ℕ) : Type 0 where
+  pub window : Kept s m n pw d a t
   pub rest : code s m k (part j k d) ≡ closing + scale * code s m n (part a n d)
   bound : scale * s ^ n ≤ 2 ^ 62
   pub fits : code s m k (part j k d) < 2 ^ 62
 
-pub scan_start : {s : ℕ} {m : Mirror} {k : ℕ} {pw d : List ℕ} {j : ℕ} {t : Inner} → Window s m k pw d j t → Scan s m k pw d j t j k 0 1
+pub scan_start : {s : ℕ} {m : Mirror} {k : ℕ} {pw d : List ℕ} {j : ℕ} {t : Window} → Kept s m k pw d j t → Scan s m k pw d j t j k 0 1
 scan_start W = record { window = W; rest = omega arith; bound = omega (arith, W.input.limits.small); fits = code_fits W }
 
-module _ {s : ℕ} {m : Mirror} {k : ℕ} {pw d : List ℕ} {j : ℕ} {t : Inner} {a n closing scale : ℕ} (S : Scan s m k pw d j t a n closing scale) where
+module _ {s : ℕ} {m : Mirror} {k : ℕ} {pw d : List ℕ} {j : ℕ} {t : Window} {a n closing scale : ℕ} (S : Scan s m k pw d j t a n closing scale) where
   pub scale_fits : 2 ≤ n → scale * s ≤ 2 ^ 62
   scale_fits h =
       let e : s ^ 1 ≤ s ^ n = pow-le-pow_right (omega (arith, S.window.input.limits.two)) (omega arith) in
@@ -136,7 +136,7 @@ module _ {s : ℕ} {m : Mirror} {k : ℕ} {pw d : List ℕ} {j : ℕ} {t : Inner
       → code s m k (part j k d) ≡ closing + scale * l + scale * s * code s m (n - 2) (part (a + 1) (n - 2) d)
   scan_rest O e = S.rest ∙ omega (arith, ap (λ (x : ℕ). scale * x) (equal_is S.window O e))
 
-  pub scan_within : {l r : ℕ} {t' : Inner} → OuterPair s m n d a l r → l ≡ r → Window s m (n - 2) pw d (a + 1) t'
+  pub scan_within : {l r : ℕ} {t' : Window} → OuterPair s m n d a l r → l ≡ r → Kept s m (n - 2) pw d (a + 1) t'
       → Scan s m k pw d j t' (a + 1) (n - 2) (closing + scale * l) (scale * s)
   scan_within O e W' =
       let p : s ^ suc (n - 2) ≤ s ^ n = pow-le-pow_right (omega (arith, S.window.input.limits.two)) (omega (arith, O.two)) in
@@ -162,13 +162,13 @@ module _ {s : ℕ} {m : Mirror} {k : ℕ} {pw d : List ℕ} {j : ℕ} {t : Inner
 -- ---- the next window
 
 -- The letter that enters it is a rank.
-pub entering_lt : {s : ℕ} {m : Mirror} {k : ℕ} {pw d : List ℕ} {j : ℕ} {t : Inner} → Window s m k pw d j t → j + k < length d
+pub entering_lt : {s : ℕ} {m : Mirror} {k : ℕ} {pw d : List ℕ} {j : ℕ} {t : Window} → Kept s m k pw d j t → j + k < length d
     → {n y : ℕ} → n ≡ k - 2 → y ≡ get_or d (j + 1 + n) 0 → 1 ≤ k → y < s
 entering_lt {s} {d = d} {j = j} W more {n = n} en ey some = rw ey (ranks_at s d (j + 1 + n) W.input.ranks (omega arith))
 
 -- From the window at j to the next one: of its n inner letters x leaves, and y enters, as z on the mirror's side.
-pub record Entering (s : ℕ) (m : Mirror) (k : ℕ) (pw d : List ℕ) (j : ℕ) (t : Inner) (n q x y z : ℕ) : Type 0 where
-  pub window : Window s m k pw d j t
+pub record Entering (s : ℕ) (m : Mirror) (k : ℕ) (pw d : List ℕ) (j : ℕ) (t : Window) (n q x y z : ℕ) : Type 0 where
+  pub window : Kept s m k pw d j t
   pub some : 1 ≤ k
   pub more : j + k < length d
   pub between : n ≡ k - 2
@@ -177,7 +177,7 @@ pub record Entering (s : ℕ) (m : Mirror) (k : ℕ) (pw d : List ℕ) (j : ℕ)
   pub entering : y ≡ get_or d (j + 1 + n) 0
   pub shown : z ≡ mirror_rank s m y
 
-module _ {s : ℕ} {m : Mirror} {k : ℕ} {pw d : List ℕ} {j : ℕ} {t : Inner} {n q x y z : ℕ} (E : Entering s m k pw d j t n q x y z) where
+module _ {s : ℕ} {m : Mirror} {k : ℕ} {pw d : List ℕ} {j : ℕ} {t : Window} {n q x y z : ℕ} (E : Entering s m k pw d j t n q x y z) where
   x_is : x ≡ get_or d (suc j) 0
   x_is = E.leaving ∙ rw (add-one j)
 
@@ -220,7 +220,7 @@ module _ {s : ℕ} {m : Mirror} {k : ℕ} {pw d : List ℕ} {j : ℕ} {t : Inner
       (lt_of_lt_of_le (back_lt s m (suc j) (suc n) d E.window.input.ranks (omega (arith, inside))) (power_fits E.window.input (suc n) few))
 
   pub next_window_is : (u v : ℕ) → u ≡ t.forward * s + y - x * q → v ≡ (t.back + z * q) / s
-      → Window s m k pw d (j + 1) (record { palindromes = t.palindromes; forward = u; back = v })
+      → Kept s m k pw d (j + 1) (record { at = j + 1; length = k; palindromes = t.palindromes; forward = u; back = v })
   next_window_is u v eu ev =
       record {
         input = E.window.input;
@@ -232,10 +232,42 @@ module _ {s : ℕ} {m : Mirror} {k : ℕ} {pw d : List ℕ} {j : ℕ} {t : Inner
             (mirror_rank-lt s m x (rw x_is (ranks_at s d (suc j) E.window.input.ranks (omega (arith, inside))))));
       }
 
+-- From the next window's contract: each number as it is read.
+pub next_from : {s : ℕ} {m : Mirror} {k : ℕ} {pw d : List ℕ} {j : ℕ} {t : Window} → Kept s m k pw d j t → 1 ≤ k → j + k < length d → {n : ℕ} → n ≡ k - 2
+    → {x y z : ℕ} → x ≡ get_or d (j + 1) 0 → y ≡ get_or d (j + 1 + n) 0 → z ≡ mirror_rank s m y → Entering s m k pw d j t n (get_or pw n 0) x y z
+next_from W some more {n} en ex ey ez =
+    record {
+      window = W;
+      some = some;
+      more = more;
+      between = en;
+      power = W.input.table.at n (omega (arith, en));
+      leaving = ex;
+      entering = ey;
+      shown = ez;
+    }
+
 -- ---- the first window: its inner letters, from place 1, are taken in
 
 module _ {s : ℕ} {m : Mirror} {k : ℕ} {pw d : List ℕ} (I : Input s k pw d) {n u v i : ℕ} (en : n ≡ k - 2) (O : Opened s m d 1 n u v i) where
-  pub first_window_is : k ≤ length d → (e : ℕ) → e ≡ palindromes s m k → n ≤ i → Window s m k pw d 0 (record { palindromes = e; forward = u; back = v })
+  pub first_window_is : k ≤ length d → (e : ℕ) → e ≡ palindromes s m k → n ≤ i → Kept s m k pw d 0 (record { at = 0; length = k; palindromes = e; forward = u; back = v })
   first_window_is long e q h =
       let i-is : i ≡ k - 2 = omega (arith, O.upto) in
       record { input = I; inside = omega arith; count = q; ahead = rw i-is at O.ahead; behind = rw i-is at O.behind }
+
+  -- The next of them.
+  pub first_letter : k ≤ length d → i < n → {x : ℕ} → x ≡ get_or d (i + 1) 0 → Letter s m d 1 n u v i (i + 1) x
+  first_letter long more is =
+      record {
+        opened = O;
+        more = more;
+        ranks = I.ranks;
+        inside = omega (arith, en);
+        place = omega arith;
+        is = is;
+        fits = power_fits I (suc i) (omega (arith, en));
+      }
+
+-- What the kernel has.
+pub input_of : (a : AnyAlphabet) → Input a.s a.k a.powers.now a.ranks.now
+input_of a = record { limits = a.limits; table = a.powers_are; ranks = a.ranks_below }
