@@ -2,7 +2,7 @@
 
 #![tactic(auto)]
 
-ghost use Rattle.std.specs.Prelude.{◌≡◌, ◌++◌, ◌<◌, ◌≤◌, min, max, length, get_or, drop};
+ghost use Rattle.std.specs.Prelude.{◌≡◌, ◌++◌, ◌<◌, ◌≤◌, length, get_or, drop};
 ghost use Rattle.encoding.specs.Words.{Ranks, mirror_rank, mirror, plain};
 ghost use Rattle.encoding.specs.Codes.{pair_rank};
 ghost use Rattle.ranks.specs.Needs.{FitWord};
@@ -15,20 +15,6 @@ pub struct PlainRank(pub u64);
 
 #[derive(Clone, Copy)]
 pub struct Code(pub u64);
-
-// The lower of two numbers.
-pub fn lower(a: u64, b: u64) -> u64
-    ensures { result ≡ min a b }
-{
-    if a < b { a } else { b }
-}
-
-// The higher of two numbers.
-pub fn higher(a: u64, b: u64) -> u64
-    ensures { result ≡ max a b }
-{
-    if a < b { b } else { a }
-}
 
 // The rank at place i.
 pub fn rank_at(ranks: &[u8], i: usize) -> u64
