@@ -1,9 +1,6 @@
 -- The definitions of demand 3 from C computed on three calls, with ACGT, k 2 and complement, of which the second has a list of four places; and which ground comes
 -- first for such a list.
-use mathlib.Core.Path.{◌≡◌, refl}
-use Rattle.std.specs.Prelude.{Some}
-use mathlib.Core.List.{List, [], ◌∷◌}
-use lib.ListN.{replicate}
+use Rattle.std.proofs.Common.{◌≡◌, refl, Some, List, [], ◌∷◌, replicate}
 use Rattle.laws.specs.Text.{bytes}
 use Rattle.laws.specs.Windows.{windows}
 use Rattle.settings.specs.Grounds.{refused}

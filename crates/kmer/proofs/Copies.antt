@@ -2,12 +2,8 @@
 -- and with the same lent list, return the same number and leave the same list and the same table, and so do two `kmer_withdraw` (`copy_called_into`); so do two
 -- lists of such calls, the one with copies in place of some or all of the other's files (`copies_from_c`). From the laws of copies in the crates files and
 -- tally_book, since what a call returns and leaves is said by its grounds and the file's windows and numbers.
-use mathlib.Core.Path.{◌≡◌, sym, ap₂, ◌∙◌}
-use mathlib.Core.Bool.{true}
-use Rattle.std.specs.Prelude.{Option}
-use mathlib.Core.List.{List, Forall₂}
-use Prim.Native.Nat.{ℕ}
-use lib.ListN.{length}
+use Rattle.std.proofs.Common.{◌≡◌, sym, ap₂, ◌∙◌, true, Option, List, ℕ, length}
+use mathlib.Core.List.{Forall₂}
 use Rattle.settings.specs.Grounds.{Ground, overwritten}
 use Rattle.settings.specs.Settings.{reads_u_as_t}
 use Rattle.fasta.specs.declared.Numbers.{Numbers}

@@ -2,15 +2,9 @@
 -- withdrawals leaves and answers, of which it is proved in the crate tally_book, and the others are refused (`demand_three_from_c`, `kept_from_c`, and of two lists
 -- `same_counts_from_c`, `demand_three_same_counts_from_c`; by which ground after a clearing: `short_from_c`). And an add and a withdrawal next
 -- (`given_back_from_c`).
-use mathlib.Core.Path.{◌≡◌, refl, sym, ap, ap₂, ◌∙◌}
-use mathlib.Core.Bool.{Bool, true, false, cond, ◌||◌}
-use Rattle.std.specs.Prelude.{Option, None, Some}
+use Rattle.std.proofs.Common.{◌≡◌, refl, sym, ap, ap₂, ◌∙◌, Bool, true, false, cond, ◌||◌, Option, None, Some, List, [], ◌∷◌, ◌++◌, ℕ, ◌≤◌, arith, le-ltb, ltb-false, length, take, drop}
 use Rattle.std.specs.Option.{unwrap_or}
-use mathlib.Core.List.{List, [], ◌∷◌, ◌++◌, zip_with, Forall₂}
-use Prim.Native.Nat.{ℕ, ◌≤◌}
-use native.Mathlib.Omega.{arith}
-use borrow.Author.Tests.{le-ltb, ltb-false}
-use lib.ListN.{length, take, drop}
+use mathlib.Core.List.{zip_with, Forall₂}
 use Rattle.settings.specs.Grounds.{Ground, Outcome, given, refused, ground, outcome, overwritten, ◌or_else◌}
 use Rattle.settings.specs.Settings.{rank_in, settings_ground}
 use Rattle.settings.proofs.Outcomes.{passed}

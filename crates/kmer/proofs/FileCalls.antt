@@ -1,22 +1,12 @@
 -- What adding and withdrawing through the C calls rest on: which ground applies at each test, that the P of each refusal is at most 16,777,216, the
 -- answer, table and list from those of `table::call`, and that the table stays as long as it was.
-use mathlib.Core.Path.{◌≡◌, refl, sym, ap, ◌∙◌}
-use mathlib.Core.Bool.{true, ◌||◌}
-use Rattle.std.specs.Prelude.{Option, None, Some}
+use Rattle.std.proofs.Common.{◌≡◌, refl, sym, ap, ◌∙◌, true, ◌||◌, Option, None, Some, List, ◌++◌, ℕ, ◌^◌, ◌<◌, ◌≤◌, arith, lt-ltb, le-ltb, length, drop, ltb}
 use Rattle.std.specs.Option.{unwrap_or}
-use mathlib.Core.List.{List, ◌++◌}
-use Prim.Native.Nat.{ℕ, ◌^◌, ◌<◌, ◌≤◌}
-use native.Mathlib.Omega.{arith}
-use borrow.Author.Tests.{lt-ltb, le-ltb}
-use lib.ListN.{length, drop}
-use lib.Dec.{ltb}
-use Rattle.settings.specs.declared.Refusal.{Refusal}
-use Rattle.settings.specs.declared.Checked.{Checked}
-use Rattle.settings.specs.declared.Checked.TheVariants.{Bad}
-use Rattle.settings.specs.Grounds.{Ground, Outcome, given, refused, ground_of, ground_at, too_short, outcome, unless_refused, ◌or_else◌}
-use Rattle.settings.specs.Settings.{rank_in, settings_of, of_checked}
+use Rattle.settings.specs.Grounds.{Ground, Outcome, given, refused, ground_at, too_short, outcome, unless_refused, ◌or_else◌}
+use Rattle.settings.specs.Settings.{rank_in}
+use Rattle.settings.specs.declared.Settings.{Settings}
 use Rattle.settings.proofs.Outcomes.{refused_is, passed, first_none, later_none, nowhere_met, room_enough}
-use Rattle.settings.proofs.FirstGround.{PlaceUpTo, Small, test_small, then_small}
+use Rattle.settings.proofs.FirstGround.{PlaceUpTo, Small, test_small, place_small, then_small, room_small}
 use Rattle.fasta.specs.declared.Numbers.{Numbers}
 use Rattle.files.specs.File.{File, file_fault, file_numbers}
 use Rattle.settings.specs.Limits.{too_long}
@@ -24,11 +14,12 @@ use Rattle.files.proofs.FaultNumbers.{fault_has}
 use Rattle.tally_book.specs.Table.{class_count, places, too_many, ready_ground, call_ground, Call, add, withdraw, call_file, table_full, table_lacks, last_ground, table_ground, per_window, table_after, Called}
 use Rattle.tally_book.proofs.Changes.{length_changes}
 use Rattle.table.proofs.CallGrounds.{classes_few, ready_file}
-use Rattle.returned.proofs.Refusals.{refused_fits}
 use Rattle.kmer.proofs.Refusals.{sizes_small}
-use Rattle.returned.specs.Returned.{returned_with_place}
+use Rattle.returned.specs.Needs.{PlaceFits}
+use Rattle.returned.proofs.Refusals.{answer_fits}
 use Rattle.returned.specs.FileNumbers.{five_numbers}
 use Rattle.kmer.specs.FileCalls.{into_ground, CallsInto}
+use Rattle.kmer.specs.Needs.{AnswersInto}
 
 -- ---- how large P can be
 
@@ -41,32 +32,26 @@ last_small : (letters : List ℕ) (k m : ℕ) (t : List ℕ) (c : Call) → Smal
 last_small letters k m t (add file) = test_small 16777216 12 (table_full letters k m t file)
 last_small letters k m t (withdraw file) = test_small 16777216 18 (table_lacks letters k m t file)
 
-call_small : (letters : List ℕ) (k m : ℕ) (t : List ℕ) (c : Call) → Small 16777216 (table_ground letters k m t c)
-unfolding call_ground
-call_small letters k m t c =
+rest_small : (letters : List ℕ) (k m : ℕ) (t : List ℕ) (c : Call) → ready_ground letters k m (length t) (call_file c).bytes ≡ None
+    → Small 16777216 (file_fault (call_file c) or_else last_ground letters k m t c)
+rest_small letters k m t c ready =
     let file = call_file c in
-    then_small 16777216 (ready_ground letters k m (length t) file.bytes) (file_fault file or_else last_ground letters k m t c)
-    (ready_small letters k m (length t) file.bytes)
-    (λ ready. then_small 16777216 (file_fault file) (last_ground letters k m t c)
+    then_small 16777216 (file_fault file) (last_ground letters k m t c)
     (fault_has (PlaceUpTo 16777216) 16777216 file (λ i p e h. h) (ready_file letters k m (length t) file.bytes ready))
-    (λ _. last_small letters k m t c))
+    (λ _. last_small letters k m t c)
 
--- The P of a refused call fits.
-pub call_fits : (letters : List ℕ) (k m : ℕ) (t : List ℕ) (c : Call) (t' : List ℕ) (f : Refusal) (answer : Outcome Numbers) → Called letters k m t c answer t'
-    → answer ≡ refused (ground_of f) → (ground_of f).1 < 2 ^ 32
-call_fits letters k m t c t' f answer A e =
-    refused_fits f _ (table_ground letters k m t c) 16777216 (call_small letters k m t c) (omega arith) (sym e ∙ A.answers)
+-- With the list's own ground too.
+into_small : (letters : List ℕ) (k m : ℕ) (t : List ℕ) (c : Call) (room : ℕ) → Small 16777216 (into_ground letters k m t c room)
+unfolding into_ground
+into_small letters k m t c room =
+    let file = call_file c in
+    let short = ground_at 7 (too_short room 5) in
+    let rest = file_fault file or_else last_ground letters k m t c in
+    then_small 16777216 (ready_ground letters k m (length t) file.bytes) (short or_else rest) (ready_small letters k m (length t) file.bytes)
+    (λ ready. then_small 16777216 short rest (place_small 16777216 7 (too_short room 5) (λ p e. omega (arith, room_small room 5 p e)))
+    (λ _. rest_small letters k m t c ready))
 
 -- ---- `kmer_add` and `kmer_withdraw`
-
--- From the answer of `table::ready`: a refusal is by one of its grounds, with a P that fits.
-module _ (letters : List ℕ) (k m room : ℕ) (bytes : List ℕ) (r : Checked)
-    (e : of_checked r ≡ outcome (ready_ground letters k m room bytes) (settings_of letters k m)) where
-  pub ready_refuses : (f : Refusal) → r ≡ Bad f → ready_ground letters k m room bytes ≡ Some (ground_of f)
-  ready_refuses f g = refused_is (ground_of f) (settings_of letters k m) (ready_ground letters k m room bytes) (sym (ap of_checked g) ∙ e)
-
-  pub ready_fits : (f : Refusal) → r ≡ Bad f → (ground_of f).1 < 2 ^ 32
-  ready_fits f g = omega (arith, ready_small letters k m room bytes (ground_of f) (ready_refuses f g))
 
 module _ (letters : List ℕ) (k m : ℕ) (t : List ℕ) (c : Call) (old : List ℕ) where
   -- With room for the answer, the grounds are those of `table::call`.
@@ -91,10 +76,6 @@ module _ (letters : List ℕ) (k m : ℕ) (t : List ℕ) (c : Call) (old : List 
       let behind-ready = later_none (ready_ground letters k m (length t) (call_file c).bytes) _ e in
       room_enough (length old) 5 (nowhere_met 7 _ (first_none (ground_at 7 (too_short (length old) 5)) _ behind-ready))
 
-  kept : (f : Ground) → into_ground letters k m t c (length old) ≡ Some f → (x : ℕ) → x ≡ returned_with_place (refused f)
-      → CallsInto letters k m t c old x t old
-  kept f e x h = record { returns = rw e h; table_left = rw e; answer_left = rw e }
-
   -- No call changes the table's length.
   pub as_long : {r : ℕ} {t' new : List ℕ} → CallsInto letters k m t c old r t' new → length t' ≡ length t
   as_long A = ap length A.table_left ∙ go (into_ground letters k m t c (length old))
@@ -103,34 +84,40 @@ module _ (letters : List ℕ) (k m : ℕ) (t : List ℕ) (c : Call) (old : List 
       go None = length_changes (per_window c) (places letters k m (call_file c)) t
       go (Some f) = refl
 
+  -- The P of a refusal fits beside its number.
+  pub told_fits : {answer : Outcome ℕ} {t' new : List ℕ} → AnswersInto letters k m t c old answer t' new → PlaceFits answer
+  told_fits A = answer_fits (into_ground letters k m t c (length old)) 5 16777216 A.answers (into_small letters k m t c (length old)) (omega arith)
+
+  kept : (f : Ground) → into_ground letters k m t c (length old) ≡ Some f → AnswersInto letters k m t c old (refused f) t old
+  kept f e = record { answers = rw e; table_left = rw e; answer_left = rw e }
+
   -- Before the file is read.
   module _ (file : File) (of : call_file c ≡ file) where
-    pub into_bad : (f : Refusal) → ready_ground letters k m (length t) file.bytes ≡ Some (ground_of f) → (x : ℕ)
-        → x ≡ returned_with_place (refused (ground_of f)) → CallsInto letters k m t c old x t old
+    pub into_bad : (x : Settings) (f : Ground) → refused f ≡ outcome (ready_ground letters k m (length t) file.bytes) x → AnswersInto letters k m t c old (refused f) t old
     unfolding into_ground
-    into_bad f e x h = kept (ground_of f) (rw (of, e)) x h
+    into_bad x f e = kept f (rw (of, refused_is f x _ e))
 
-    pub into_short : ready_ground letters k m (length t) file.bytes ≡ None → length old < 5 → (x : ℕ) → x ≡ returned_with_place (refused (7, 5))
-        → CallsInto letters k m t c old x t old
+    pub into_short : (x : Settings) {st : Settings} → given st ≡ outcome (ready_ground letters k m (length t) file.bytes) x → length old < 5
+        → AnswersInto letters k m t c old (refused (7, 5)) t old
     unfolding into_ground
-    into_short ready h x e = kept (7, 5) (rw (of, ready, lt-ltb (length old) 5 h)) x e
+    into_short x e h = kept (7, 5) (rw (of, (passed x _ e).none_applies_lem, lt-ltb (length old) 5 h))
 
-  module _ (room : 5 ≤ length old) (answer : Outcome Numbers) (t' : List ℕ) (A : Called letters k m t c answer t') where
-    pub into_refused : (f : Refusal) → answer ≡ refused (ground_of f) → (x : ℕ) → x ≡ returned_with_place (refused (ground_of f))
-        → CallsInto letters k m t c old x t' old
-    into_refused f e x h =
-        let is = refused_is (ground_of f) _ (table_ground letters k m t c) (sym e ∙ A.answers) in
+  module _ (room : 5 ≤ length old) {t' : List ℕ} where
+    pub into_refused : (f : Ground) → Called letters k m t c (refused f) t' → AnswersInto letters k m t c old (refused f) t' old
+    into_refused f A =
+        let is = refused_is f _ (table_ground letters k m t c) A.answers in
         record {
-          returns = rw (same_ground room, is) h;
+          answers = rw (same_ground room, is);
           table_left = rw (same_ground room) A.leaves;
           answer_left = rw (same_ground room, is);
         }
 
-    pub into_taken : (n : Numbers) → answer ≡ given n → (new : List ℕ) → new ≡ five_numbers n ++ drop 5 old → CallsInto letters k m t c old 5 t' new
-    into_taken n e new w =
-        let p = passed (file_numbers (rank_in letters) k (call_file c)) (table_ground letters k m t c) (sym e ∙ A.answers) in
+    pub into_taken : (n : Numbers) → Called letters k m t c (given n) t' → {new : List ℕ} → new ≡ five_numbers n ++ drop 5 old
+        → AnswersInto letters k m t c old (given 5) t' new
+    into_taken n A w =
+        let p = passed (file_numbers (rank_in letters) k (call_file c)) (table_ground letters k m t c) A.answers in
         record {
-          returns = rw (same_ground room, p.none_applies_lem);
+          answers = rw (same_ground room, p.none_applies_lem);
           table_left = rw (same_ground room) A.leaves;
           answer_left = rw (same_ground room, p.none_applies_lem) (w ∙ ap (λ (x : Numbers). five_numbers x ++ drop 5 old) p.value);
         }

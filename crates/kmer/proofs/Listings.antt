@@ -1,8 +1,5 @@
 -- The P of a refused listing is below 2^32: it is the number of classes or the length of a listing, both bounded.
-use mathlib.Core.List.{List}
-use Prim.Native.Nat.{ℕ}
-use native.Mathlib.Omega.{arith}
-use lib.ListN.{length}
+use Rattle.std.proofs.Common.{List, ℕ, arith, length}
 use Rattle.settings.specs.Grounds.{ground_at, too_short}
 use Rattle.settings.proofs.FirstGround.{Small, place_small, then_small, room_small}
 use Rattle.tally_book.specs.Table.{clear_ground}

@@ -1,12 +1,7 @@
 -- Loading from C: what `kmer_load` returns and leaves is what a load answers and leaves (`load_from_c`), of which the theorems stand in the crate loading; lists of
 -- `kmer_add` and `kmer_withdraw` calls after it start from the loaded counts (`kept_from_loaded_c`); P is told whole of every text shorter than 2^55 bytes
 -- (`load_told`); and the two round trips of the C calls (`loads_what_was_listed_c`, `lists_what_was_loaded_c`).
-use mathlib.Core.Path.{◌≡◌, refl, ap, ◌∙◌}
-use Rattle.std.specs.Prelude.{Option, None, Some}
-use mathlib.Core.List.{List}
-use Prim.Native.Nat.{ℕ, ◌-◌, ◌^◌, ◌≤◌, ◌<◌, min}
-use native.Mathlib.Omega.{arith}
-use lib.ListN.{length, take}
+use Rattle.std.proofs.Common.{◌≡◌, refl, ap, ◌∙◌, Option, None, Some, List, ℕ, ◌-◌, ◌^◌, ◌≤◌, ◌<◌, min, arith, length, take}
 use Rattle.settings.specs.Grounds.{Ground, Outcome, given, outcome, ◌or_else◌}
 use Rattle.settings.proofs.Outcomes.{first_none}
 use Rattle.settings.proofs.FirstGround.{Small, then_small}

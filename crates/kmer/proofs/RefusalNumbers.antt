@@ -1,11 +1,6 @@
 -- The numbers of the refusals that each C call gives, as include/kmer.h lists them: 3 is none of them. "Refusal 3 then never occurs" (document 02,
 -- K10). From the definitions of the calls' grounds; kmer_clear's are `clear_numbers_lem` of tally_book, kmer_load's `load_numbers_lem` of loading.
-use mathlib.Core.Path.{refl}
-use mathlib.Core.Bool.{not}
-use mathlib.Core.List.{List, [], ◌∷◌}
-use Prim.Native.Nat.{ℕ}
-use lib.Dec.{ltb}
-use lib.ListN.{length}
+use Rattle.std.proofs.Common.{refl, not, List, [], ◌∷◌, ℕ, ltb, length}
 use Rattle.laws.specs.Windows.{windows}
 use Rattle.settings.specs.Grounds.{ground, ground_at, too_short, ◌or_else◌}
 use Rattle.settings.specs.Settings.{is_in, mirror_of, classes, settings_ground, RefusedOnlyBy}

@@ -1,7 +1,7 @@
 -- Demand 3 as a C program has it, through `kmer_clear`, `kmer_add` and `kmer_withdraw`. Here it is stated; proofs/DemandThree.antt has the theorems.
-use Rattle.std.specs.Prelude.{◌≡◌, Bool, true, cond, ℕ, ltb, length, drop}
+use Rattle.std.specs.Prelude.{◌≡◌, Bool, true, cond, ℕ, ltb, length, drop, List, [], ◌∷◌, ◌++◌, map}
 use Rattle.std.specs.Option.{unwrap_or}
-use mathlib.Core.List.{List, [], ◌∷◌, ◌++◌, map, zip_with, Forall₂}
+use mathlib.Core.List.{zip_with, Forall₂}
 use Rattle.settings.specs.Grounds.{Outcome, given, refused}
 use Rattle.fasta.specs.declared.Numbers.{Numbers}
 use Rattle.tally_book.specs.Table.{class_count, ready_ground, Call, call_file}

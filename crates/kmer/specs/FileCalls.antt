@@ -1,7 +1,6 @@
 -- Document 01, "Sequence file (FASTA)" and "Grounds for refusing", and document 02, K1 and K4: what clearing a table, and adding and withdrawing a file
 -- of either kind, through the C calls return and leave. The file's five numbers go into a lent list of 64-bit numbers.
-use Rattle.std.specs.Prelude.{◌≡◌, List, ℕ, length}
-use Rattle.std.specs.Prelude.{Option}
+use Rattle.std.specs.Prelude.{◌≡◌, List, ℕ, length, Option}
 use Rattle.settings.specs.Grounds.{Ground, Outcome, ground_at, too_short, outcome, unless_refused, overwritten, ◌or_else◌}
 use Rattle.settings.specs.Settings.{rank_in}
 use Rattle.files.specs.File.{File, file_fault, file_numbers}

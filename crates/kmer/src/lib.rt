@@ -7,7 +7,9 @@ ghost use Rattle.std.specs.Prelude.{◌≡◌};
 ghost use Rattle.files.specs.File.{file_of};
 ghost use Rattle.counts.specs.Calls.{call_of};
 ghost use Rattle.returned.specs.FileNumbers.{kind_of_number};
-ghost use Rattle.kmer.specs.FileCalls.{ClearsInto, CallsInto, AddsInto, WithdrawsInto};
+ghost use Rattle.settings.specs.Grounds.{outcome_of};
+ghost use Rattle.kmer.specs.FileCalls.{ClearsInto, AddsInto, WithdrawsInto};
+ghost use Rattle.kmer.specs.Needs.{AnswersInto};
 ghost use Rattle.encoding.specs.Calls.{coding};
 ghost use Rattle.words.specs.Answers.{WritesWord, WritesMirror};
 ghost use Rattle.returned.specs.Returned.{returned, returned_with_place, Returns};
@@ -18,11 +20,9 @@ ghost use Rattle.sequence.specs.Sequences.{FillsCodes};
 ghost use Rattle.testload.specs.TestLoad.{test_load, Generates};
 
 use counts::Way;
-use fasta::Answer;
 use files::Kind;
 use ranks::Code;
-use settings::{Checked, Filling, Refusal};
-use words::Coding;
+use settings::Refusal;
 
 // The code of a word. What a C program needs to know of each call is in include/kmer.h.
 #[unsafe(no_mangle)]
@@ -30,8 +30,8 @@ pub extern "C" fn kmer_code(letters: &[u8], k: usize, mirror: u64, word: &[u8]) 
     ensures { result ≡ returned (coding letters.now k mirror word.now) }
 {
     match words::code_of(letters, k, mirror, word) {
-        Coding::Coded(q) => q.0,
-        Coding::Refused(f) => returned::refused(f),
+        Ok(q) => q.0,
+        Err(f) => returned::refused(f),
     }
 }
 
@@ -41,8 +41,8 @@ pub extern "C" fn kmer_word(letters: &[u8], k: usize, mirror: u64, code: u64, ou
     ensures { Returns returned (λ answer. WritesWord letters.now k mirror code out.old answer out.new) result }
 {
     match words::word_of(letters, k, mirror, Code(code), out) {
-        Filling::Filled(n) => n as u64,
-        Filling::Unfilled(f) => returned::refused(f),
+        Ok(n) => n as u64,
+        Err(f) => returned::refused(f),
     }
 }
 
@@ -88,8 +88,8 @@ pub extern "C" fn kmer_classes(letters: &[u8], k: usize, mirror: u64) -> u64
     ensures { result ≡ returned (class_counting letters.now k mirror) }
 {
     match settings::check(letters, k, mirror) {
-        Checked::Good(settings) => settings.classes,
-        Checked::Bad(f) => returned::refused(f),
+        Ok(settings) => settings.classes,
+        Err(f) => returned::refused(f),
     }
 }
 
@@ -111,25 +111,17 @@ fn call_into(
     kind: Kind,
     file: &[u8],
     answer: &mut [u64],
-) -> u64
-    ensures { CallsInto letters.now k mirror table.old (call_of way (file_of kind file.now)) answer.old result
+) -> Result<usize, Refusal>
+    ensures { AnswersInto letters.now k mirror table.old (call_of way (file_of kind file.now)) answer.old (outcome_of result)
         table.new answer.new }
 {
-    match table::ready(letters, k, mirror, table.len(), file) {
-        Checked::Bad(f) => returned::refused_at(f),
-        Checked::Good(_) => {
-            if answer.len() < 5 {
-                return returned::refused_at(Refusal::ShortBuffer(5));
-            }
-            match table::call(way, letters, k, mirror, table, kind, file) {
-                Answer::Refused(f) => returned::refused_at(f),
-                Answer::Taken(n) => {
-                    returned::write_numbers(n, answer);
-                    5
-                }
-            }
-        }
+    table::ready(letters, k, mirror, table.len(), file)?;
+    if answer.len() < 5 {
+        return Err(Refusal::ShortBuffer(5));
     }
+    let numbers = table::call(way, letters, k, mirror, table, kind, file)?;
+    returned::write_numbers(numbers, answer);
+    Ok(5)
 }
 
 // Adds a file to a table; `fastq` names its kind.
@@ -146,16 +138,9 @@ pub extern "C" fn kmer_add(
     ensures { AddsInto letters.now k mirror table.old (file_of (kind_of_number fastq) file.now) answer.old result
         table.new answer.new }
 {
-    call_into(
-        Way::In,
-        letters,
-        k,
-        mirror,
-        table,
-        returned::kind_of_number(fastq),
-        file,
-        answer,
-    )
+    let kind = returned::kind_of_number(fastq);
+    let told = call_into(Way::In, letters, k, mirror, table, kind, file, answer);
+    returned::with_place(told)
 }
 
 // Withdraws a file from a table; `fastq` names its kind.
@@ -172,16 +157,9 @@ pub extern "C" fn kmer_withdraw(
     ensures { WithdrawsInto letters.now k mirror table.old (file_of (kind_of_number fastq) file.now) answer.old result
         table.new answer.new }
 {
-    call_into(
-        Way::Out,
-        letters,
-        k,
-        mirror,
-        table,
-        returned::kind_of_number(fastq),
-        file,
-        answer,
-    )
+    let kind = returned::kind_of_number(fastq);
+    let told = call_into(Way::Out, letters, k, mirror, table, kind, file, answer);
+    returned::with_place(told)
 }
 
 // The listing of a table.
@@ -210,8 +188,8 @@ pub extern "C" fn kmer_load(
     ensures { LoadsInto letters.now k mirror text.now table.old result table.new }
 {
     match loader::load(letters, k, mirror, table, text) {
-        Filling::Filled(n) => n as u64,
-        Filling::Unfilled(f) => returned::refused_up_to(f),
+        Ok(n) => n as u64,
+        Err(f) => returned::refused_up_to(f),
     }
 }
 

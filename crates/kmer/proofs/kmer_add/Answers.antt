@@ -1,6 +1,6 @@
--- `kmer::kmer_add` meets its contract: the number names the kind, and `call_into` adds the file of that kind.
+-- `kmer::kmer_add` meets its contract: the P of a refused call fits beside its number.
+use Rattle.kmer.proofs.FileCalls.{told_fits}
 use Rattle.kmer.proofs.kmer_add.Goals as goal
 
-pub returns : goal.returns
-returns c =
-    rw c.kind_of_number.ensures at c.call_into.ensures
+pub with_place-requires : goal.with_place-requires
+with_place-requires c = told_fits _ _ _ _ _ _ c.call_into-told.ensures
