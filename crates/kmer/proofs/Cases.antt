@@ -15,6 +15,7 @@ use Rattle.tally_book.specs.Table.{windows_of_file, full, too_many, ready_ground
 use Rattle.tally_book.specs.Book.{same_word, same_class, hits, with_front, all_words, canonical_ones, cleared_book, some_of}
 use Rattle.kmer.specs.FileCalls.{into_ground}
 use Rattle.kmer.specs.Demand.{Asked, short_answer, with_room, table_calls, book_told}
+use Rattle.settings.specs.Given.{the_settings}
 
 abbrev read : File
 read = file_of Fasta (bytes ">a\nACGTN\n")
@@ -33,14 +34,14 @@ unfolding with_room
 with_room_lem = refl
 
 -- It is refused 7 with P 5; it would be 7 with P 10 on a table of nine places, one too few, and 4 with k 0.
-short_list : (short_answer (bytes "ACGT") 2 1 10 (withdraw read) ≡ refused (7, 5)) × (short_answer (bytes "ACGT") 2 1 9 (withdraw read) ≡ refused (7, 10))
-    × (short_answer (bytes "ACGT") 0 1 10 (withdraw read) ≡ refused (4, 0))
+short_list : (short_answer (the_settings (bytes "ACGT") 2 1) 10 (withdraw read) ≡ refused (7, 5)) × (short_answer (the_settings (bytes "ACGT") 2 1) 9 (withdraw read) ≡ refused (7, 10))
+    × (short_answer (the_settings (bytes "ACGT") 0 1) 10 (withdraw read) ≡ refused (4, 0))
 unfolding ready_ground settings_ground good_letters different_capitals is_capital is_in is_odd half_up classes bad_size too_long too_many
 short_list = (refl, refl, refl)
 
 -- What the book tells of the three: 2^63 + 5 * 256 + 7 is the refusal, whose list is as it was lent. It took nothing out, else the last
 -- call were refused 18.
-three_told : book_told (bytes "ACGT") 2 1 cleared_book three
+three_told : book_told (the_settings (bytes "ACGT") 2 1) cleared_book three
     ≡ record { number = 5; list = 1 ∷ 5 ∷ 1 ∷ 1 ∷ 3 ∷ 9 ∷ [] }
     ∷ record { number = 9223372036854777095; list = 9 ∷ 9 ∷ 9 ∷ 9 ∷ [] }
     ∷ record { number = 5; list = 1 ∷ 5 ∷ 1 ∷ 1 ∷ 3 ∷ [] }
@@ -51,9 +52,9 @@ unfolding book_told call_ground ready_ground settings_ground good_letters differ
 three_told = refl
 
 -- "the table before others", and the list before the file's bytes: a stray byte is told where the list has room.
-stray_byte : (into_ground (bytes "ACGT") 2 1 (replicate 9 0) (add (file_of Fasta (bytes ">a\nAC-"))) 4 ≡ Some (7, 10))
-    × (into_ground (bytes "ACGT") 2 1 (replicate 10 0) (add (file_of Fasta (bytes ">a\nAC-"))) 4 ≡ Some (7, 5))
-    × (into_ground (bytes "ACGT") 2 1 (replicate 10 0) (add (file_of Fasta (bytes ">a\nAC-"))) 5 ≡ Some (10, 5))
+stray_byte : (into_ground (the_settings (bytes "ACGT") 2 1) (replicate 9 0) (add (file_of Fasta (bytes ">a\nAC-"))) 4 ≡ Some (7, 10))
+    × (into_ground (the_settings (bytes "ACGT") 2 1) (replicate 10 0) (add (file_of Fasta (bytes ">a\nAC-"))) 4 ≡ Some (7, 5))
+    × (into_ground (the_settings (bytes "ACGT") 2 1) (replicate 10 0) (add (file_of Fasta (bytes ">a\nAC-"))) 5 ≡ Some (10, 5))
 unfolding into_ground ready_ground settings_ground good_letters different_capitals is_capital is_in is_odd half_up classes bad_size too_long too_many fault_from
     items_from item next line_item is_letter lf_next
 stray_byte = (refl, refl, refl)

@@ -15,17 +15,18 @@ use Rattle.returned.specs.FileNumbers.{five_numbers}
 use Rattle.kmer.specs.FileCalls.{into_ground, CallsInto}
 use Rattle.kmer.specs.Demand.{Asked, Told, FileCalls}
 use Rattle.kmer.specs.Copies.{AskedAlike}
+use Rattle.settings.specs.Given.{the_settings}
 
 module _ (letters : List ℕ) (reads : reads_u_as_t letters ≡ true) (k m : ℕ) where
   module _ {c d : Call} (C : CallCopy c d) where
-    same_ground : (t : List ℕ) (room : ℕ) → into_ground letters k m t c room ≡ into_ground letters k m t d room
+    same_ground : (t : List ℕ) (room : ℕ) → into_ground (the_settings letters k m) t c room ≡ into_ground (the_settings letters k m) t d room
     unfolding into_ground
     same_ground t room =
         let file = copied_file C in
         rw (same_last letters reads k m C t, same_ready_ground letters k file m (length t), same_file_fault file)
 
     -- Of one call, with a lent list of any length.
-    pub copy_called_into : {t lent t' u' new new' : List ℕ} {r r' : ℕ} → CallsInto letters k m t c lent r t' new → CallsInto letters k m t d lent r' u' new'
+    pub copy_called_into : {t lent t' u' new new' : List ℕ} {r r' : ℕ} → CallsInto (the_settings letters k m) t c lent r t' new → CallsInto (the_settings letters k m) t d lent r' u' new'
         → (r ≡ r') × (new ≡ new') × (t' ≡ u')
     copy_called_into {t} {lent} A B =
         let ground = same_ground t (length lent) in
@@ -37,15 +38,15 @@ module _ (letters : List ℕ) (reads : reads_u_as_t letters ≡ true) (k m : ℕ
         )
 
   call_alike : (t : List ℕ) (c d : Asked) (a b : Told) (t' u' : List ℕ) → AskedAlike c d
-      → CallsInto letters k m t c.call c.lent a.number t' a.list
-      → CallsInto letters k m t d.call d.lent b.number u' b.list
+      → CallsInto (the_settings letters k m) t c.call c.lent a.number t' a.list
+      → CallsInto (the_settings letters k m) t d.call d.lent b.number u' b.list
       → (a ≡ b) × (t' ≡ u')
   call_alike t c d a b t' u' C A B =
-      let other : CallsInto letters k m t d.call c.lent b.number u' b.list = rw C.1 B in
+      let other : CallsInto (the_settings letters k m) t d.call c.lent b.number u' b.list = rw C.1 B in
       let (number, list, table) = copy_called_into C.0 A other in
       (ap₂ (λ (x : ℕ) (l : List ℕ). record { number = x; list = l }) number list, table)
 
   pub copies_from_c : {asked asked' : List Asked} → Forall₂ AskedAlike asked asked'
-      → {t t' u' : List ℕ} {told told' : List Told} → FileCalls letters k m t asked told t' → FileCalls letters k m t asked' told' u'
+      → {t t' u' : List ℕ} {told told' : List Told} → FileCalls (the_settings letters k m) t asked told t' → FileCalls (the_settings letters k m) t asked' told' u'
       → (told ≡ told') × (t' ≡ u')
   copies_from_c = same_calls _ AskedAlike call_alike

@@ -8,13 +8,14 @@ use Rattle.listing.specs.Needs.{longest}
 use Rattle.listing.proofs.Lengths.{SmallCounts}
 use Rattle.listing.proofs.ListingAnswers.{listing-fits}
 use Rattle.kmer.proofs.Refusals.{clear_small}
+use Rattle.settings.specs.Given.{the_settings}
 
 -- The P of a refused listing is at most 1,375,731,823 (`longest`), where each count is a 32-bit number.
-pub listing-small : (letters : List ℕ) (k m : ℕ) (table : List ℕ) (room : ℕ) → SmallCounts table → Small (longest 16777216) (listing_ground letters k m table room)
+pub listing-small : (letters : List ℕ) (k m : ℕ) (table : List ℕ) (room : ℕ) → SmallCounts table → Small (longest 16777216) (listing_ground (the_settings letters k m) table room)
 unfolding listing_ground
 listing-small letters k m table room small =
-    let needed = length (listing letters k m table) in
-    then_small (longest 16777216) (clear_ground letters k m (length table)) (ground_at 7 (too_short room needed))
+    let needed = length (listing (the_settings letters k m) table) in
+    then_small (longest 16777216) (clear_ground (the_settings letters k m) (length table)) (ground_at 7 (too_short room needed))
     (λ f e. omega (arith, clear_small letters k m (length table) f e))
     (λ passed. place_small (longest 16777216) 7 (too_short room needed)
     (λ p e. omega (arith, room_small room needed p e, listing-fits letters k m table passed small)))

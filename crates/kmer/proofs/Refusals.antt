@@ -13,6 +13,7 @@ use Rattle.sequence.specs.Sequences.{sequence_ground}
 use Rattle.settings.specs.Limits.{too_long}
 use Rattle.tally_book.specs.Table.{class_count, too_many, clear_ground}
 use Rattle.testload.specs.TestLoad.{generate_ground}
+use Rattle.settings.specs.Given.{the_settings}
 
 -- ---- the P of a refused mirroring is at most 62
 
@@ -26,13 +27,13 @@ foreign_small letters n (b ∷ bs) p e = go (rank_in letters b) (foreign_small l
     go None ih f = let z : n ≡ p = cc in omega arith
     go (Some rank) ih f = omega (arith, ih f)
 
-pub mirror-small : (letters : List ℕ) (k m : ℕ) (word : List ℕ) (room : ℕ) → Small 62 (mirror_ground letters k m word room)
+pub mirror-small : (letters : List ℕ) (k m : ℕ) (word : List ℕ) (room : ℕ) → Small 62 (mirror_ground (the_settings letters k m) word room)
 unfolding mirror_ground
 mirror-small letters k m word room =
     let g5 = ground 5 (wrong_length k word) in
     let g7 = ground_at 7 (too_short room k) in
     let g9 = ground_at 9 (foreign_from letters 0 word) in
-    then_small 62 (settings_ground letters k m) (g5 or_else g7 or_else g9) (settings_small letters k m 62)
+    then_small 62 (settings_ground (the_settings letters k m)) (g5 or_else g7 or_else g9) (settings_small letters k m 62)
     (λ passed.
     let k-small = (good_settings letters k m passed).short_k in
     then_small 62 g5 (g7 or_else g9) (test_small 62 5 (wrong_length k word))
@@ -45,13 +46,13 @@ mirror-small letters k m word room =
 
 -- After the settings' grounds come ground 6 by some test, and ground 7, where what is needed is at most 16,777,216 if the test fails.
 pub sizes_small : (letters : List ℕ) (k m : ℕ) (large : Bool) (room needed : ℕ)
-    → (settings_ground letters k m ≡ None → ground 6 large ≡ None → needed ≤ 16777216)
-    → Small 16777216 (settings_ground letters k m or_else ground 6 large or_else ground_at 7 (too_short room needed))
+    → (settings_ground (the_settings letters k m) ≡ None → ground 6 large ≡ None → needed ≤ 16777216)
+    → Small 16777216 (settings_ground (the_settings letters k m) or_else ground 6 large or_else ground_at 7 (too_short room needed))
 sizes_small letters k m large room needed fits =
     sizes_has (PlaceUpTo 16777216) letters k m large room needed (omega arith) (omega arith) (omega arith) (omega arith)
     (λ passed few p e. omega (arith, room_small room needed p e, fits passed few))
 
-pub sequence_small : (letters : List ℕ) (k m : ℕ) (sequence : List ℕ) (room : ℕ) → Small 16777216 (sequence_ground letters k m sequence room)
+pub sequence_small : (letters : List ℕ) (k m : ℕ) (sequence : List ℕ) (room : ℕ) → Small 16777216 (sequence_ground (the_settings letters k m) sequence room)
 unfolding sequence_ground too_long
 sequence_small letters k m sequence room =
     sizes_small letters k m (too_long sequence) room (length (windows k sequence))
@@ -59,12 +60,12 @@ sequence_small letters k m sequence room =
     let some_k = (good_settings letters k m passed).some_k in
     omega (arith, length-windows k some_k sequence, not_too_large (length sequence) short))
 
-pub clear_small : (letters : List ℕ) (k m room : ℕ) → Small 16777216 (clear_ground letters k m room)
+pub clear_small : (letters : List ℕ) (k m room : ℕ) → Small 16777216 (clear_ground (the_settings letters k m) room)
 unfolding clear_ground too_many
 clear_small letters k m room =
-    sizes_small letters k m (too_many (class_count letters k m)) room (class_count letters k m) (λ _ few. not_too_large (class_count letters k m) few)
+    sizes_small letters k m (too_many (class_count (the_settings letters k m))) room (class_count (the_settings letters k m)) (λ _ few. not_too_large (class_count (the_settings letters k m)) few)
 
-pub generate_small : (letters : List ℕ) (k m : ℕ) (text : List ℕ) (room : ℕ) → Small 16777216 (generate_ground letters k m text room)
+pub generate_small : (letters : List ℕ) (k m : ℕ) (text : List ℕ) (room : ℕ) → Small 16777216 (generate_ground (the_settings letters k m) text room)
 unfolding generate_ground too_long
 generate_small letters k m text room =
     sizes_small letters k m (ltb 16777216 (length text)) room (length text) (λ _ short. not_too_large (length text) short)

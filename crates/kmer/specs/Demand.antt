@@ -10,6 +10,7 @@ use Rattle.tally_book.specs.Demand.{Calls, TableCalls, Kept, DemandThree, SameCo
 use Rattle.returned.specs.Returned.{returned_with_place}
 use Rattle.returned.specs.FileNumbers.{five_numbers}
 use Rattle.kmer.specs.FileCalls.{CallsInto}
+use Rattle.settings.specs.Given.{Given}
 
 -- ---- a list of calls
 
@@ -25,8 +26,8 @@ pub record Told : Type 0 where
   pub list : List ℕ
 
 -- A list of such calls with the same settings, each on the table that the call before left.
-abbrev pub FileCalls : (letters : List ℕ) (k mirror : ℕ) → (t : List ℕ) (asked : List Asked) (told : List Told) (t' : List ℕ) → Type 0
-FileCalls letters k m = Calls (λ (t : List ℕ) (c : Asked) (a : Told) (t' : List ℕ). CallsInto letters k m t c.call c.lent a.number t' a.list)
+abbrev pub FileCalls : (settings : Given) → (t : List ℕ) (asked : List Asked) (told : List Told) (t' : List ℕ) → Type 0
+FileCalls settings = Calls (λ (t : List ℕ) (c : Asked) (a : Told) (t' : List ℕ). CallsInto settings t c.call c.lent a.number t' a.list)
 
 -- What a call tells of its answer: 5, with the file's five numbers in the first places of the list; or the refusal with its P as one number, and the
 -- list is as it was lent.
@@ -41,12 +42,12 @@ is_short c = ltb (length c.lent) 5
 
 -- The answer to a call with such a list: it is refused by the first of the grounds before the list's own, which read the settings, the file's length and the
 -- table's; and where none of them applies by 7, "a lent buffer too short; P is the length needed, the table before others".
-abbrev pub short_answer : (letters : List ℕ) (k mirror places : ℕ) → Call → Outcome Numbers
-short_answer letters k m places c = refused (unwrap_or (ready_ground letters k m places (call_file c).bytes) (7, 5))
+abbrev pub short_answer : (settings : Given) (places : ℕ) → Call → Outcome Numbers
+short_answer settings places c = refused (unwrap_or (ready_ground settings places (call_file c).bytes) (7, 5))
 
 -- An answer that is this one, if the call's list is too short.
-abbrev pub RefusedIfShort : (letters : List ℕ) (k mirror places : ℕ) → Asked → Outcome Numbers → Type 0
-RefusedIfShort letters k m places c answer = is_short c ≡ true → answer ≡ short_answer letters k m places c.call
+abbrev pub RefusedIfShort : (settings : Given) (places : ℕ) → Asked → Outcome Numbers → Type 0
+RefusedIfShort settings places c answer = is_short c ≡ true → answer ≡ short_answer settings places c.call
 
 -- Of a list with one element for each call, the elements for the calls whose lists have room.
 unfoldable pub with_room : {A : Type 0} → List Asked → List A → List A
@@ -62,39 +63,39 @@ table_calls asked = with_room asked (map (λ (c : Asked). c.call) asked)
 
 -- What the tally book tells of some calls, one after the other. It is "fed each add's arguments save the table", so the lent list too: where that is too short,
 -- it "answers the number and P that the rules for the grounds give, and no tally changes".
-unfoldable pub book_told : (letters : List ℕ) (k mirror : ℕ) → Book → List Asked → List Told
-book_told letters k m book [] = []
-book_told letters k m book (c ∷ asked) =
+unfoldable pub book_told : (settings : Given) → Book → List Asked → List Told
+book_told settings book [] = []
+book_told settings book (c ∷ asked) =
     cond (is_short c)
-    (told_by (short_answer letters k m (class_count letters k m) c.call) c ∷ book_told letters k m book asked)
-    (told_by (book_answer letters k m book c.call) c ∷ book_told letters k m (book_after letters k m book c.call) asked)
+    (told_by (short_answer settings (class_count settings) c.call) c ∷ book_told settings book asked)
+    (told_by (book_answer settings book c.call) c ∷ book_told settings (book_after settings book c.call) asked)
 
 -- What a list of such calls from the table t is: each call has an answer, and tells it. The calls whose lists have room are a list of adds and withdrawals of
 -- the same files on the same table. Each other call is refused and leaves the table; its grounds read no count, and no call changes the table's length.
-pub record AsTableCalls (letters : List ℕ) (k mirror : ℕ) (t t' : List ℕ) (asked : List Asked) (told : List Told) : Type 0 where
+pub record AsTableCalls (settings : Given) (t t' : List ℕ) (asked : List Asked) (told : List Told) : Type 0 where
   pub answers : List (Outcome Numbers)
   pub each_call_told_its_answer : told ≡ zip_with told_by answers asked
-  pub calls : TableCalls letters k mirror t (table_calls asked) (with_room asked answers) t'
-  pub each_short_list_refused : Forall₂ (RefusedIfShort letters k mirror (length t)) asked answers
+  pub calls : TableCalls settings t (table_calls asked) (with_room asked answers) t'
+  pub each_short_list_refused : Forall₂ (RefusedIfShort settings (length t)) asked answers
 
 -- Demand 3 for such a list, after a `kmer_clear` on t₀ that was not refused and left t: each call told what the book did, and the rest holds of the adds and
 -- withdrawals that the calls are.
-pub record DemandThreeFromC (letters : List ℕ) (k mirror : ℕ) (t₀ t t' : List ℕ) (asked : List Asked) (told : List Told) : Type 0 where
-  pub as_calls : AsTableCalls letters k mirror t t' asked told
-  pub each_call_told_what_the_book_did : told ≡ book_told letters k mirror cleared_book asked
-  pub demand_three : DemandThree letters k mirror t₀ t (table_calls asked) (with_room asked as_calls.answers) t'
+pub record DemandThreeFromC (settings : Given) (t₀ t t' : List ℕ) (asked : List Asked) (told : List Told) : Type 0 where
+  pub as_calls : AsTableCalls settings t t' asked told
+  pub each_call_told_what_the_book_did : told ≡ book_told settings cleared_book asked
+  pub demand_three : DemandThree settings t₀ t (table_calls asked) (with_room asked as_calls.answers) t'
 
 -- The same of such a list from any table t that agrees with a book.
-pub record KeptFromC (letters : List ℕ) (k mirror : ℕ) (book : Book) (t t' : List ℕ) (asked : List Asked) (told : List Told) : Type 0 where
-  pub as_calls : AsTableCalls letters k mirror t t' asked told
-  pub each_call_told_what_the_book_did : told ≡ book_told letters k mirror book asked
-  pub kept : Kept letters k mirror book t (table_calls asked) (with_room asked as_calls.answers) t'
+pub record KeptFromC (settings : Given) (book : Book) (t t' : List ℕ) (asked : List Asked) (told : List Told) : Type 0 where
+  pub as_calls : AsTableCalls settings t t' asked told
+  pub each_call_told_what_the_book_did : told ≡ book_told settings book asked
+  pub kept : Kept settings book t (table_calls asked) (with_room asked as_calls.answers) t'
 
 -- Two such lists, from the tables t and u: they are lists of adds and withdrawals, of which "Two such lists with the same settings leave the same counts exactly
 -- when .." is said.
-pub record SameCountsFromC (letters : List ℕ) (k mirror : ℕ) (t t' : List ℕ) (asked : List Asked) (told : List Told) (u u' : List ℕ)
+pub record SameCountsFromC (settings : Given) (t t' : List ℕ) (asked : List Asked) (told : List Told) (u u' : List ℕ)
     (asked' : List Asked) (told' : List Told) : Type 0 where
-  pub one : AsTableCalls letters k mirror t t' asked told
-  pub other : AsTableCalls letters k mirror u u' asked' told'
-  pub same_counts : SameCountsExactlyWhen letters k mirror (table_calls asked) (with_room asked one.answers) t'
+  pub one : AsTableCalls settings t t' asked told
+  pub other : AsTableCalls settings u u' asked' told'
+  pub same_counts : SameCountsExactlyWhen settings (table_calls asked) (with_room asked one.answers) t'
       (table_calls asked') (with_room asked' other.answers) u'

@@ -4,11 +4,12 @@ use Rattle.settings.specs.Grounds.{Outcome}
 use Rattle.listing.specs.Listing.{Lists}
 use Rattle.loading.specs.Loading.{Loads}
 use Rattle.returned.specs.Returned.{returned_with_place, returned_up_to, Returns}
+use Rattle.settings.specs.Given.{Given}
 
 -- The contract of `kmer_load`: P as far as it fits.
-abbrev pub LoadsInto : (letters : List ℕ) (k mirror : ℕ) (text t : List ℕ) (r : ℕ) (t' : List ℕ) → Type 0
-LoadsInto letters k m text t r t' = Returns returned_up_to (λ (answer : Outcome ℕ). Loads letters k m text t answer t') r
+abbrev pub LoadsInto : (settings : Given) (text t : List ℕ) (r : ℕ) (t' : List ℕ) → Type 0
+LoadsInto settings text t r t' = Returns returned_up_to (λ (answer : Outcome ℕ). Loads settings text t answer t') r
 
 -- The contract of `kmer_listing`.
-abbrev pub ListsInto : (letters : List ℕ) (k mirror : ℕ) (t old : List ℕ) (r : ℕ) (new : List ℕ) → Type 0
-ListsInto letters k m t old r new = Returns returned_with_place (λ (answer : Outcome ℕ). Lists letters k m t old answer new) r
+abbrev pub ListsInto : (settings : Given) (t old : List ℕ) (r : ℕ) (new : List ℕ) → Type 0
+ListsInto settings t old r new = Returns returned_with_place (λ (answer : Outcome ℕ). Lists settings t old answer new) r

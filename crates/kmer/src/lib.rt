@@ -4,9 +4,10 @@
 #![tactic(auto)]
 
 ghost use Rattle.std.specs.Prelude.{◌≡◌};
-ghost use Rattle.files.specs.File.{file_of};
+ghost use Rattle.files.specs.File.{file_of, as_file};
 ghost use Rattle.counts.specs.Calls.{call_of};
 ghost use Rattle.returned.specs.FileNumbers.{kind_of_number};
+ghost use Rattle.settings.specs.Given.{the_settings, as_given};
 ghost use Rattle.settings.specs.Grounds.{outcome_of};
 ghost use Rattle.kmer.specs.FileCalls.{ClearsInto, AddsInto, WithdrawsInto};
 ghost use Rattle.kmer.specs.Needs.{AnswersInto};
@@ -20,16 +21,17 @@ ghost use Rattle.sequence.specs.Sequences.{FillsCodes};
 ghost use Rattle.testload.specs.TestLoad.{test_load, Generates};
 
 use counts::Way;
-use files::Kind;
+use files::SequenceFile;
 use ranks::Code;
-use settings::Refusal;
+use settings::{Refusal, Settings};
 
 // The code of a word. What a C program needs to know of each call is in include/kmer.h.
 #[unsafe(no_mangle)]
 pub extern "C" fn kmer_code(letters: &[u8], k: usize, mirror: u64, word: &[u8]) -> u64
-    ensures { result ≡ returned (coding letters.now k mirror word.now) }
+    ensures { result ≡ returned (coding (the_settings letters.now k mirror) word.now) }
 {
-    match words::code_of(letters, k, mirror, word) {
+    let settings = Settings { letters, k, mirror };
+    match words::code_of(&settings, word) {
         Ok(q) => q.0,
         Err(f) => returned::refused(f),
     }
@@ -38,9 +40,10 @@ pub extern "C" fn kmer_code(letters: &[u8], k: usize, mirror: u64, word: &[u8]) 
 // The canonical word of a code.
 #[unsafe(no_mangle)]
 pub extern "C" fn kmer_word(letters: &[u8], k: usize, mirror: u64, code: u64, out: &mut [u8]) -> u64
-    ensures { Returns returned (λ answer. WritesWord letters.now k mirror code out.old answer out.new) result }
+    ensures { Returns returned (λ answer. WritesWord (the_settings letters.now k mirror) code out.old answer out.new) result }
 {
-    match words::word_of(letters, k, mirror, Code(code), out) {
+    let settings = Settings { letters, k, mirror };
+    match words::word_of(&settings, Code(code), out) {
         Ok(n) => n as u64,
         Err(f) => returned::refused(f),
     }
@@ -55,9 +58,10 @@ pub extern "C" fn kmer_mirror(
     word: &[u8],
     out: &mut [u8],
 ) -> u64
-    ensures { Returns returned_with_place (λ answer. WritesMirror letters.now k mirror word.now out.old answer out.new) result }
+    ensures { Returns returned_with_place (λ answer. WritesMirror (the_settings letters.now k mirror) word.now out.old answer out.new) result }
 {
-    returned::with_place(words::mirror_of(letters, k, mirror, word, out))
+    let settings = Settings { letters, k, mirror };
+    returned::with_place(words::mirror_of(&settings, word, out))
 }
 
 // The codes of all windows along a sequence.
@@ -69,15 +73,16 @@ pub extern "C" fn kmer_codes(
     sequence: &[u8],
     codes: &mut [u64],
 ) -> u64
-    ensures { Returns returned_with_place (λ answer. FillsCodes letters.now k mirror sequence.now codes.old answer codes.new) result }
+    ensures { Returns returned_with_place (λ answer. FillsCodes (the_settings letters.now k mirror) sequence.now codes.old answer codes.new) result }
 {
-    returned::with_place(sequence::codes(letters, k, mirror, sequence, codes))
+    let settings = Settings { letters, k, mirror };
+    returned::with_place(sequence::codes(&settings, sequence, codes))
 }
 
 // The same for ACGT under complement, by two-bit numbers.
 #[unsafe(no_mangle)]
 pub extern "C" fn kmer_codes_two_bit(k: usize, sequence: &[u8], codes: &mut [u64]) -> u64
-    ensures { Returns returned_with_place (λ answer. FillsCodes (bytes "ACGT") k 1 sequence.now codes.old answer codes.new) result }
+    ensures { Returns returned_with_place (λ answer. FillsCodes (the_settings (bytes "ACGT") k 1) sequence.now codes.old answer codes.new) result }
 {
     returned::with_place(sequence::codes_two_bit(k, sequence, codes))
 }
@@ -85,10 +90,11 @@ pub extern "C" fn kmer_codes_two_bit(k: usize, sequence: &[u8], codes: &mut [u64
 // The number of classes.
 #[unsafe(no_mangle)]
 pub extern "C" fn kmer_classes(letters: &[u8], k: usize, mirror: u64) -> u64
-    ensures { result ≡ returned (class_counting letters.now k mirror) }
+    ensures { result ≡ returned (class_counting (the_settings letters.now k mirror)) }
 {
-    match settings::check(letters, k, mirror) {
-        Ok(settings) => settings.classes,
+    let settings = Settings { letters, k, mirror };
+    match settings.check() {
+        Ok(checked) => checked.classes,
         Err(f) => returned::refused(f),
     }
 }
@@ -96,30 +102,27 @@ pub extern "C" fn kmer_classes(letters: &[u8], k: usize, mirror: u64) -> u64
 // Clears a table.
 #[unsafe(no_mangle)]
 pub extern "C" fn kmer_clear(letters: &[u8], k: usize, mirror: u64, table: &mut [u32]) -> u64
-    ensures { ClearsInto letters.now k mirror table.old result table.new }
+    ensures { ClearsInto (the_settings letters.now k mirror) table.old result table.new }
 {
-    returned::with_place(table::clear(letters, k, mirror, table))
+    let settings = Settings { letters, k, mirror };
+    returned::with_place(table::clear(&settings, table))
 }
 
 // An add or a withdrawal of a file of a kind; the file's five numbers go into the answer list, whose own ground 7 comes after the table's.
 fn call_into(
     way: Way,
-    letters: &[u8],
-    k: usize,
-    mirror: u64,
+    settings: &Settings,
     table: &mut [u32],
-    kind: Kind,
-    file: &[u8],
+    file: &SequenceFile,
     answer: &mut [u64],
 ) -> Result<usize, Refusal>
-    ensures { AnswersInto letters.now k mirror table.old (call_of way (file_of kind file.now)) answer.old (outcome_of result)
-        table.new answer.new }
+    ensures { AnswersInto (as_given settings.now) table.old (call_of way (as_file file.now)) answer.old (outcome_of result) table.new answer.new }
 {
-    table::ready(letters, k, mirror, table.len(), file)?;
+    table::ready(settings, table.len(), file.bytes)?;
     if answer.len() < 5 {
         return Err(Refusal::ShortBuffer(5));
     }
-    let numbers = table::call(way, letters, k, mirror, table, kind, file)?;
+    let numbers = table::call(way, settings, table, file)?;
     returned::write_numbers(numbers, answer);
     Ok(5)
 }
@@ -135,12 +138,15 @@ pub extern "C" fn kmer_add(
     file: &[u8],
     answer: &mut [u64],
 ) -> u64
-    ensures { AddsInto letters.now k mirror table.old (file_of (kind_of_number fastq) file.now) answer.old result
+    ensures { AddsInto (the_settings letters.now k mirror) table.old (file_of (kind_of_number fastq) file.now) answer.old result
         table.new answer.new }
 {
-    let kind = returned::kind_of_number(fastq);
-    let told = call_into(Way::In, letters, k, mirror, table, kind, file, answer);
-    returned::with_place(told)
+    let settings = Settings { letters, k, mirror };
+    let file = SequenceFile {
+        kind: returned::kind_of_number(fastq),
+        bytes: file,
+    };
+    returned::with_place(call_into(Way::In, &settings, table, &file, answer))
 }
 
 // Withdraws a file from a table; `fastq` names its kind.
@@ -154,12 +160,15 @@ pub extern "C" fn kmer_withdraw(
     file: &[u8],
     answer: &mut [u64],
 ) -> u64
-    ensures { WithdrawsInto letters.now k mirror table.old (file_of (kind_of_number fastq) file.now) answer.old result
+    ensures { WithdrawsInto (the_settings letters.now k mirror) table.old (file_of (kind_of_number fastq) file.now) answer.old result
         table.new answer.new }
 {
-    let kind = returned::kind_of_number(fastq);
-    let told = call_into(Way::Out, letters, k, mirror, table, kind, file, answer);
-    returned::with_place(told)
+    let settings = Settings { letters, k, mirror };
+    let file = SequenceFile {
+        kind: returned::kind_of_number(fastq),
+        bytes: file,
+    };
+    returned::with_place(call_into(Way::Out, &settings, table, &file, answer))
 }
 
 // The listing of a table.
@@ -171,9 +180,10 @@ pub extern "C" fn kmer_listing(
     table: &[u32],
     text: &mut [u8],
 ) -> u64
-    ensures { ListsInto letters.now k mirror table.now text.old result text.new }
+    ensures { ListsInto (the_settings letters.now k mirror) table.now text.old result text.new }
 {
-    returned::with_place(listing::list(letters, k, mirror, table, text))
+    let settings = Settings { letters, k, mirror };
+    returned::with_place(listing::list(&settings, table, text))
 }
 
 // Loads a listing into a table.
@@ -185,9 +195,10 @@ pub extern "C" fn kmer_load(
     table: &mut [u32],
     text: &[u8],
 ) -> u64
-    ensures { LoadsInto letters.now k mirror text.now table.old result table.new }
+    ensures { LoadsInto (the_settings letters.now k mirror) text.now table.old result table.new }
 {
-    match loader::load(letters, k, mirror, table, text) {
+    let settings = Settings { letters, k, mirror };
+    match loader::load(&settings, table, text) {
         Ok(n) => n as u64,
         Err(f) => returned::refused_up_to(f),
     }
@@ -204,8 +215,9 @@ pub extern "C" fn kmer_generate(
     letters_each: usize,
     out: &mut [u8],
 ) -> u64
-    ensures { Returns returned_with_place (λ answer. Generates letters.now k mirror (test_load letters.now start records letters_each) out.old answer out.new) result }
+    ensures { Returns returned_with_place (λ answer. Generates (the_settings letters.now k mirror) (test_load letters.now start records letters_each) out.old answer out.new) result }
 {
-    let answer = generator::generate(letters, k, mirror, start, records, letters_each, out);
+    let settings = Settings { letters, k, mirror };
+    let answer = generator::generate(&settings, start, records, letters_each, out);
     returned::with_place(answer)
 }
