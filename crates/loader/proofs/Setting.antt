@@ -1,6 +1,6 @@
 -- The counts of a listing set one by one, as `set_counts` sets them. From the laws of lines and the steps of the crate loading.
 use Rattle.std.proofs.Common.{◌≡◌, sym, ap, ◌∙◌, true, false, List, [], ℕ, suc, ◌+◌, length, drop, set, length-set, Option, None, Some, arith}
-use denote.Ref.{Bor}
+use Rattle.std.specs.Borrow.{Bor}
 use Rattle.settings.specs.Grounds.{Ground}
 use Rattle.tally_book.specs.Table.{class_count}
 use Rattle.settings.specs.Given.{Given}

@@ -9,7 +9,7 @@ use Rattle.loading.specs.Shapes.{is_count_line, is_total_line}
 use Rattle.loading.specs.declared.Next.{Next}
 use Rattle.loading.specs.declared.Next.TheVariants.{Survey, CountOrTotal, Nothing}
 use Rattle.loading.specs.Loading.{code_in, count_in, next_after, line_fault, text_fault, loaded_counts}
-use denote.Ref.{Bor}
+use Rattle.std.specs.Borrow.{Bor}
 use Rattle.lines.specs.Lines.{lines}
 
 -- Good settings with few enough classes for a table.

@@ -59,6 +59,7 @@ fn write_total(out: &mut [u8], sum: u64) -> usize
 fn is_total_of(line: &[u8], sum: u64) -> bool
     ensures { result ≡ same_text line.now (total_line sum) }
 {
+    // Stays: no heap, so the total is written to places of this function; it has at most 29 bytes.
     let mut buffer = [0u8; 32];
     let n = write_total(&mut buffer, sum);
     line == &buffer[..n]
@@ -91,6 +92,7 @@ impl<'a> Judge<'a> {
         ensures { (result.code.0 ≡ code_in (as_given self.now.settings) line.now)
             × (result.canonical ≡ canonical_in (as_given self.now.settings) line.now) }
     {
+        // Stays: no heap; a word within the limits has at most 62 letters.
         let mut places = [0u64; 64];
         let word = &line[7..7 + self.settings.k];
         let ranks = word_ranks(&self.ranks, word, &mut places);
@@ -148,6 +150,7 @@ impl<'a> Judge<'a> {
     fn is_own_survey(&self, line: &[u8]) -> bool
         ensures { result ≡ same_text line.now (survey_line (as_given self.now.settings)) }
     {
+        // Stays: no heap, so the line is written to places of this function; within the limits it has at most 83 bytes.
         let mut buffer = [0u8; 128];
         let n = self.write_survey(&mut buffer);
         line == &buffer[..n]

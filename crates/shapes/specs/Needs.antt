@@ -1,6 +1,6 @@
 -- What functions ask of each other; no sentence of document 02 rests on it.
 use Rattle.std.specs.Prelude.{◌≡◌, false, List, ◌++◌, ℕ, length, Option, None, Some}
-use denote.Ref.{Bor}
+use Rattle.std.specs.Borrow.{Bor}
 use Rattle.loading.specs.Shapes.{same_text, inner}
 
 -- What stands in a text between a front and a back, with that front and back.
