@@ -78,7 +78,7 @@ module _ {s : ℕ} {m : Mirror} {k : ℕ} {pw d : List ℕ} {j : ℕ} {t : Windo
         behind = rw z;
       }
 
-  pub digit_fits : (x q i : ℕ) → x < s → q ≡ s ^ i → suc i ≤ k → x * q < 2 ^ 64
+  digit_fits : (x q i : ℕ) → x < s → q ≡ s ^ i → suc i ≤ k → x * q < 2 ^ 64
   digit_fits x q i h e g = rw e (omega (arith, mul-le-mul_right (s ^ i) h, pow-suc s i, power_fits W.input (suc i) g))
 
   pub first_le : (x q : ℕ) → 4 ≤ k → q ≡ s ^ (k - 3) → x ≡ get_or d (j + 1) 0 → (x < s) × (x * q ≤ t.forward)
@@ -92,6 +92,16 @@ module _ {s : ℕ} {m : Mirror} {k : ℕ} {pw d : List ℕ} {j : ℕ} {t : Windo
     rw g (mirror_lt (j + k - 2) (omega (arith, W.inside))),
     rw (g, e) (back_is s m two d W.input.ranks j k t.back (j + k - 2) h W.inside refl W.behind).0,
   )
+
+  pub first_fits : {x : ℕ} → 4 ≤ k → x ≡ get_or d (j + 1) 0 → x * get_or pw (k - 3) 0 < 2 ^ 64
+  first_fits {x} h e =
+      let power : get_or pw (k - 3) 0 ≡ s ^ (k - 3) = W.input.table.at (k - 3) (omega arith) in
+      digit_fits x _ _ (first_le x _ h power e).0 power (omega arith)
+
+  pub last_fits : {x : ℕ} → 4 ≤ k → x ≡ mirror_rank s m (get_or d (j + k - 2) 0) → x * get_or pw (k - 3) 0 < 2 ^ 64
+  last_fits {x} h e =
+      let power : get_or pw (k - 3) 0 ≡ s ^ (k - 3) = W.input.table.at (k - 3) (omega arith) in
+      digit_fits x _ _ (last_le x _ h power e).0 power (omega arith)
 
   pub within_long : (e f b q x y : ℕ) → 4 ≤ k → e ≡ t.palindromes / s → q ≡ s ^ (k - 3) → x ≡ get_or d (j + 1) 0 → y ≡ mirror_rank s m (get_or d (j + k - 2) 0)
       → f ≡ (t.forward - x * q) / s

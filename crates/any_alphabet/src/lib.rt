@@ -172,6 +172,7 @@ impl AnyAlphabet<'_> {
         let mut w = outer;
         let mut closing: u64 = 0;
         let mut scale: u64 = 1;
+        // Stays: no index is counted, the window itself gets two letters shorter at each turn.
         while 2 <= w.length {
             let l = rank_at(self.ranks, w.at);
             let r = self.mirror_rank_at(w.at + w.length - 1);

@@ -16,6 +16,9 @@ pub fn mirror_table() -> [u8; 256]
     MIRRORS
 }
 
+// Stays: the table's rule is asked in three contracts. A struct around this one array would be no plainer: who lends it on, `TwoBit`, has it among other fields with
+// the rule as its own.
+
 // The table's entry for the lowest byte of x, which is the plain rank of the mirror of the four lowest letters.
 fn mirror_of_four(x: u64, mirrors: &[u8; 256]) -> u64
     requires { MirrorTable mirrors.now }

@@ -11,6 +11,7 @@ const NO_CODE: u64 = u64::MAX;
 
 // The ranks of some bytes; the answer is whether all of them are letters. For a byte that is none a rank must stand too, since the kernels take nothing else: 0. The
 // windows of such a byte are blanked afterwards.
+// Stays: the flag beside what is written. The ranks are as needed whether all bytes are letters or not.
 pub fn read_ranks(bytes: &[u8], table: &RankTable, ranks: &mut [u8]) -> bool
     requires { length ranks.old ≡ length bytes.now }
     ensures ranks_after { ranks.new ≡ ranks_by (rank_by_table table.now) bytes.now }

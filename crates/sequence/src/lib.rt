@@ -41,11 +41,7 @@ fn fill_list(
 }
 
 // The general path: every alphabet and both mirrors.
-pub fn codes(
-    settings: &Settings,
-    sequence: &[u8],
-    list: &mut [u64],
-) -> Result<usize, Refusal>
+pub fn codes(settings: &Settings, sequence: &[u8], list: &mut [u64]) -> Result<usize, Refusal>
     ensures { FillsCodes (as_given settings.now) sequence.now list.old (outcome_of result) list.new }
 {
     fill_list(settings, Kernel::AnyAlphabet, sequence, list)

@@ -7,7 +7,7 @@ use Rattle.encoding.specs.WordsOfCodes.{word_of_plain}
 use Rattle.encoding.proofs.Plain.{word_of_plain-plain}
 use Rattle.ranks.specs.Needs.{part}
 use Rattle.ranks.proofs.WordParts.{ranks_at, ranks_part, length_part}
-use Rattle.windows.proofs.Lasts.{lasts, last_at}
+use Rattle.windows.proofs.Lasts.{lasts, last_at, last_inside}
 use Rattle.windows.proofs.Parts.{part_lt, plain_more, plain_first}
 use Rattle.two_bit.proofs.TwoRanks.{four_fits}
 
@@ -57,16 +57,35 @@ module _ (k : ℕ) (some : 1 ≤ k) (d : List ℕ) (ranks : Ranks 4 d) where
           let place : j + k - 1 ≡ j + (k - 1) = omega arith in
           next ∙ rw (rolled.low, last_at k d some j, place) (sym (ap (λ (n : ℕ). plain 4 (part j n d)) k_is ∙ plain_more 4 j (k - 1) d (omega arith)))
 
-      pub window_below : y < 4 ^ k
+      window_below : y < 4 ^ k
       window_below = rw window_rank (part_lt 4 j k d ranks inside)
 
       -- The word with that plain rank is the window.
-      pub window_is : word_of_plain 4 k y ≡ part j k d
+      window_is : word_of_plain 4 k y ≡ part j k d
       window_is =
           let two : 1 < 4 = omega arith in
           ap (word_of_plain 4 k) window_rank ∙ word_of_plain-plain 4 k (part j k d) two (length_part j k d inside) (ranks_part 4 j k d ranks)
 
-      pub rolled_next : Rolled k d (j + 1) y
+      rolled_next : Rolled k d (j + 1) y
       rolled_next =
           let split = window_rank ∙ ap (λ (n : ℕ). plain 4 (part j n d)) k_is ∙ plain_first 4 j (k - 1) d (omega arith) in
           record { low = rw (split, add-one j) (digits_mod (get_or d j 0) (part_lt 4 (suc j) (k - 1) d ranks (omega arith))) }
+
+-- What a turn of the loop over the last letters has, j being the window's place and y what it rolled on to.
+pub record Step (k : ℕ) (d : List ℕ) (j y : ℕ) : Type 0 where
+  pub inside : j + k ≤ length d
+  pub below : y < 4 ^ k
+  pub word : word_of_plain 4 k y ≡ part j k d
+  pub rolled : Rolled k d (j + 1) y
+
+pub step : {k : ℕ} {d : List ℕ} → 1 ≤ k → Ranks 4 d → k ≤ length d → {j x y : ℕ} → j < length (lasts k d) → Rolled k d j x
+    → y ≡ x % 4 ^ (k - 1) * 4 + get_or (lasts k d) j 0
+    → Step k d j y
+step {k} {d} some ranks long {j} {x} turn rolled next =
+    let inside : j + k ≤ length d = last_inside k d some long turn in
+    record {
+      inside = inside;
+      below = window_below k some d ranks j inside x rolled next;
+      word = window_is k some d ranks j inside x rolled next;
+      rolled = rolled_next k some d ranks j inside x rolled next;
+    }

@@ -35,6 +35,8 @@ struct Ordered {
     differing: u64,
 }
 
+// Stays: that a shift is by less than 64 bits is asked of i in each of the next three; a type of its own for a number of letters below 32 would be no plainer.
+
 // 4^i, a bit in the place of the letter i.
 fn power_of_four(i: u64) -> u64
     requires { i < 32 }
