@@ -4,7 +4,7 @@ use Rattle.std.proofs.Common.{◌≡◌, refl, sym, ap, ◌∙◌, true, ◌||�
 use Rattle.std.specs.Option.{unwrap_or}
 use Rattle.settings.specs.Grounds.{Ground, Outcome, given, refused, ground_at, too_short, outcome, unless_refused, ◌or_else◌}
 use Rattle.settings.specs.Settings.{rank_in}
-use Rattle.settings.specs.declared.Settings.{Settings}
+use Rattle.settings.specs.declared.Checked.{Checked}
 use Rattle.settings.proofs.Outcomes.{refused_is, passed, first_none, later_none, nowhere_met, room_enough}
 use Rattle.settings.proofs.FirstGround.{PlaceUpTo, Small, test_small, place_small, then_small, room_small}
 use Rattle.fasta.specs.declared.Numbers.{Numbers}
@@ -94,11 +94,11 @@ module _ (letters : List ℕ) (k m : ℕ) (t : List ℕ) (c : Call) (old : List 
 
   -- Before the file is read.
   module _ (file : File) (of : call_file c ≡ file) where
-    pub into_bad : (x : Settings) (f : Ground) → refused f ≡ outcome (ready_ground (the_settings letters k m) (length t) file.bytes) x → AnswersInto (the_settings letters k m) t c old (refused f) t old
+    pub into_bad : (x : Checked) (f : Ground) → refused f ≡ outcome (ready_ground (the_settings letters k m) (length t) file.bytes) x → AnswersInto (the_settings letters k m) t c old (refused f) t old
     unfolding into_ground
     into_bad x f e = kept f (rw (of, refused_is f x _ e))
 
-    pub into_short : (x : Settings) {st : Settings} → given st ≡ outcome (ready_ground (the_settings letters k m) (length t) file.bytes) x → length old < 5
+    pub into_short : (x : Checked) {st : Checked} → given st ≡ outcome (ready_ground (the_settings letters k m) (length t) file.bytes) x → length old < 5
         → AnswersInto (the_settings letters k m) t c old (refused (7, 5)) t old
     unfolding into_ground
     into_short x e h = kept (7, 5) (rw (of, (passed x _ e).none_applies_lem, lt-ltb (length old) 5 h))

@@ -3,4 +3,4 @@ use Rattle.kmer.proofs.FileCalls.{told_fits}
 use Rattle.kmer.proofs.kmer_withdraw.Goals as goal
 
 pub with_place-requires : goal.with_place-requires
-with_place-requires c = told_fits _ _ _ _ _ _ c.call_into-told.ensures
+with_place-requires c = told_fits _ _ _ _ _ _ c.call_into.ensures
