@@ -6,7 +6,7 @@ use Rattle.encoding.specs.Words.{Ranks, plain}
 use Rattle.encoding.specs.WordsOfCodes.{word_of_plain}
 use Rattle.encoding.proofs.Plain.{word_of_plain-plain}
 use Rattle.ranks.specs.Needs.{part}
-use Rattle.ranks.proofs.WordParts.{ranks_at, ranks_part, length_part}
+use Rattle.ranks.proofs.WordParts.{ranks_part, length_part}
 use Rattle.windows.proofs.Lasts.{lasts, last_at, last_inside}
 use Rattle.windows.proofs.Parts.{part_lt, plain_more, plain_first}
 use Rattle.two_bit.proofs.TwoRanks.{four_fits}
@@ -48,9 +48,6 @@ module _ (k : ℕ) (some : 1 ≤ k) (d : List ℕ) (ranks : Ranks 4 d) where
   rolled_first long ahead = record { low = rw ahead (mod-eq_of_lt (part_lt 4 0 (k - 1) d ranks (omega arith))) }
 
   module _ (j : ℕ) (inside : j + k ≤ length d) where
-    pub last_below : get_or (lasts k d) j 0 < 4
-    last_below = rw (last_at k d some j) (ranks_at 4 d (j + k - 1) ranks (omega arith))
-
     module _ (x : ℕ) {y : ℕ} (rolled : Rolled k d j x) (next : y ≡ x % 4 ^ (k - 1) * 4 + get_or (lasts k d) j 0) where
       window_rank : y ≡ plain 4 (part j k d)
       window_rank =
