@@ -17,7 +17,14 @@ const INDEX: &str = "\n## Index of names\n";
 const WORDS: [&str; 2] = ["requires", "returns"];
 
 /// The specs files of what functions below the calls ask of each other.
-const APART: [&str; 5] = ["/Needs.antt", "/RankTables.antt", "/Kernels.antt", "/Coders.antt", "/Ordered.antt"];
+const APART: [&str; 6] = [
+    "/Needs.antt",
+    "/RankTables.antt",
+    "/Kernels.antt",
+    "/Coders.antt",
+    "/Ordered.antt",
+    "any_alphabet/specs/Windows.antt",
+];
 
 /// What stands between backticks in a text, in order.
 fn quoted(text: &str) -> Vec<&str> {
