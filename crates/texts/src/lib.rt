@@ -8,8 +8,8 @@ ghost use Rattle.texts.specs.Decimals.{decimal};
 // A lent buffer and the place reached in it, both of which fit 64 bits. Bytes that the buffer has no place for are counted and not written.
 #[derive(Drop)]
 pub struct Writer<'a> {
-    out: &'a mut [u8],
-    at: usize,
+    pub out: &'a mut [u8],
+    pub at: usize,
     ghost counted: { at ≤ 18446744073709551615 },
     ghost bounded: { length out.now ≤ 18446744073709551615 },
 }
