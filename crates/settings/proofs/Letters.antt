@@ -1,15 +1,17 @@
 -- The test of the letters by what is left of them: one turn of the loop of `good_letters`, and what good letters are.
-use mathlib.Core.Path.{◌≡◌, refl, sym, ap}
-use Prim.Native.Nat.{ℕ, ◌+◌, ◌<◌, ◌≤◌}
+use mathlib.Core.Path.{◌≡◌, refl, sym, ap, ◌∙◌}
+use Prim.Native.Nat.{ℕ, ◌+◌, ◌<◌, ◌≤◌, min}
+use native.Mathlib.Omega.{arith}
 use native.Mathlib.Numerals.{add-one}
 use mathlib.Core.Bool.{Bool, true, false, and-false, and-eq-true_iff, ◌&&◌, ◌||◌}
 use mathlib.Core.List.{List, [], ◌∷◌}
 use lib.ListN.{length, get_or, drop, drop_of_length-le}
 use lib.Seq.{drop-cons}
 use lib.Dec.{leb, eqb}
-use Rattle.std.specs.List.{list_any}
+use Rattle.std.specs.List.{list_any, between}
+use Rattle.std.proofs.lemmas.Slice.{between_to_end}
 use Rattle.std.specs.Char.{is_ascii_uppercase}
-use borrow.Author.Tests.{le-leb, lt-leb, leb-true}
+use borrow.Author.Tests.{le-leb, lt-leb, leb-true, leb-false}
 use Rattle.settings.specs.Settings.{is_in, is_capital, different_capitals, good_letters}
 
 -- Whether b is in a list, as std's `contains` searches for it.
@@ -17,6 +19,16 @@ pub any_is_in : (b : ℕ) (ls : List ℕ) → list_any (λ x. eqb x b) ls ≡ is
 unfolding is_in
 any_is_in b [] = refl
 any_is_in b (l ∷ ls) = ap (λ (t : Bool). eqb l b || t) (any_is_in b ls)
+
+-- The letters from a place on, as a slice from it or from their end, whichever comes first.
+pub left_from : (l : List ℕ) (from : ℕ) {m : ℕ} → m ≡ min from (length l) → between m (length l) l ≡ drop from l
+left_from l from {m} e =
+    between_to_end l m (length l) (omega arith) ∙ go (leb from (length l)) refl
+  where
+    go : (b : Bool) → leb from (length l) ≡ b → drop m l ≡ drop from l
+    go true h = ap (λ (i : ℕ). drop i l) (omega (arith, e, leb-true from (length l) h))
+    go false h =
+        drop_of_length-le l (omega (arith, e, leb-false from (length l) h)) ∙ sym (drop_of_length-le l (omega (arith, leb-false from (length l) h)))
 
 -- A capital, as std tests it.
 pub uppercase_capital : (b : ℕ) → is_ascii_uppercase b ≡ is_capital b

@@ -3,7 +3,7 @@
 
 #![tactic(auto)]
 
-ghost use Rattle.std.specs.Prelude.{◌≡◌, ◌==◌, ◌^◌, ◌<◌, ◌≤◌, ltb, min, length, position};
+ghost use Rattle.std.specs.Prelude.{◌≡◌, ◌==◌, ◌^◌, ◌<◌, ◌≤◌, ltb, min, length, drop, position};
 ghost use Rattle.settings.specs.Given.{as_given};
 ghost use Rattle.settings.specs.Grounds.{ground_of, ground, outcome, outcome_of};
 ghost use Rattle.settings.specs.RankTables.{as_rank, rank_by_table, RanksOf};
@@ -141,7 +141,7 @@ pub struct Checked {
 fn reads_u_as_t(letters: &[u8]) -> bool
     ensures { result ≡ reads_u_as_t letters.now }
 {
-    is_in(letters, b'T') && !is_in(letters, b'U')
+    is_in(letters, 0, b'T') && !is_in(letters, 0, b'U')
 }
 
 // The capital that a byte is read as: its own, save that U is T where the letters have T and no U.
@@ -172,7 +172,7 @@ pub fn rank_of(letters: &[u8], b: u8) -> Option<usize>
 
 // The ranks of all bytes, made once a call so that no byte of a file or sequence is searched for among the letters: at a byte's place its rank, or 255 for
 // a byte that is no letter. A table of `Option`s would be twice as long.
-#[derive(Drop)]
+#[derive(Clone, Copy)]
 pub struct RankTable {
     pub bytes: [u8; 256],
 }
@@ -210,11 +210,11 @@ impl RankTable {
     }
 }
 
-// Whether b is one of the letters.
-pub fn is_in(letters: &[u8], b: u8) -> bool
-    ensures { result ≡ is_in b letters.now }
+// Whether b stands in the letters at the place from or later.
+pub fn is_in(letters: &[u8], from: usize, b: u8) -> bool
+    ensures { result ≡ is_in b (drop from letters.now) }
 {
-    letters.contains(&b)
+    letters[from.min(letters.len())..].contains(&b)
 }
 
 // Whether the letters are 2 to 16 different capitals. A longer slice is refused by its length alone.
@@ -225,7 +225,7 @@ fn good_letters(letters: &[u8]) -> bool
         return false;
     }
     for (i, &b) in letters.iter().enumerate() {
-        if !b.is_ascii_uppercase() || is_in(&letters[i + 1..], b) {
+        if !b.is_ascii_uppercase() || is_in(letters, i + 1, b) {
             return false;
         }
     }

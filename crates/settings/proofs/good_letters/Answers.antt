@@ -1,19 +1,8 @@
 -- `settings::good_letters` meets its contract: at each test what it shows of the letters that are left.
 use Rattle.settings.proofs.Letters.{uppercase_capital, no_capital, repeated, next_good, all_good, too_few, too_many_lem, some_letters}
-use mathlib.Core.Path.{◌≡◌, sym, ap, ◌∙◌}
-use mathlib.Core.List.{List}
-use Prim.Native.Nat.{ℕ, ◌+◌}
-use native.Mathlib.Omega.{arith}
-use lib.ListN.{length, drop}
-use Rattle.std.specs.List.{between}
-use Rattle.std.proofs.lemmas.Slice.{between_to_end}
-use Rattle.settings.specs.Settings.{is_in}
+use mathlib.Core.Path.{sym, ◌∙◌}
 use Rattle.settings.proofs.good_letters.Goals.{then-letters-lt2-via-then-letters-lt2, then-letters-lt2-via-else-letters-lt2+then-letters-gt16, then-not-is_ascii_uppercase-via-then-not-is_ascii_uppercase, then-not-is_ascii_uppercase-via-else-not-is_ascii_uppercase+then-is_in}
 use Rattle.settings.proofs.good_letters.Goals as goal
-
--- The letters behind one, as a slice to their end.
-rest : (l : List ℕ) (i b : ℕ) → is_in b (between (i + 1) (length l) l) ≡ is_in b (drop (i + 1) l)
-rest l i b = ap (λ (x : List ℕ). is_in b x) (between_to_end l (i + 1) (length l) (omega arith))
 
 pub returns-then-letters-lt2 : goal.returns-then-letters-lt2
 returns-then-letters-lt2 c = elim c.then-letters-lt2.branch [
@@ -29,14 +18,13 @@ returns-then-not-is_ascii_uppercase c = elim c.then-not-is_ascii_uppercase.branc
   | then-not-is_ascii_uppercase-via-then-not-is_ascii_uppercase w ↦
       no_capital _ _ c.loop-i-test.true (w.if-not-is_ascii_uppercase.ensures.value ∙ uppercase_capital _) ∙ sym c.loop-i.invariant
   | then-not-is_ascii_uppercase-via-else-not-is_ascii_uppercase+then-is_in w ↦
-      repeated _ _ c.loop-i-test.true (w.if-is_in.ensures ∙ rest c.args.letters.now c.loop-i.i _) ∙ sym c.loop-i.invariant
+      repeated _ _ c.loop-i-test.true w.if-is_in.ensures ∙ sym c.loop-i.invariant
 ]
 
 pub loop-i-preserved : goal.loop-i-preserved
 loop-i-preserved c =
     c.loop-i.invariant
-    ∙ next_good _ _ c.loop-i-test.true (c.if-not-is_ascii_uppercase.ensures.value ∙ uppercase_capital _)
-    (c.if-is_in.ensures ∙ rest c.args.letters.now c.loop-i.i _)
+    ∙ next_good _ _ c.loop-i-test.true (c.if-not-is_ascii_uppercase.ensures.value ∙ uppercase_capital _) c.if-is_in.ensures
 
 pub returns : goal.returns
 returns c = all_good _ _ c.loop-i-test.false ∙ sym c.loop-i.invariant
