@@ -27,7 +27,7 @@ pub enum Kernel {
 
 // What a kernel needs of good settings, made once a call: the number of letters, k, the mirror, the number of palindromes, the powers of s up to s^k,
 // the table of mirrors, and the rank of every byte.
-#[derive(Drop)]
+#[derive(Clone, Copy)]
 pub struct Coder {
     pub kernel: Kernel,
     pub s: u64,
