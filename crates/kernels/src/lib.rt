@@ -47,7 +47,7 @@ pub struct Coder {
 }
 
 // The powers of s up to s^k. It asks for good settings' s and k: as s is at least 2, k is at most 62, and as s^k is at most 2^62, no product wraps.
-fn power_table(s: u64, k: usize) -> [u64; 64]
+pub fn power_table(s: u64, k: usize) -> [u64; 64]
     requires lt_s { 1 < s }
     requires k_bound { s ^ k ≤ 2 ^ 62 }
     ensures { Powers s k result }
