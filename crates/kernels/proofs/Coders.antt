@@ -3,7 +3,7 @@ use Rattle.std.proofs.Common.{◌≡◌, ◌∙◌, subst, List, ℕ, ◌*◌, �
 use Rattle.laws.proofs.Powers.{exponent_le, four_pow}
 use Rattle.encoding.specs.Words.{Complement, Ranks}
 use Rattle.kernels.specs.declared.Kernel.TheVariants.{TwoBit}
-use Rattle.kernels.specs.declared.Coder.{Coder}
+use Rattle.kernels.specs.declared.RankCoder.{RankCoder}
 use Rattle.windows.specs.Windows.{window_codes}
 use Rattle.windows.specs.Needs.{Fills}
 use Rattle.two_bit.specs.Needs.{CountsPalindromes}
@@ -13,7 +13,7 @@ four_exponent k h =
     let e : 2 ^ (2 * k) ≤ 2 ^ 62 = rw (four_pow k) at h in
     omega (arith, exponent_le 2 (2 * k) (omega arith) e)
 
-module _ (c : Coder) (two : c.kernel ≡ TwoBit) where
+module _ (c : RankCoder) (two : c.kernel ≡ TwoBit) where
   taken : (c.s ≡ 4) × (c.mirror ≡ Complement)
   taken = c.takes two
 

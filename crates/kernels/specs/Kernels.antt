@@ -1,5 +1,5 @@
--- What the kernels ask of settings. No sentence of document 01 rests on it; the contracts of `kernels::Coder` do, which codes along a sequence, adding and
--- withdrawing a file use.
+-- What the kernels ask of settings. No sentence of document 01 rests on it; the contracts of `kernels::Coder` and `kernels::RankCoder` do, which codes along
+-- a sequence, adding and withdrawing a file use.
 use Rattle.std.specs.Prelude.{◌≡◌, List, ℕ, ◌≤◌, length}
 use Rattle.settings.specs.declared.Checked.{Checked}
 use Rattle.settings.specs.Settings.{settings_for}

@@ -1,6 +1,6 @@
 // From ranks to codes: the piece that codes along a sequence, adding and withdrawing a file share. A `Coder` has what either kernel needs of good settings,
-// made once a call; it takes a list of ranks and leaves the windows to one of the two kernels below. Callers cut what is too long for their arrays into pieces
-// that overlap by k - 1 letters.
+// made once a call; coding a list of ranks reads all of it but the ranks of bytes (`RankCoder`) and leaves the windows to one of the two kernels below. Callers
+// cut what is too long for their arrays into pieces that overlap by k - 1 letters.
 
 #![tactic(auto)]
 
@@ -46,6 +46,24 @@ pub struct Coder {
     pub ghost ranks_below: { RanksBelow s ranks },
 }
 
+// What of a coder a list of ranks is coded by: all but the ranks of bytes, its tables lent. Who has ranks already needs no table of the ranks of bytes.
+#[derive(Clone, Copy)]
+pub struct RankCoder<'a> {
+    pub kernel: Kernel,
+    pub s: u64,
+    pub k: usize,
+    pub mirror: Mirror,
+    pub palindromes: u64,
+    pub powers: &'a [u64; 64],
+    pub mirrors: &'a [u8; 256],
+    pub ghost limits: { Limits s k },
+    pub ghost some: { 1 ≤ k },
+    pub ghost count: { CountsPalindromes s mirror k palindromes },
+    pub ghost takes: { Takes kernel s mirror },
+    pub ghost powers_are: { Powers s k powers.now },
+    pub ghost mirrors_are: { MirrorTable mirrors.now },
+}
+
 // The powers of s up to s^k. It asks for good settings' s and k: as s is at least 2, k is at most 62, and as s^k is at most 2^62, no product wraps.
 pub fn power_table(s: u64, k: usize) -> [u64; 64]
     requires lt_s { 1 < s }
@@ -65,6 +83,38 @@ pub fn window_count(n: usize, k: usize) -> usize
     ensures { result ≡ n + 1 - k }
 {
     (n + 1).saturating_sub(k)
+}
+
+impl RankCoder<'_> {
+    // The codes of all windows of a list of ranks, from the start of a lent list, which has a place for each.
+    #[inline]
+    pub fn fill_codes(&self, ranks: &[u8], out: &mut [u64])
+        requires ranks { Ranks self.now.s ranks.now }
+        requires room { length ranks.now + 1 - self.now.k ≤ length out.old }
+        ensures { Fills (window_codes self.now.s self.now.mirror self.now.k ranks.now) out.old out.new }
+    {
+        match self.kernel {
+            Kernel::AnyAlphabet => {
+                let words = AnyAlphabet {
+                    s: self.s,
+                    k: self.k,
+                    mirror: self.mirror,
+                    palindromes: self.palindromes,
+                    powers: self.powers,
+                    ranks,
+                };
+                words.fill(out);
+            }
+            Kernel::TwoBit => {
+                let words = TwoBit {
+                    k: self.k as u64,
+                    palindromes: self.palindromes,
+                    mirrors: self.mirrors,
+                };
+                words.fill(ranks, out);
+            }
+        }
+    }
 }
 
 impl Coder {
@@ -94,26 +144,15 @@ impl Coder {
         requires room { length ranks.now + 1 - self.now.k ≤ length out.old }
         ensures { Fills (window_codes self.now.s self.now.mirror self.now.k ranks.now) out.old out.new }
     {
-        match self.kernel {
-            Kernel::AnyAlphabet => {
-                let words = AnyAlphabet {
-                    s: self.s,
-                    k: self.k,
-                    mirror: self.mirror,
-                    palindromes: self.palindromes,
-                    powers: &self.powers,
-                    ranks,
-                };
-                words.fill(out);
-            }
-            Kernel::TwoBit => {
-                let words = TwoBit {
-                    k: self.k as u64,
-                    palindromes: self.palindromes,
-                    mirrors: &self.mirrors,
-                };
-                words.fill(ranks, out);
-            }
-        }
+        let coder = RankCoder {
+            kernel: self.kernel,
+            s: self.s,
+            k: self.k,
+            mirror: self.mirror,
+            palindromes: self.palindromes,
+            powers: &self.powers,
+            mirrors: &self.mirrors,
+        };
+        coder.fill_codes(ranks, out);
     }
 }

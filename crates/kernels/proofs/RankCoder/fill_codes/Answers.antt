@@ -1,6 +1,6 @@
--- `Coder::fill_codes` meets its contract. By the contract of either kernel; the two-bit one takes four letters under complement (Coders).
+-- `RankCoder::fill_codes` meets its contract. By the contract of either kernel; the two-bit one takes four letters under complement (Coders).
 use Rattle.kernels.proofs.Coders.{two_bit_ranks, two_bit_small, two_bit_count, two_bit_codes}
-use Rattle.kernels.proofs.Coder.fill_codes.Goals as goal
+use Rattle.kernels.proofs.RankCoder.fill_codes.Goals as goal
 
 pub invariant_of-words-in-TwoBit-clause-small : goal.invariant_of-words-in-TwoBit-clause-small
 invariant_of-words-in-TwoBit-clause-small c = two_bit_small c.args.self.now c.in-TwoBit.is
