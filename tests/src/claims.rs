@@ -20,9 +20,9 @@ const WORDS: [&str; 2] = ["requires", "returns"];
 const APART: [&str; 6] = [
     "/Needs.antt",
     "/RankTables.antt",
-    "/Kernels.antt",
-    "/Coders.antt",
-    "/Ordered.antt",
+    "kernels/specs/Kernels.antt",
+    "kernels/specs/Coders.antt",
+    "two_bit/specs/Ordered.antt",
     "any_alphabet/specs/Windows.antt",
 ];
 
