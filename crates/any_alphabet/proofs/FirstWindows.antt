@@ -3,6 +3,7 @@
 use Rattle.std.proofs.Common.{◌≡◌, refl, sym, ◌∙◌, List, ℕ, suc, ◌+◌, ◌*◌, ◌^◌, ◌<◌, ◌≤◌, lt_of_lt_of_le, add-one, arith, length, get_or}
 use Rattle.encoding.specs.Words.{Mirror, Ranks, mirror_rank, mirror, plain}
 use Rattle.ranks.specs.Needs.{part}
+use Rattle.ranks.proofs.WordParts.{ranks_at}
 use Rattle.windows.proofs.Parts.{plain_more, part_lt, back_more, back_lt}
 
 pub record Opened (s : ℕ) (m : Mirror) (d : List ℕ) (j n u v i : ℕ) : Type 0 where
@@ -30,6 +31,9 @@ module _ {s : ℕ} {m : Mirror} {d : List ℕ} {j n u v i p x : ℕ} (L : Letter
 
   inside_more : j + suc i ≤ length d
   inside_more = omega (arith, L.inside)
+
+  pub open_lt : x < s
+  open_lt = rw x_is (ranks_at s d (j + i) L.ranks L.inside)
 
   ahead_more : u * s + x ≡ plain s (part j (suc i) d)
   ahead_more = rw (L.opened.ahead, x_is) (sym (plain_more s j i d L.inside))

@@ -78,7 +78,7 @@ module _ {s : ℕ} {m : Mirror} {k : ℕ} {pw d : List ℕ} {j : ℕ} {t : Windo
         behind = rw z;
       }
 
-  digit_fits : (x q i : ℕ) → x < s → q ≡ s ^ i → suc i ≤ k → x * q < 2 ^ 64
+  pub digit_fits : (x q i : ℕ) → x < s → q ≡ s ^ i → suc i ≤ k → x * q < 2 ^ 64
   digit_fits x q i h e g = rw e (omega (arith, mul-le-mul_right (s ^ i) h, pow-suc s i, power_fits W.input (suc i) g))
 
   pub first_le : (x q : ℕ) → 4 ≤ k → q ≡ s ^ (k - 3) → x ≡ get_or d (j + 1) 0 → (x < s) × (x * q ≤ t.forward)
@@ -170,6 +170,11 @@ module _ {s : ℕ} {m : Mirror} {k : ℕ} {pw d : List ℕ} {j : ℕ} {t : Windo
       sym (S.rest ∙ rw q (omega arith))
 
 -- ---- the next window
+
+-- The letter that enters it is a rank.
+pub entering_lt : {s : ℕ} {m : Mirror} {k : ℕ} {pw d : List ℕ} {j : ℕ} {t : Window} → Kept s m k pw d j t → j + k < length d
+    → {n y : ℕ} → n ≡ k - 2 → y ≡ get_or d (j + 1 + n) 0 → 1 ≤ k → y < s
+entering_lt {s} {d = d} {j = j} W more {n = n} en ey some = rw ey (ranks_at s d (j + 1 + n) W.input.ranks (omega arith))
 
 -- From the window at j to the next one: of its n inner letters x leaves, and y enters, as z on the mirror's side.
 pub record Entering (s : ℕ) (m : Mirror) (k : ℕ) (pw d : List ℕ) (j : ℕ) (t : Window) (n q x y z : ℕ) : Type 0 where

@@ -1,6 +1,6 @@
 -- The codes of all windows as they are written into a lent list. By two-bit numbers: one a turn from the first on. By the kernel for every alphabet: the
 -- first before the loop, then one a turn.
-use Rattle.std.proofs.Common.{◌≡◌, sym, ◌∙◌, List, ℕ, ◌+◌, ◌-◌, ◌<◌, ◌≤◌, arith, length, set}
+use Rattle.std.proofs.Common.{◌≡◌, sym, ◌∙◌, List, ℕ, ◌+◌, ◌-◌, ◌<◌, ◌≤◌, arith, length, set, length-set}
 use Rattle.laws.proofs.Buffers.{Written, written_none, written_first, written_next, written_rest, written_length, written_all}
 use Rattle.encoding.specs.Words.{Mirror}
 use Rattle.encoding.specs.Codes.{code}
@@ -20,6 +20,9 @@ module _ (s : ℕ) (m : Mirror) (k : ℕ) (some : 1 ≤ k) (d : List ℕ) where
   codes_none o room = written_none (window_codes s m k d) o (omega (arith, n_codes))
 
   module _ {o out : List ℕ} {j : ℕ} (W : Written (window_codes s m k d) o j out) where
+    pub codes_upto : j ≤ length d
+    codes_upto = omega (arith, n_codes, W.upto)
+
     pub codes_room : j + k ≤ length d → j < length out
     codes_room more = omega (arith, n_codes, written_length W, W.room)
 
@@ -55,6 +58,9 @@ module _ {s : ℕ} {m : Mirror} {k : ℕ} {d : List ℕ} (o : List ℕ) (x : ℕ
       let n = length_codes k F.some (code s m k) d in
       record { is = written_all (written_rest o x (omega arith) F.written) (omega (arith, F.inside)) }
 
+  pub filling_length : {out : List ℕ} {i : ℕ} → Filling s m k d (set o 0 x) out i → length out ≡ length o
+  filling_length F = written_length F.written ∙ length-set o 0 x
+
 module _ {s : ℕ} {m : Mirror} {k : ℕ} {d o out : List ℕ} {i : ℕ} (F : Filling s m k d o out i) where
   pub filling_next : (x : ℕ) → i + k < length d → x ≡ code s m k (part (i + 1) k d) → Filling s m k d o (set out (i + 1) x) (i + 1)
   filling_next x more e =
@@ -63,3 +69,7 @@ module _ {s : ℕ} {m : Mirror} {k : ℕ} {d o out : List ℕ} {i : ℕ} (F : Fi
         inside = omega arith;
         written = codes_next s m k F.some d F.written x (omega arith) e;
       }
+
+  -- There is room for the next code.
+  pub filling_room : i + k < length d → i + 1 < length out
+  filling_room more = codes_room s m k F.some d F.written (omega arith)
