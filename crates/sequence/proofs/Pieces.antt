@@ -40,13 +40,13 @@ pub record Batch (k n at end : ℕ) : Type 0 where
 pub batch_of : {k n at end : ℕ} → k ≤ 62 → at + k ≤ n → end ≡ min (at + 4096) n → Batch k n at end
 batch_of small more is = record { window = omega arith; inside = omega arith; few = omega arith }
 
--- The next one begins later, and not past the end.
-module _ {k n at end : ℕ} (some : 1 ≤ k) (B : Batch k n at end) where
-  pub batch_inside : end + 1 - k ≤ n
-  batch_inside = omega (arith, B.inside)
+-- The next one does not begin past the end.
+pub batch_inside : {k n at end : ℕ} → 1 ≤ k → Batch k n at end → end + 1 - k ≤ n
+batch_inside some B = omega (arith, B.inside)
 
-  pub batch_less : n + 1 - (end + 1 - k) < n + 1 - at
-  batch_less = omega (arith, B.inside, B.window)
+-- Where the next one begins later, fewer letters are left.
+pub batch_less : {n at next : ℕ} → at < next → next ≤ n → n + 1 - next < n + 1 - at
+batch_less later inside = omega arith
 
 module _ (f : List ℕ → ℕ) {k : ℕ} (some : 1 ≤ k) (w : List ℕ) where
   -- The numbers of the windows of a part are some of those of the whole.
@@ -80,6 +80,12 @@ module _ (f : List ℕ → ℕ) {k : ℕ} (some : 1 ≤ k) (w : List ℕ) where
         rw b at
         (written_more W (end - at + 1 - k) (take at list ++ (new ++ drop (length list - at) (drop at list))) fewer
         (ap (λ (r : List ℕ). take at list ++ r) (rw none (append-nil new) ∙ is)))
+
+    -- However the place of the next batch is worked out.
+    pub batch_on : (new : List ℕ) → Fills (map f (windows k (part at (end - at) w))) (take (length list - at) (drop at list)) new
+        → {next : ℕ} → next ≡ end + 1 - k
+        → Written (map f (windows k w)) o next (take at list ++ (new ++ drop (length list - at) (drop at list)))
+    batch_on new F is = rw is (batch_next new F)
 
     pub batch_from : at ≤ length list
     batch_from = omega (arith, W.upto, W.room, written_length W)
