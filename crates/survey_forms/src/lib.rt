@@ -4,7 +4,7 @@
 
 pub mod values; // the value of a form
 
-ghost use Rattle.std.specs.Prelude.{◌≡◌, Some, IfSome};
+ghost use Rattle.std.specs.Prelude.{◌≡◌, IfSome};
 ghost use Rattle.survey.specs.Needs.{Within, InARow};
 ghost use Rattle.survey.specs.Reading.{form_from, form_at, next_form};
 
@@ -47,13 +47,14 @@ pub fn form_at(input: &[u8], at: usize) -> Option<Form>
     }
 }
 
-// The form after a form, parted from it by one space.
+// The form after a form, parted from it by one space; there is none after no form.
 #[tactic(auto, unfolding(survey::specs::Reading::next_form))]
-pub fn next_form(input: &[u8], f: Form) -> Option<Form>
-    requires { Within input.now f }
-    ensures value { result ≡ next_form input.now (Some f) }
+pub fn next_form(input: &[u8], f: Option<Form>) -> Option<Form>
+    requires { IfSome f (Within input.now) }
+    ensures value { result ≡ next_form input.now f }
     ensures inside { IfSome result (Within input.now) }
 {
+    let f = f?;
     let end = f.from + f.len;
     if !starts(input, end, b") ") {
         return None;
@@ -66,7 +67,7 @@ pub fn three_forms(input: &[u8], at: usize) -> Option<(Form, Form, Form)>
     ensures { InARow input.now at result }
 {
     let first = form_at(input, at)?;
-    let second = next_form(input, first)?;
-    let third = next_form(input, second)?;
+    let second = next_form(input, Some(first))?;
+    let third = next_form(input, Some(second))?;
     Some((first, second, third))
 }
