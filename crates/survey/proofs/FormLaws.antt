@@ -8,7 +8,7 @@ use Rattle.survey.specs.declared.Name.TheVariants.{Letters, K, Mirror}
 use Rattle.survey.specs.declared.Form.{Form}
 use Rattle.survey.specs.Needs.{Within}
 use Rattle.survey.specs.Forms.{unclosed, line_of}
-use Rattle.survey.specs.Reading.{starts_with, stretch, value_byte, sized, read_form, form_of, form_from, form_at, next_form}
+use Rattle.survey.specs.Reading.{starts_with, stretch, value_byte, sized, read_form, form_of, form_from, form_at, next_form, line_end, head_of, line_from}
 use Rattle.survey.proofs.TextLaws.{starts_at}
 use Rattle.survey.proofs.ByteLaws.{stretch-le}
 use Rattle.survey.proofs.ValueLaws.{ValueText, some_bytes, value_read, value_there}
@@ -114,3 +114,11 @@ module _ (t : List ℕ) (at : ℕ) (v w : List ℕ) (number : ℕ) where
   form_there Letters e h = rw e (from_there Letters (at + 9) (drop_more t at (opening Letters) (v ++ (41 ∷ w)) e) h)
   form_there K e h = rw e (from_there K (at + 3) (drop_more t at (opening K) (v ++ (41 ∷ w)) e) h)
   form_there Mirror e h = rw e (from_there Mirror (at + 8) (drop_more t at (opening Mirror) (v ++ (41 ∷ w)) e) h)
+
+-- ---- what `line_from` makes of its steps
+
+-- The line's end is known to be e'.
+pub line_made : (t : List ℕ) (at : ℕ) (a b c : Option Form) (e e' : Option ℕ) → a ≡ form_at t at → b ≡ next_form t a → c ≡ next_form t b → e ≡ line_end t c
+    → e ≡ e' → head_of e' a b c ≡ line_from t at
+unfolding line_from
+line_made t at a b c e e' ha hb hc he told = rw (← told, he, hc, hb, ha)
