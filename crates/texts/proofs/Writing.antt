@@ -30,8 +30,12 @@ at_top l at q h = go (leb at top) refl
 pub kept : {a b : List ℕ} {at r : ℕ} {p : List ℕ} → Puts a b at r p → length b ≡ length a
 kept {a} {b} {at} {r} {p} P = ap length P.leaves ∙ length-sets a at p
 
+-- No text, anywhere in a buffer.
+pub puts_nothing : (out : List ℕ) (at : ℕ) → at ≤ top → length out ≤ top → Puts out out at at []
+puts_nothing out at h l = record { place = omega arith; leaves = refl; bounded = l }
+
 -- One text, and then another right behind it, in a buffer.
-puts_then : {a b c : List ℕ} {at next r : ℕ} {p q : List ℕ} → Puts a b at next p → Puts b c next r q → Puts a c at r (p ++ q)
+pub puts_then : {a b c : List ℕ} {at next r : ℕ} {p q : List ℕ} → Puts a b at next p → Puts b c next r q → Puts a c at r (p ++ q)
 puts_then {a} {b} {c} {at} {next} {r} {p} {q} P Q =
     record {
       place = omega (arith, P.place, Q.place, length-append p q);
@@ -41,9 +45,14 @@ puts_then {a} {b} {c} {at} {next} {r} {p} {q} P Q =
       bounded = P.bounded;
     }
 
--- No text.
+-- A text with a number behind it, and then another text, in a buffer.
+pub puts_field : {a b c : List ℕ} {at next r : ℕ} (text : List ℕ) (n : ℕ) {q : List ℕ} → Puts a b at next (text ++ decimal n) → Puts b c next r q
+    → Puts a c at r (text ++ (decimal n ++ q))
+puts_field text n {q} P Q = rw (← append_assoc text (decimal n) q) (puts_then P Q)
+
+-- No text, by a writer.
 pub nothing : (w : Writer) → Writes w w []
-nothing w = record { buffer = refl; puts = record { place = omega (arith, w.counted); leaves = refl; bounded = w.bounded } }
+nothing w = record { buffer = refl; puts = puts_nothing w.out.now w.at w.counted w.bounded }
 
 -- One text, and then another right behind it.
 pub then : {u v w : Writer} {p q : List ℕ} → Writes u v p → Writes v w q → Writes u w (p ++ q)
