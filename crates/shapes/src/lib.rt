@@ -46,7 +46,7 @@ pub fn number_upto(digits: &[u8]) -> u64
 pub fn of_letters(letters: &[u8], word: &[u8]) -> bool
     ensures { result ≡ of_letters letters.now word.now }
 {
-    word.iter().all(|b| letters.contains(b))
+    word.iter().all(|b| settings::is_in(letters, 0, *b))
 }
 
 // What stands in a line between a front and a back, where it has both.
