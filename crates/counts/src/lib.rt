@@ -35,7 +35,7 @@ pub fn too_full(counts: &[u32], n: usize) -> bool
 }
 
 // Where a class counts: at its code. A plain rank is no code, and indexes no table.
-fn place(q: Code) -> usize
+pub fn place(q: Code) -> usize
     ensures { result ≡ q.0 }
 {
     q.0 as usize

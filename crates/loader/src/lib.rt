@@ -73,7 +73,7 @@ fn set_count(judge: &Judge, line: &[u8], counts: &mut [u32])
         (count_in judge.now.settings.k line.now) }
 {
     let q = judge.word_in(line).code;
-    counts[q.0 as usize] = judge.count_in(line) as u32;
+    counts[counts::place(q)] = judge.count_in(line) as u32;
 }
 
 // Sets the count of each class that a listing lists; the text is known to be one.
