@@ -16,21 +16,26 @@ use Rattle.loader.specs.Needs.{LoadsCounts}
 
 -- ---- in counts, one a class
 
+-- As many zeros as there are counts, in the first places: no count is left behind them.
+pub all_cleared : (counts : List ℕ) {zeros : List ℕ} → zeros ≡ replicate (length counts) 0 ++ drop (length counts) counts → zeros ≡ replicate (length counts) 0
+all_cleared counts e =
+    let nothing_left : drop (length counts) counts ≡ [] = drop_of_length-le counts (omega arith) in
+    e ∙ rw nothing_left (append-nil (replicate (length counts) 0))
+
 module _ (settings : Given) (text counts : List ℕ) (size : length counts ≡ class_count settings) (clean : text_fault settings text ≡ None) {zeros : List ℕ}
     (cleared : zeros ≡ replicate (length counts) 0) where
   all_zeros : zeros ≡ replicate (class_count settings) 0
   all_zeros = cleared ∙ rw size
 
-  pub counts_set : {counts' : List ℕ} → counts' ≡ loaded_from settings zeros (drop 1 (lines text)) → LoadsCounts settings text counts (given (length counts')) counts'
+  pub counts_set : {counts' : List ℕ} → counts' ≡ loaded_from settings zeros (drop 1 (lines text)) → LoadsCounts settings text counts (given (length counts)) counts'
   unfolding loaded_counts
   counts_set {counts'} e =
       let new = loaded_counts settings text in
       let long = loaded_length settings.letters settings.k settings.mirror text in
       let set : counts' ≡ new = e ∙ ap (λ (cs : List ℕ). loaded_from settings cs (drop 1 (lines text))) all_zeros in
-      let n : length counts' ≡ class_count settings = ap length set ∙ long in
       let nothing_left : drop (length new) counts ≡ [] = drop_of_length-le counts (omega (arith, long)) in
       let is : counts' ≡ new ++ drop (length new) counts = set ∙ sym (ap (λ (l : List ℕ). new ++ l) nothing_left ∙ append-nil new) in
-      rw n (set_by (text_fault settings text) (class_count settings) new counts counts' clean is)
+      rw size (set_by (text_fault settings text) (class_count settings) new counts counts' clean is)
 
 -- ---- in the first places of a table
 

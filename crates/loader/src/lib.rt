@@ -99,9 +99,10 @@ fn load_counts(judge: &Judge, counts: &mut [u32], text: &[u8]) -> Result<usize, 
         text.now counts.old (outcome_of result) counts.new }
 {
     text_fault(judge, text)?;
-    counts.fill(0);
+    let n = counts.len();
+    counts[..n].fill(0);
     set_counts(judge, text, counts);
-    Ok(counts.len())
+    Ok(n)
 }
 
 // Loads a listing into a table: its counts replace the old ones, 0 for a class not listed. Refused by the first of the grounds 1, 2, 4, 6 and 7, and then by
