@@ -1,6 +1,6 @@
 -- The mirror of the n lowest letters of a number (`low_mirror`). Of four it is the table's entry (`by_lookup`, from the table's rule); of n + m letters
--- it is that of the last n, then that of the m before them (`two_parts`); of a word of k letters it is that of n, where n is at least k, without the letters of
--- rank 0 that stand before the word (`padded`). So one law each serves every k.
+-- it is that of the last n, then that of the m before them (`two_parts`; where the m are four and looked up, `lookup_next`); of a word of k letters it is that of n,
+-- where n is at least k, without the letters of rank 0 that stand before the word (`padded`). So one law each serves every k.
 use Rattle.std.proofs.Common.{◌≡◌, refl, sym, ap, ◌∙◌, List, [], ◌∷◌, ◌++◌, ℕ, zero, suc, ◌+◌, ◌-◌, ◌*◌, ◌/◌, ◌%◌, ◌^◌, ◌<◌, ◌≤◌, mod-lt, mod-eq_of_lt, lt_of_lt_of_le, arith, length, get_or, replicate, length-append, pow-add}
 use native.Mathlib.Nat.{pow-le-pow_right, div-div-eq-div-mul}
 use lib.Arith.{digits_div, mod-mul}
@@ -82,6 +82,10 @@ joined n m x =
     ∙ plain-append 4 (mirror 4 Complement v) (mirror 4 Complement u)
     ∙ ap (λ (i : ℕ). plain 4 (mirror 4 Complement v) * 4 ^ i + plain 4 (mirror 4 Complement u)) (length-mirror 4 Complement u ∙ lu))
 
+-- The same of two parts that were looked up.
+pub two_parts : (n m x : ℕ) {last before : ℕ} → last ≡ low_mirror n x → before ≡ low_mirror m (x / 4 ^ n) → last * 4 ^ m + before ≡ low_mirror (n + m) x
+two_parts n m x last-is before-is = rw (last-is, before-is) (joined n m x)
+
 -- ---- a lookup for each four letters
 
 pub no_lookup : (x : ℕ) → 0 ≡ low_mirror 0 x
@@ -99,7 +103,7 @@ lookup_next T {x} {i} {mirror} {rest} {before} L before_is =
     let four_more : 4 * (i + 1) ≡ 4 * i + 4 = omega arith in
     let looked_up : before ≡ low_mirror 4 (x / 4 ^ (4 * i)) = before_is ∙ by_lookup T rest ∙ ap (low_mirror 4) L.rest_is in
     record {
-      mirror_is = rw (four_more, L.mirror_is, looked_up) (joined (4 * i) 4 x);
+      mirror_is = rw four_more (two_parts (4 * i) 4 x L.mirror_is looked_up);
       rest_is = rw (four_more, L.rest_is, pow-add 4 (4 * i) 4) (div-div-eq-div-mul x (4 ^ (4 * i)) 256);
     }
 
