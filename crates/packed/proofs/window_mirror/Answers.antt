@@ -5,19 +5,19 @@ use Rattle.packed.proofs.window_mirror.Goals as goal
 
 pub returns-then-k-gt16 : goal.returns-then-k-gt16
 returns-then-k-gt16 c =
-    padded 32 c.args.k c.args.x _ c.mirror_of_bytes.ensures (omega (arith, c.requires.k_bound)) c.requires.x_bound (omega arith)
+    padded 32 c.args.k c.args.x _ (omega arith) (omega (arith, c.requires.k_bound)) c.requires.x_bound (omega arith)
 
 pub returns-then-k-gt12 : goal.returns-then-k-gt12
 returns-then-k-gt12 c =
-    padded 16 c.args.k c.args.x _ c.mirror_of_bytes-then-k-gt12.ensures c.if-k-gt16.false c.requires.x_bound (omega arith)
+    padded 16 c.args.k c.args.x _ (omega arith) c.if-k-gt16.false c.requires.x_bound (omega arith)
 
 pub returns-then-k-gt8 : goal.returns-then-k-gt8
 returns-then-k-gt8 c =
-    padded 12 c.args.k c.args.x _ c.mirror_of_bytes-then-k-gt8.ensures c.if-k-gt12.false c.requires.x_bound (omega arith)
+    padded 12 c.args.k c.args.x _ (omega arith) c.if-k-gt12.false c.requires.x_bound (omega arith)
 
 pub returns-then-k-gt4 : goal.returns-then-k-gt4
 returns-then-k-gt4 c =
-    padded 8 c.args.k c.args.x _ c.mirror_of_bytes-then-k-gt4.ensures c.if-k-gt8.false c.requires.x_bound (omega arith)
+    padded 8 c.args.k c.args.x _ (omega arith) c.if-k-gt8.false c.requires.x_bound (omega arith)
 
 pub returns : goal.returns
 returns c =
