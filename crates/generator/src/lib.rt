@@ -41,27 +41,57 @@ fn rank_of_state(state: u64, s: u64) -> u64
     state / 4294967296 * s / 4294967296
 }
 
+// A letter for each place of a line; the state with which the next letter is drawn.
+fn draw(line: &mut [u8], letters: &[u8], start: u64) -> u64
+    requires { SomeLetters letters.now }
+    ensures drawn { line.new ≡ drawn_letters letters.now (length line.old) start }
+    ensures goes_on { result ≡ state_after (length line.old) start }
+{
+    let s = letters.len() as u64;
+    let mut state = start;
+    for place in line.iter_mut() {
+        state = step(state);
+        let rank = rank_of_state(state, s) as usize;
+        *place = letters[rank];
+    }
+    state
+}
+
+// The letters of a line, 60 at most; the state with which the next letter is drawn. Where the buffer has all their places they are drawn there.
+fn put_line(w: &mut Writer, letters: &[u8], n: usize, start: u64) -> u64
+    requires letters { SomeLetters letters.now }
+    requires short { n ≤ 60 }
+    ensures line { Writes w.old w.new (drawn_letters letters.now n start) }
+    ensures goes_on { result ≡ state_after n start }
+{
+    let at = w.at;
+    if at < w.out.len() && n <= w.out.len() - at {
+        let state = draw(&mut w.out[at..at + n], letters, start);
+        w.at = at + n;
+        return state;
+    }
+    // Stays: no heap, so letters for which the buffer has no places lie here.
+    let mut places = [0u8; 60];
+    let line = &mut places[..n];
+    let state = draw(line, letters, start);
+    w.put_text(line);
+    state
+}
+
 // The letters of a record, in lines of 60; the state with which the next letter is drawn.
 fn put_letters(w: &mut Writer, letters: &[u8], each: usize, start: u64) -> u64
     requires { SomeLetters letters.now }
     ensures lines { Writes w.old w.new (in_lines 0 (drawn_letters letters.now each start)) }
     ensures goes_on { result ≡ state_after each start }
 {
-    let s = letters.len() as u64;
     let mut state = start;
-    let mut column: usize = 0;
-    for _ in 0..each {
-        state = step(state);
-        let rank = rank_of_state(state, s) as usize;
-        w.put_byte(letters[rank]);
-        column += 1;
-        if column == 60 {
-            w.put_byte(b'\n');
-            column = 0;
-        }
-    }
-    if column > 0 {
-        w.put_byte(b'\n');
+    let mut left = each;
+    // Stays: a turn takes a line of letters, the last of which may be shorter.
+    while left > 0 {
+        let n = left.min(60);
+        state = put_line(w, letters, n, state);
+        w.put_text(b"\n");
+        left -= n;
     }
     state
 }
