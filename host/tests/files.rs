@@ -288,7 +288,8 @@ fn a_file_that_is_too_long() {
 }
 
 /// Root may read every file, so that a run by root is made as the user nobody, with a copy of the command
-/// that the user nobody can reach.
+/// that the user nobody can reach. Another program writes the copy: what another test starts has the files
+/// of this process open until it begins to run, and a file that is open to write cannot be started.
 #[test]
 fn a_file_without_permission() {
     let folder = Folder::new();
@@ -296,7 +297,8 @@ fn a_file_without_permission() {
     let file = folder.file("secret.fa", EXAMPLE);
     fs::set_permissions(&file, Permissions::from_mode(0o000)).expect("own file");
     let copy = folder.path("wontirje");
-    fs::copy(WONTIRJE, &copy).expect("a copy of the command");
+    let copied = Command::new("install").args(["-m", "755", WONTIRJE]).arg(&copy).status();
+    assert!(copied.expect("install starts").success());
     let mut command = Command::new(copy);
     if fs::metadata(&folder).expect("own folder").uid() == 0 {
         command.uid(65534).gid(65534);
