@@ -1,6 +1,6 @@
 -- Letters and records written one after the other: what a writer has still to write of them. From the definitions of lines and records, by one letter, one
--- line end, one record.
-use Rattle.std.proofs.Common.{◌≡◌, ℕ, zero, suc, ◌+◌, ◌-◌, ◌<◌, ◌≤◌, min, Bool, true, false, ltb, ltb-true, ltb-false, List, [], ◌∷◌, ◌++◌, append_assoc, append-nil, length, take, drop, set, length-set, map, get_or, refl, sym, ap, ◌∙◌, add-one, zero-add, suc-add, arith, eq-eqb, ne_eqb}
+-- line end, one line, one record.
+use Rattle.std.proofs.Common.{◌≡◌, ℕ, zero, suc, ◌+◌, ◌-◌, ◌<◌, ◌≤◌, min, Bool, true, false, cond, eqb, ltb, ltb-true, ltb-false, List, [], ◌∷◌, ◌++◌, append_assoc, append-nil, length, take, drop, set, length-set, map, get_or, refl, sym, ap, ◌∙◌, add-one, zero-add, suc-add, arith, eq-eqb, ne_eqb}
 use Rattle.laws.specs.Text.{bytes}
 use Rattle.encoding.specs.Calls.{in_capitals}
 use Rattle.texts.specs.Decimals.{decimal}
@@ -33,6 +33,10 @@ letters_parts letters n m x =
     ap (map (λ (i : ℕ). get_or letters i 0)) (drawn_parts (length letters) n m x)
     ∙ map-append (λ (i : ℕ). get_or letters i 0) (drawn (length letters) n x) (drawn (length letters) m (state_after n x))
 
+-- The letter that the state after x gives.
+abbrev pub next_letter : (letters : List ℕ) (x : ℕ) → ℕ
+next_letter letters x = get_or letters (drawn_rank (length letters) (stepped x)) 0
+
 -- The first i places of a line have their letters, and x is the state with which the next is drawn.
 pub record DrawnTo (letters : List ℕ) (n : ℕ) (line : List ℕ) (i start x : ℕ) : Type 0 where
   pub long : length line ≡ n
@@ -44,8 +48,8 @@ pub drawn_first : (letters line : List ℕ) (start : ℕ) → DrawnTo letters (l
 unfolding drawn_letters drawn in_capitals state_after
 drawn_first letters line start = record { long = refl; within = omega arith; front = refl; goes_on = refl }
 
--- One letter more, b.
-one_letter : (letters : List ℕ) (x : ℕ) → drawn_letters letters 1 x ≡ get_or letters (drawn_rank (length letters) (stepped x)) 0 ∷ []
+-- One letter, and the state after it.
+one_letter : (letters : List ℕ) (x : ℕ) → drawn_letters letters 1 x ≡ next_letter letters x ∷ []
 unfolding drawn_letters drawn in_capitals
 one_letter letters x = refl
 
@@ -54,7 +58,7 @@ unfolding state_after
 one_state x = refl
 
 module _ {letters : List ℕ} {n : ℕ} {line : List ℕ} {i start x : ℕ} (D : DrawnTo letters n line i start x) where
-  pub drawn_more : i < n → {b y : ℕ} → b ≡ get_or letters (drawn_rank (length letters) (stepped x)) 0 → y ≡ stepped x
+  pub drawn_more : i < n → {b y : ℕ} → b ≡ next_letter letters x → y ≡ stepped x
       → DrawnTo letters n (set line i b) (i + 1) start y
   drawn_more inside {b} {y} letter step =
       let more : take (i + 1) (set line i b) ≡ take i line ++ (b ∷ []) =
@@ -117,11 +121,55 @@ last_line j [] some h = rw (ne_eqb j 0 (λ e. omega (arith, e)))
 last_line j (b ∷ ls) some h =
     rw (ne_eqb (suc j) 60 (λ e. omega (arith, e))) (ap (λ (l : List ℕ). b ∷ l) (last_line (suc j) ls (omega arith) (omega arith)))
 
--- The lines of the letters that are left, from a state on.
-abbrev pub left_lines : (letters : List ℕ) (left x : ℕ) → List ℕ
-left_lines letters left x = in_lines 0 (drawn_letters letters left x)
+-- The letters that are left, of whose line `column` stand before them.
+abbrev pub left_lines : (letters : List ℕ) (column left x : ℕ) → List ℕ
+left_lines letters column left x = in_lines column (drawn_letters letters left x)
 
--- The first of them, and those behind it.
+-- Of a record's letters `left` are still to be written, from the state x on; `column` others stand before them in their line, fewer than 60.
+pub record Drawing (u w : Writer) (letters : List ℕ) (each start column left x : ℕ) : Type 0 where
+  pub lacks : Lacks u w (left_lines letters 0 each start) (left_lines letters column left x)
+  pub goes_on : state_after each start ≡ state_after left x
+  pub short : column < 60
+
+pub drawing_all : (w : Writer) (letters : List ℕ) (each left x : ℕ) → left ≡ each → Drawing w w letters each x 0 left x
+drawing_all w letters each left x all =
+    record { lacks = rw all (lacks_all w (left_lines letters 0 each x)); goes_on = rw all; short = omega arith }
+
+-- ---- a letter more
+
+letter_first : (letters : List ℕ) (column left x : ℕ) → left_lines letters column (suc left) x
+    ≡ next_letter letters x
+    ∷ cond (eqb (suc column) 60) (10 ∷ left_lines letters 0 left (stepped x)) (left_lines letters (suc column) left (stepped x))
+unfolding drawn_letters drawn in_capitals in_lines
+letter_first letters column left x = refl
+
+module _ {u v : Writer} {letters : List ℕ} {each start column left left' x : ℕ} (D : Drawing u v letters each start column left x) (one_more : left ≡ suc left') where
+  first : left_lines letters column left x
+      ≡ next_letter letters x
+      ∷ cond (eqb (suc column) 60) (10 ∷ left_lines letters 0 left' (stepped x)) (left_lines letters (suc column) left' (stepped x))
+  first = rw one_more (letter_first letters column left' x)
+
+  state_on : state_after each start ≡ state_after left' (stepped x)
+  unfolding state_after
+  state_on = D.goes_on ∙ rw one_more
+
+  -- One letter more, b, in the same line; or the line's last letter and its end.
+  module _ {b y : ℕ} (letter : b ≡ next_letter letters x) (step : y ≡ stepped x) {w : Writer} (P : Writes v w (b ∷ [])) where
+    pub letter_drawn : column + 1 < 60 → Drawing u w letters each start (column + 1) left' y
+    letter_drawn within =
+        let same_line : left_lines letters column left x ≡ (b ∷ []) ++ left_lines letters (column + 1) left' y =
+        first ∙ rw (ne_eqb (suc column) 60 (λ e. omega arith), add-one column, step, letter) in
+        record { lacks = lacks_less (b ∷ []) (rw same_line at D.lacks) P; goes_on = rw step state_on; short = within }
+
+    pub line_drawn : column + 1 ≡ 60 → {z : Writer} → Writes w z (10 ∷ []) → Drawing u z letters each start 0 left' y
+    line_drawn full Q =
+        let line_ended : left_lines letters column left x ≡ (b ∷ (10 ∷ [])) ++ left_lines letters 0 left' y =
+        first ∙ rw (eq-eqb (suc column) 60 (omega arith), step, letter) in
+        record { lacks = lacks_less (b ∷ (10 ∷ [])) (rw line_ended at D.lacks) (then P Q); goes_on = rw step state_on; short = omega arith }
+
+-- ---- a line more
+
+-- The first line of the letters that are left, and those behind it.
 no_letters : (letters : List ℕ) (m x : ℕ) → m ≡ 0 → drawn_letters letters m x ≡ []
 unfolding drawn_letters drawn in_capitals
 no_letters letters m x none = rw none
@@ -149,46 +197,53 @@ line_first line behind left some long none = go (ltb left 60) refl
         ∙ ap (λ (q : List ℕ). (line ++ (10 ∷ [])) ++ in_lines 0 q) (sym e)
 
 next_line : (letters : List ℕ) (left x n : ℕ) → 0 < left → n ≡ min left 60
-    → left_lines letters left x ≡ (drawn_letters letters n x ++ (10 ∷ [])) ++ left_lines letters (left - n) (state_after n x)
+    → left_lines letters 0 left x ≡ (drawn_letters letters n x ++ (10 ∷ [])) ++ left_lines letters 0 (left - n) (state_after n x)
 next_line letters left x n some e =
     let all : left ≡ n + (left - n) = omega (arith, e) in
     let behind : List ℕ = drawn_letters letters (left - n) (state_after n x) in
-    ap (λ (i : ℕ). left_lines letters i x) all ∙ ap (in_lines 0) (letters_parts letters n (left - n) x)
+    ap (λ (i : ℕ). left_lines letters 0 i x) all ∙ ap (in_lines 0) (letters_parts letters n (left - n) x)
     ∙ line_first (drawn_letters letters n x) behind left some (length-letters letters n x ∙ e)
     (λ few. no_letters letters (left - n) (state_after n x) (omega (arith, e, few)))
 
--- Of a record's letters `left` are still to be written, from the state x on, in lines of their own.
-pub record Drawing (u w : Writer) (letters : List ℕ) (each start left x : ℕ) : Type 0 where
-  pub lacks : Lacks u w (left_lines letters each start) (left_lines letters left x)
-  pub goes_on : state_after each start ≡ state_after left x
-
-pub drawing_all : (w : Writer) (letters : List ℕ) (each x : ℕ) → Drawing w w letters each x each x
-drawing_all w letters each x = record { lacks = lacks_all w (left_lines letters each x); goes_on = refl }
-
--- A line more, and its end.
-pub line_drawn : {u v w z : Writer} {letters : List ℕ} {each start left x : ℕ} → Drawing u v letters each start left x → (n : ℕ) → 0 < left → n ≡ min left 60
+-- A whole line more, and its end.
+pub whole_line_drawn : {u v w z : Writer} {letters : List ℕ} {each start left x : ℕ} → Drawing u v letters each start 0 left x → (n : ℕ) → 0 < left → n ≡ min left 60
     → {m : ℕ} → m ≡ n → {line : List ℕ} {y : ℕ} → line ≡ drawn_letters letters m x → y ≡ state_after m x → Writes v w line → Writes w z (10 ∷ [])
-    → Drawing u z letters each start (left - n) y
-line_drawn {u} {v} {w} {z} {letters} {each} {start} {left} {x} D n some e {m} long {line} {y} drawn_is goes P Q =
+    → Drawing u z letters each start 0 (left - n) y
+whole_line_drawn {u} {v} {w} {z} {letters} {each} {start} {left} {x} D n some e {m} long {line} {y} drawn_is goes P Q =
     let all : left ≡ n + (left - n) = omega (arith, e) in
-    let text : left_lines letters left x ≡ (line ++ (10 ∷ [])) ++ left_lines letters (left - n) y =
+    let text : left_lines letters 0 left x ≡ (line ++ (10 ∷ [])) ++ left_lines letters 0 (left - n) y =
     next_line letters left x n some e ∙ rw (drawn_is, goes, long) in
     record {
       lacks = lacks_less (line ++ (10 ∷ [])) (rw text at D.lacks) (then P Q);
       goes_on = D.goes_on ∙ ap (λ (i : ℕ). state_after i x) all ∙ state_parts n (left - n) x ∙ rw (goes, long);
+      short = D.short;
     }
 
--- None is left.
-module _ {u v : Writer} {letters : List ℕ} {each start left x : ℕ} (D : Drawing u v letters each start left x) (none_left : left ≡ 0) where
+-- ---- none is left
+
+-- Behind the last letter: an LF, where its line is not ended.
+module _ {u v : Writer} {letters : List ℕ} {each start column left x : ℕ} (D : Drawing u v letters each start column left x) (none_left : left ≡ 0) where
   pub last_state : x ≡ state_after each start
   unfolding state_after
   last_state = sym (D.goes_on ∙ rw none_left)
 
-  pub all_drawn : Writes u v (left_lines letters each start)
+  pub last_ended : 0 < column → {w : Writer} → Writes v w (10 ∷ []) → Writes u w (left_lines letters 0 each start)
   unfolding drawn_letters drawn in_capitals in_lines
-  all_drawn =
-      let no_lines : left_lines letters left x ≡ [] = rw none_left in
-      lacks_none (rw no_lines at D.lacks)
+  last_ended some_column P =
+      let one_end : left_lines letters column left x ≡ 10 ∷ [] = rw (none_left, ne_eqb column 0 (λ e. omega arith)) in
+      lacks_none (lacks_less (10 ∷ []) (rw one_end at D.lacks) P)
+
+  pub all_ended : column ≤ 0 → Writes u v (left_lines letters 0 each start)
+  unfolding drawn_letters drawn in_capitals in_lines
+  all_ended no_column =
+      let e : column ≡ 0 = omega arith in
+      let no_end : left_lines letters column left x ≡ [] = rw (none_left, e) in
+      lacks_none (rw no_end at D.lacks)
+
+-- Where each line was written whole, there is nothing to end.
+pub all_drawn : {u v : Writer} {letters : List ℕ} {each start left x : ℕ} → Drawing u v letters each start 0 left x → left ≡ 0
+    → Writes u v (left_lines letters 0 each start)
+all_drawn D none_left = all_ended D none_left (omega arith)
 
 -- ---- a record
 

@@ -1,5 +1,5 @@
--- What a load answers and leaves, from its steps: the counts set from zeros (`counts_set`), in the first places of a table (`loaded`); and the grounds before
--- the text's at each test. From the laws of a clearing's grounds and the definitions of loading.
+-- What a load answers and leaves, from its steps: the counts set from zeros (`counts_set`, `counts_replaced`), in the first places of a table (`loaded`); and
+-- the grounds before the text's at each test. From the laws of a clearing's grounds and the definitions of loading.
 use Rattle.std.proofs.Common.{◌≡◌, sym, ap, ◌∙◌, None, Some, List, [], ◌++◌, append-nil, ℕ, ◌<◌, ◌≤◌, arith, length, take, drop, replicate, drop_of_length-le}
 use Rattle.settings.specs.declared.Checked.{Checked}
 use Rattle.settings.specs.Given.{Given}
@@ -27,15 +27,24 @@ module _ (settings : Given) (text counts : List ℕ) (size : length counts ≡ c
   all_zeros : zeros ≡ replicate (class_count settings) 0
   all_zeros = cleared ∙ rw size
 
-  pub counts_set : {counts' : List ℕ} → counts' ≡ loaded_from settings zeros (drop 1 (lines text)) → LoadsCounts settings text counts (given (length counts)) counts'
+  set_there : {counts' : List ℕ} → counts' ≡ loaded_from settings zeros (drop 1 (lines text)) → counts' ≡ loaded_counts settings text
   unfolding loaded_counts
+  set_there e = e ∙ ap (λ (cs : List ℕ). loaded_from settings cs (drop 1 (lines text))) all_zeros
+
+  set_long : {counts' : List ℕ} → counts' ≡ loaded_from settings zeros (drop 1 (lines text)) → length counts' ≡ class_count settings
+  set_long e = ap length (set_there e) ∙ loaded_length settings.letters settings.k settings.mirror text
+
+  -- The answer is how many counts there are now, or how many there were: they are as many.
+  pub counts_set : {counts' : List ℕ} → counts' ≡ loaded_from settings zeros (drop 1 (lines text)) → LoadsCounts settings text counts (given (length counts')) counts'
   counts_set {counts'} e =
       let new = loaded_counts settings text in
       let long = loaded_length settings.letters settings.k settings.mirror text in
-      let set : counts' ≡ new = e ∙ ap (λ (cs : List ℕ). loaded_from settings cs (drop 1 (lines text))) all_zeros in
       let nothing_left : drop (length new) counts ≡ [] = drop_of_length-le counts (omega (arith, long)) in
-      let is : counts' ≡ new ++ drop (length new) counts = set ∙ sym (ap (λ (l : List ℕ). new ++ l) nothing_left ∙ append-nil new) in
-      rw size (set_by (text_fault settings text) (class_count settings) new counts counts' clean is)
+      let is : counts' ≡ new ++ drop (length new) counts = set_there e ∙ sym (ap (λ (l : List ℕ). new ++ l) nothing_left ∙ append-nil new) in
+      rw (set_long e) (set_by (text_fault settings text) (class_count settings) new counts counts' clean is)
+
+  pub counts_replaced : {counts' : List ℕ} → counts' ≡ loaded_from settings zeros (drop 1 (lines text)) → LoadsCounts settings text counts (given (length counts)) counts'
+  counts_replaced {counts'} e = let n : length counts' ≡ length counts = set_long e ∙ sym size in rw n at (counts_set e)
 
 -- ---- in the first places of a table
 

@@ -40,13 +40,17 @@ pub record Batch (k n at end : ℕ) : Type 0 where
 pub batch_of : {k n at end : ℕ} → k ≤ 62 → at + k ≤ n → end ≡ min (at + 4096) n → Batch k n at end
 batch_of small more is = record { window = omega arith; inside = omega arith; few = omega arith }
 
--- The next one does not begin past the end.
-pub batch_inside : {k n at end : ℕ} → 1 ≤ k → Batch k n at end → end + 1 - k ≤ n
-batch_inside some B = omega (arith, B.inside)
+-- The next one begins later, and not past the end.
+module _ {k n at end : ℕ} (some : 1 ≤ k) (B : Batch k n at end) where
+  pub batch_inside : end + 1 - k ≤ n
+  batch_inside = omega (arith, B.inside)
 
--- Where the next one begins later, fewer letters are left.
-pub batch_less : {n at next : ℕ} → at < next → next ≤ n → n + 1 - next < n + 1 - at
-batch_less later inside = omega arith
+  pub batch_less : n + 1 - (end + 1 - k) < n + 1 - at
+  batch_less = omega (arith, B.inside, B.window)
+
+-- Wherever one begins later, not past the end, fewer letters are left.
+pub later_less : {n at next : ℕ} → at < next → next ≤ n → n + 1 - next < n + 1 - at
+later_less later inside = omega arith
 
 module _ (f : List ℕ → ℕ) {k : ℕ} (some : 1 ≤ k) (w : List ℕ) where
   -- The numbers of the windows of a part are some of those of the whole.

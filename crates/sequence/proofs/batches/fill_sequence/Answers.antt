@@ -1,6 +1,6 @@
 -- `sequence::batches::fill_sequence` meets its contract: the numbers of one batch after those of the one before (Pieces).
 use Rattle.std.proofs.Common.{arith, length, ◌+◌, ◌≤◌}
-use Rattle.sequence.proofs.Pieces.{Batch, batch_of, batch_less, batch_on, batches_none, batches_all}
+use Rattle.sequence.proofs.Pieces.{Batch, batch_of, later_less, batch_on, batches_none, batches_all}
 use Rattle.settings.proofs.Limits.{k_at_most}
 use Rattle.sequence.proofs.batches.fill_sequence.Goals as goal
 
@@ -22,7 +22,7 @@ loop-at-smaller c =
     let a = c.args in
     let more : c.loop-at.at + a.coder.now.k ≤ length a.sequence.now = omega (arith, c.loop-at-test.true) in
     let batch : Batch a.coder.now.k (length a.sequence.now) c.loop-at.at c.min-end.result = batch_of (k_at_most a.coder.now.limits) more c.min-end.ensures in
-    batch_less (omega (arith, batch.window, a.coder.now.some)) (omega (arith, batch.inside, a.coder.now.some))
+    later_less (omega (arith, batch.window, a.coder.now.some)) (omega (arith, batch.inside, a.coder.now.some))
 
 pub loop-at-preserved : goal.loop-at-preserved
 loop-at-preserved c =
